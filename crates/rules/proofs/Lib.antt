@@ -1,0 +1,4 @@
+pub mod Tempting
+pub mod Examples
+pub mod Edges
+pub mod PowerUp

@@ -1,0 +1,70 @@
+-- An accepted power-up leaves a sound state and dictionary, whatever was there before, for every node-ID.
+-- What the node-ID cannot touch is computed once, with it unknown; the rest is one computed test over all of them.
+-- Assumes nothing.
+use Prim.Native.Nat.{ℕ, suc}
+use mathlib.Core.Path.{_≡_, refl, ap}
+use mathlib.Core.Bool.{Bool, true, _&&_}
+use mathlib.Core.List.{List, append-nil}
+use lib.ListN.{length}
+use Rattle.state.specs.declared.State.{State}
+use Rattle.rules_dictionary.specs.Numbers.{open-numbers}
+use Rattle.rules_dictionary.specs.TheNode.{lastNode, isNodeId}
+use Rattle.rules_dictionary.specs.Table.{table, dictionaryLength}
+use Rattle.rules_dictionary.proofs.Tests.{and-left, and-right, allBelow, on-nodes}
+use Rattle.rules_dictionary.proofs.Defaults.{packedDefaults, all-defaults}
+use Rattle.rules_dictionary.specs.Values.{stored}
+use Rattle.rules_services.specs.Nmt.{powerUp, freshState, bootUp}
+use Rattle.rules_services.specs.Effects.{sends, becomes}
+use Rattle.rules.specs.Outcome.{End, ended, settled}
+use Rattle.rules.specs.Sound.{sound, dictionarySound, constantsAsListed, valuesInRange, mappingsLegal, identifiersLegal, statusAsMade, modeAsMade, plansFresh, readyFresh, driveSound, heartbeatSound, waitingSound}
+use Rattle.rules.specs.Scripts.{open-rules}
+
+-- the dictionary that power-up leaves
+freshDictionary : ℕ → List ℕ
+freshDictionary n = settled (freshState n) (packedDefaults n table)
+
+-- what the node-ID stands in
+nodeSound : ℕ → Bool
+nodeSound n = let d = freshDictionary n in constantsAsListed n d && valuesInRange d && identifiersLegal d
+
+node-test : allBelow (λ k. nodeSound (suc k)) lastNode ≡ true
+unfolding nodeSound freshDictionary packedDefaults open-rules
+node-test = refl
+
+-- power-up, once the defaults stand
+freshEnd : ℕ → State → End
+freshEnd n s = ended s (packedDefaults n table) (sends (bootUp n) (becomes (freshState n)))
+
+as-fresh : (n : ℕ) (s : State) (d : List ℕ) → length d ≡ dictionaryLength → ended s d (powerUp n) ≡ freshEnd n s
+unfolding freshEnd ended powerUp stored
+as-fresh n s d h = rw (append-nil, all-defaults n d h)
+
+-- what the node-ID does not stand in
+rest : (n : ℕ) (s : State) →
+    (mappingsLegal (freshDictionary n) ≡ true)
+    × (statusAsMade (freshEnd n s .state) (freshDictionary n) ≡ true)
+    × (modeAsMade (freshEnd n s .state) (freshDictionary n) ≡ true)
+    × (plansFresh (freshEnd n s .state) (freshDictionary n) ≡ true)
+    × (readyFresh (freshEnd n s .state) (freshDictionary n) ≡ true)
+    × (driveSound (freshEnd n s .state .axis .drive) (freshDictionary n) ≡ true)
+    × (heartbeatSound (freshEnd n s .state .node .heartbeat) (freshDictionary n) ≡ true)
+    × (waitingSound (freshEnd n s .state) (freshDictionary n) ≡ true)
+unfolding freshEnd freshDictionary packedDefaults open-rules
+rest n s = (refl, refl, refl, refl, refl, refl, refl, refl)
+
+fresh-sound : (n : ℕ) (s : State) → isNodeId n ≡ true → sound (freshEnd n s .state) (freshEnd n s .dictionary) ≡ true
+unfolding freshEnd freshDictionary ended stored freshState sound dictionarySound nodeSound
+fresh-sound n s p =
+    let d = freshDictionary n in
+    let q : (constantsAsListed n d && valuesInRange d && identifiersLegal d) ≡ true = on-nodes nodeSound node-test n p in
+    let qs : (constantsAsListed n d && valuesInRange d) ≡ true = and-left _ (identifiersLegal d) q in
+    let listed : constantsAsListed n d ≡ true = and-left _ (valuesInRange d) qs in
+    let ranged : valuesInRange d ≡ true = and-right (constantsAsListed n d) _ qs in
+    let named : identifiersLegal d ≡ true = and-right (constantsAsListed n d && valuesInRange d) _ q in
+    let r = rest n s in
+    rw (p, listed, ranged, named, r .0, r .1, r .2, r .3, r .4, r .5, r .6, r .7)
+
+-- THE THEOREM
+pub power-up-sound : (n : ℕ) (s : State) (d : List ℕ) → isNodeId n ≡ true → length d ≡ dictionaryLength →
+    sound (ended s d (powerUp n) .state) (ended s d (powerUp n) .dictionary) ≡ true
+power-up-sound n s d p h = rw (as-fresh n s d h) (fresh-sound n s p)

@@ -1,0 +1,5 @@
+pub mod Outcome
+pub mod Sound
+pub mod Calls
+pub mod Scripts
+pub mod Examples

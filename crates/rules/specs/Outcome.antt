@@ -1,0 +1,121 @@
+-- What follows from an effect at the call's end: 6041h and 6061h, plans and ready frames worked afresh, the transmit PDOs, and
+-- the bytes of the output.
+-- Assumes nothing.
+use Prim.Native.Nat.{ℕ, _+_, _*_}
+use mathlib.Core.List.{List, [], _∷_, _++_, map}
+use mathlib.Core.Bool.{Bool, true, false, cond, not, _&&_, _||_}
+use lib.Dec.{eqb}
+use lib.ListN.{length, getD, drop}
+use Rattle.state.specs.declared.Move.{Move}
+use Rattle.state.specs.declared.Plan.{Plan}
+use Rattle.state.specs.declared.PdoData.{PdoData}
+use Rattle.state.specs.declared.State.{State}
+use Rattle.rules_dictionary.specs.Numbers.{bytes, padded}
+use Rattle.rules_dictionary.specs.Table.{statusWord, modeDisplay, eachWay}
+use Rattle.rules_dictionary.specs.Values.{store, stored}
+use Rattle.rules_dictionary.specs.Legal.{modeNumber}
+use Rattle.rules_dictionary.specs.Plans.{plansOf, readyOf}
+use Rattle.rules_drive.specs.StatusWord.{status}
+use Rattle.rules_services.specs.Effects.{Frame, Effect, isOperational}
+use Rattle.rules_services.specs.PdoTraffic.{Pace, pace, paceOf, works, typeOf, transmitted, noData}
+
+-- ---- equality of what the state keeps
+
+abbrev pub sameBy {ℓ} : {A : Type ℓ} → (A → A → Bool) → List A → List A → Bool
+sameBy f [] [] = true
+sameBy f [] (y ∷ ys) = false
+sameBy f (x ∷ xs) [] = false
+sameBy f (x ∷ xs) (y ∷ ys) = f x y && sameBy f xs ys
+
+abbrev pub sameMove : Move → Move → Bool
+sameMove a b = eqb (a .place) (b .place) && eqb (a .size) (b .size)
+
+abbrev pub samePlan : Plan → Plan → Bool
+samePlan a b = eqb (a .count) (b .count) && sameBy sameMove (a .moves) (b .moves)
+
+abbrev pub sameData : PdoData → PdoData → Bool
+sameData a b = eqb (a .length) (b .length) && sameBy eqb (a .bytes) (b .bytes)
+
+-- ---- 6041h and 6061h: "6061h follows 6060h at once"
+
+unfoldable pub statusOf : State → List ℕ → ℕ
+statusOf s d = status (s .node .nmt) (s .node .voltage) (s .axis .drive) d
+
+unfoldable pub settled : State → List ℕ → List ℕ
+settled s d = store modeDisplay (modeNumber (s .axis .drive .mode)) (store statusWord (statusOf s d) d)
+
+-- ---- transmit PDOs: "Changed means call end against call start; TPDOs carry the end's bytes."
+
+-- transmit PDO t, 0 to 3, is PDO 4 + t
+abbrev pub transmitters : List ℕ
+transmitters = 0 ∷ 1 ∷ 2 ∷ 3 ∷ []
+
+unfoldable pub enters : State → State → Bool
+enters s s′ = isOperational (s′ .node .nmt) && not (isOperational (s .node .nmt))
+
+unfoldable pub changes : State → List PdoData → ℕ → Bool
+changes s ready t = not (sameData (getD (s .axis .ready) t noData) (getD ready t noData))
+
+-- s and s′ are the state before the call and after its effect; d and ready are the dictionary and the ready frames at its end
+unfoldable pub paceFor : State → State → Bool → List ℕ → List PdoData → ℕ → Pace
+paceFor s s′ synced d ready t =
+    cond (works (s′ .node .nmt) d (eachWay + t))
+    (paceOf (typeOf d (eachWay + t)) synced (enters s s′ || changes s ready t) (getD (s′ .axis .counts) t 0) (getD (s′ .axis .due) t false))
+    (pace false 0 false)
+
+-- "TPDOs rising"
+unfoldable pub transmissions : List ℕ → List PdoData → (ℕ → Pace) → List ℕ → List Frame
+transmissions d ready paces [] = []
+transmissions d ready paces (t ∷ ts) =
+    cond (paces t .send) (transmitted d (eachWay + t) (getD ready t noData) ∷ []) [] ++ transmissions d ready paces ts
+
+-- ---- the state and the dictionary at the end, and all frames sent
+
+pub record End : Type 0 where
+  pub state : State
+  pub dictionary : List ℕ
+  pub sent : List Frame
+
+unfoldable pub ended : State → List ℕ → Effect → End
+ended s d e =
+    let s′ = e .state in
+    let d′ = settled s′ (stored (e .writes) d) in
+    let ready = readyOf d′ in
+    let paces = paceFor s s′ (e .synced) d′ ready in
+    let a = s′ .axis in
+    record {
+      state = record {
+        node = s′ .node;
+        axis = record {
+          drive = a .drive;
+          plans = plansOf d′;
+          ready = ready;
+          held = a .held;
+          counts = map (λ t. paces t .count) transmitters;
+          due = map (λ t. paces t .due) transmitters;
+        };
+      };
+      dictionary = d′;
+      sent = e .sent ++ transmissions d′ ready paces transmitters;
+    }
+
+-- ---- "Output is eleven bytes a frame, one after another: identifier (2, little-endian), length, eight data bytes, unused ones
+-- zero. Bytes past the frames reported stay."
+
+abbrev pub frameSize : ℕ
+frameSize = 11
+
+abbrev pub mostData : ℕ
+mostData = 8
+
+unfoldable pub encoded : Frame → List ℕ
+encoded f = bytes 2 (f .identifier) ++ length (f .content) ∷ padded 0 mostData (f .content)
+
+unfoldable pub sentInto : List ℕ → List Frame → List ℕ
+sentInto o [] = o
+sentInto o (f ∷ fs) = encoded f ++ sentInto (drop frameSize o) fs
+
+-- opens every definition of this module, where a proof computes
+unfoldable pub open-outcome : Unit {0}
+unfolding statusOf settled enters changes paceFor transmissions ended encoded sentInto
+open-outcome = tt

@@ -1,0 +1,137 @@
+-- Document 01, 'Calls and refusals', the paragraph that begins "Sound:", each clause as a test of its own.
+-- Assumes nothing.
+use Prim.Native.Nat.{ℕ}
+use mathlib.Core.List.{List, [], _∷_}
+use mathlib.Core.Bool.{Bool, true, false, cond, not, _&&_, _||_}
+use lib.Dec.{eqb, ltb}
+use lib.ListN.{take, getD}
+use Rattle.state.specs.declared.NmtState.{NmtState}
+use Rattle.state.specs.declared.Drive.{Drive}
+use Rattle.state.specs.declared.PdoData.{PdoData}
+use Rattle.state.specs.declared.State.{State}
+use Rattle.rules_dictionary.specs.Numbers.{all, bit}
+use Rattle.rules_dictionary.specs.TheNode.{isNodeId}
+use Rattle.rules_dictionary.specs.Table.{Row, table, isConstant, pdos, receivePdos, transmitPdos, mapCount, statusWord, mode, modeDisplay, controlWord, heartbeatTime}
+use Rattle.rules_dictionary.specs.Values.{read, defaultOf, unpacked}
+use Rattle.rules_dictionary.specs.Aborts.{isGood}
+use Rattle.rules_dictionary.specs.Legal.{isBelow, isAbove, badChoice, entryVerdict, countVerdict, mapWords, identifiers, badIdentifier, modeNumber, isSynchronous, isCyclic}
+use Rattle.rules_dictionary.specs.Plans.{plansOf, readyOf, mapped, pdoData}
+use Rattle.rules_drive.specs.DriveStates.{isFaulty}
+use Rattle.rules_drive.specs.SetPoints.{positions, isEmpty, newSetPointBit}
+use Rattle.rules_services.specs.PdoTraffic.{works, typeOf, isHeld, noData, mappedLength, areLegal}
+use Rattle.rules.specs.Outcome.{sameBy, samePlan, sameData, statusOf}
+
+-- a test of two lists of one length, element by element
+abbrev pub pairwise {ℓ κ} : {A : Type ℓ} {B : Type κ} → (A → B → Bool) → List A → List B → Bool
+pairwise f [] [] = true
+pairwise f [] (y ∷ ys) = false
+pairwise f (x ∷ xs) [] = false
+pairwise f (x ∷ xs) (y ∷ ys) = f x y && pairwise f xs ys
+
+-- "constants as listed"
+unfoldable pub constantsAsListed : ℕ → List ℕ → Bool
+constantsAsListed n d = all (λ w. not (isConstant (w .row .access)) || eqb (w .value) (defaultOf n (w .row))) (unpacked table d)
+
+-- "values in range"
+unfoldable pub inRange : Row → ℕ → Bool
+inRange x v = not (isBelow x v) && not (isAbove x v) && not (badChoice (x .role) v)
+
+unfoldable pub valuesInRange : List ℕ → Bool
+valuesInRange d = all (λ w. inRange (w .row) (w .value)) (unpacked table d)
+
+-- "mappings .. legal": all eight entries, and the count
+unfoldable pub mappingLegal : List ℕ → ℕ → Bool
+mappingLegal d p =
+    let ws = mapWords d p in
+    all (λ w. isGood (entryVerdict p w)) ws && isGood (countVerdict ws (read d (mapCount p)))
+
+unfoldable pub mappingsLegal : List ℕ → Bool
+mappingsLegal d = all (mappingLegal d) pdos
+
+-- "PDO identifiers legal"
+unfoldable pub identifiersLegal : List ℕ → Bool
+identifiersLegal d =
+    let ws = identifiers d in
+    all (λ p. not (badIdentifier ws p (getD ws p 0))) pdos
+
+-- "6041h, 6061h as the rules make them"
+unfoldable pub statusAsMade : State → List ℕ → Bool
+statusAsMade s d = eqb (read d statusWord) (statusOf s d)
+
+unfoldable pub modeAsMade : State → List ℕ → Bool
+modeAsMade s d = eqb (read d modeDisplay) (read d mode) && eqb (read d mode) (modeNumber (s .axis .drive .mode))
+
+-- "plans and ready frames as worked afresh"
+unfoldable pub plansFresh : State → List ℕ → Bool
+plansFresh s d = sameBy samePlan (s .axis .plans) (plansOf d)
+
+unfoldable pub readyFresh : State → List ℕ → Bool
+readyFresh s d = sameBy sameData (s .axis .ready) (readyOf d)
+
+-- "set-point store other than Empty, taken mark and limit mark only in Operation enabled with mode 1"
+unfoldable pub storeInPlace : Drive → Bool
+storeInPlace v = positions v || (isEmpty (v .store) && not (v .taken) && not (v .limit))
+
+-- "taken mark only while bit 4 of 6040h is 1"
+unfoldable pub takenInPlace : Drive → List ℕ → Bool
+takenInPlace v d = not (v .taken) || bit newSetPointBit (read d controlWord)
+
+-- "cause present only in the two fault states"
+unfoldable pub causeInPlace : Drive → Bool
+causeInPlace v = not (v .cause) || isFaulty (v .state)
+
+-- "SYNC counts below their type and zero where unused"
+unfoldable pub countSound : NmtState → List ℕ → ℕ → ℕ → Bool
+countSound nmt d p count = cond (works nmt d p && isCyclic (typeOf d p)) (ltb count (typeOf d p)) (eqb count 0)
+
+-- "heartbeat count zero or below 1017h"
+unfoldable pub heartbeatSound : ℕ → List ℕ → Bool
+heartbeatSound count d = eqb count 0 || ltb count (read d heartbeatTime)
+
+-- "due marks .. only in Operational, due for working type 0 TPDOs"
+unfoldable pub dueSound : NmtState → List ℕ → ℕ → Bool → Bool
+dueSound nmt d p due = not due || (works nmt d p && eqb (typeOf d p) 0)
+
+-- "held frames only in Operational, .. held for working synchronous RPDOs, with full length and legal values"; spare bytes zero
+unfoldable pub heldSound : NmtState → List ℕ → ℕ → PdoData → Bool
+heldSound nmt d p f =
+    let xs = mapped d p in
+    cond (isHeld f)
+    (works nmt d p && isSynchronous (typeOf d p) && sameData f (pdoData (take (mappedLength xs) (f .bytes))) && areLegal d (unpacked xs (f .bytes)))
+    (sameData f noData)
+
+-- ---- the whole
+
+-- of the dictionary alone
+unfoldable pub dictionarySound : ℕ → List ℕ → Bool
+dictionarySound n d = constantsAsListed n d && valuesInRange d && mappingsLegal d && identifiersLegal d
+
+-- of the drive
+unfoldable pub driveSound : Drive → List ℕ → Bool
+driveSound v d = storeInPlace v && takenInPlace v d && causeInPlace v
+
+-- of what waits for SYNC
+unfoldable pub waitingSound : State → List ℕ → Bool
+waitingSound s d =
+    let m = s .node .nmt in
+    pairwise (countSound m d) transmitPdos (s .axis .counts)
+    && pairwise (dueSound m d) transmitPdos (s .axis .due)
+    && pairwise (heldSound m d) receivePdos (s .axis .held)
+
+-- the clauses in the paper's order, "N legal" first
+unfoldable pub sound : State → List ℕ → Bool
+sound s d =
+    isNodeId (s .node .id)
+    && dictionarySound (s .node .id) d
+    && statusAsMade s d
+    && modeAsMade s d
+    && plansFresh s d
+    && readyFresh s d
+    && driveSound (s .axis .drive) d
+    && heartbeatSound (s .node .heartbeat) d
+    && waitingSound s d
+
+-- opens every definition of this module, where a proof computes
+unfoldable pub open-sound : Unit {0}
+unfolding constantsAsListed inRange valuesInRange mappingLegal mappingsLegal identifiersLegal statusAsMade modeAsMade plansFresh readyFresh storeInPlace takenInPlace causeInPlace countSound heartbeatSound dueSound heldSound dictionarySound driveSound waitingSound sound
+open-sound = tt

@@ -1,0 +1,59 @@
+-- From a test that computes to the fact that it tests: conjunctions, lists, numbers below a bound.
+-- Assumes nothing.
+use Prim.Native.Nat.{ℕ, zero, suc, _<_, _≤_}
+use native.Mathlib.Decide.{ℕ-discrete}
+use native.Mathlib.Omega.{arith}
+use mathlib.Core.Path.{_≡_, refl, _∙_, ap}
+use mathlib.Core.Bool.{Bool, true, false, _&&_, false≢true}
+use mathlib.Core.List.{List, [], _∷_}
+use borrow.Author.Tests.{leb-true}
+use lib.Dec.{leb}
+use Rattle.rules_dictionary.specs.Numbers.{all}
+use Rattle.rules_dictionary.specs.TheNode.{firstNode, lastNode, isNodeId}
+
+-- ---- conjunctions
+
+pub and-left : (a b : Bool) → (a && b) ≡ true → a ≡ true
+and-left true b h = refl
+and-left false b h = h
+
+pub and-right : (a b : Bool) → (a && b) ≡ true → b ≡ true
+and-right true b h = h
+and-right false b h = absurd (false≢true h)
+
+pub and-both : (a b : Bool) → a ≡ true → b ≡ true → (a && b) ≡ true
+and-both a b p q = rw (p, q) refl
+
+-- ---- lists
+
+-- the element stands in the list
+pub data In {ℓ} {A : Type ℓ} (x : A) : List A → Type ℓ where
+  here : {xs : List A} → In x (x ∷ xs)
+  there : {y : A} {xs : List A} → In x xs → In x (y ∷ xs)
+
+module _ {ℓ} {A : Type ℓ} (f : A → Bool) where
+  pub all-in : {x : A} {xs : List A} → In x xs → all f xs ≡ true → f x ≡ true
+  all-in (here {xs = ys}) h = and-left _ (all f ys) h
+  all-in (there {y = y} {xs = ys} i) h = all-in i (and-right (f y) (all f ys) h)
+
+-- ---- numbers below a bound
+
+abbrev pub allBelow : (ℕ → Bool) → ℕ → Bool
+allBelow f zero = true
+allBelow f (suc n) = f n && allBelow f n
+
+pub below : (f : ℕ → Bool) (n i : ℕ) → allBelow f n ≡ true → i < n → f i ≡ true
+below f zero i h l = absurd (omega arith)
+below f (suc n) i h l = go (ℕ-discrete i n) (λ k. below f n i (and-right (f n) (allBelow f n) h) k)
+  where
+    go : Dec (i ≡ n) → (i < n → f i ≡ true) → f i ≡ true
+    go (yes e) rest = ap f e ∙ and-left (f n) (allBelow f n) h
+    go (no e) rest = rest (omega arith)
+
+-- a test of every node-ID
+pub on-nodes : (f : ℕ → Bool) → allBelow (λ k. f (suc k)) lastNode ≡ true → (n : ℕ) → isNodeId n ≡ true → f n ≡ true
+on-nodes f h n p = go n (leb-true _ _ (and-left (leb firstNode n) (leb n lastNode) p)) (leb-true _ _ (and-right (leb firstNode n) (leb n lastNode) p))
+  where
+    go : (k : ℕ) → firstNode ≤ k → k ≤ lastNode → f k ≡ true
+    go zero a b = absurd (omega arith)
+    go (suc k) a b = below (λ j. f (suc j)) lastNode k h b

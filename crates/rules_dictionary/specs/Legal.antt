@@ -1,0 +1,178 @@
+-- Document 01, 'SDO': what value a row may hold. An SDO write, a received frame and soundness all go by these.
+-- Assumes nothing.
+use Prim.Native.Nat.{ℕ, _*_}
+use mathlib.Core.List.{List, [], _∷_, map}
+use mathlib.Core.Bool.{Bool, true, false, cond, not, _&&_, _||_, Bool·beq}
+use lib.Dec.{eqb, leb, ltb}
+use lib.ListN.{take, drop, getD}
+use Rattle.state.specs.declared.Mode.{Mode}
+use Rattle.state.specs.declared.Mode.the-variants.{NoMode, ProfilePosition, ProfileVelocity}
+use Rattle.rules_dictionary.specs.Numbers.{bit, bits, between, any, all, sum}
+use Rattle.rules_dictionary.specs.Table.{Row, Role, plain, modeOfOperation, pdoIdentifier, pdoType, mappingCount, mappingEntry, Mappable, unmappable, toReceive, toTransmit, Direction, receive, transmit, directionOf, pdos, identifier, mapEntry, mapSlots, wordIndex, wordSubindex, wordLength, sizeOf, Found, found, noObject as missing, noSubindex as missingSubindex, lookup}
+use Rattle.rules_dictionary.specs.Values.{read, unpacked}
+use Rattle.rules_dictionary.specs.Aborts.{Verdict, good, bad, isGood, test, firstOf, noObject, noSubindex, belowRange, aboveRange, badValue, notMappable, overLength}
+
+-- ---- modes: "Mode must be 0, 1 or 3"
+
+abbrev pub modeNumber : Mode → ℕ
+modeNumber NoMode = 0
+modeNumber ProfilePosition = 1
+modeNumber ProfileVelocity = 3
+
+abbrev pub modes : List Mode
+modes = NoMode ∷ ProfilePosition ∷ ProfileVelocity ∷ []
+
+abbrev pub isMode : ℕ → Bool
+isMode v = any (λ m. eqb v (modeNumber m)) modes
+
+-- ---- transmission types: "Types 0..240, 254, 255"
+
+abbrev pub lastSynchronous : ℕ
+lastSynchronous = 240
+
+abbrev pub firstEventDriven : ℕ
+firstEventDriven = 254
+
+-- 0..240 wait for SYNC
+abbrev pub isSynchronous : ℕ → Bool
+isSynchronous t = leb t lastSynchronous
+
+-- 1..240: each so many SYNCs
+abbrev pub isCyclic : ℕ → Bool
+isCyclic t = between 1 lastSynchronous t
+
+-- 254 and 255 go at once
+abbrev pub isEventDriven : ℕ → Bool
+isEventDriven t = leb firstEventDriven t
+
+abbrev pub isType : ℕ → Bool
+isType t = isSynchronous t || isEventDriven t
+
+-- ---- PDO identifiers: "bit 31 invalid; bit 30 is 1 for transmit, 0 for receive; 29-11 zero; a valid one lies in 181h..57Fh
+-- and differs from every other valid PDO; valid to a different valid word is bad"
+
+abbrev pub invalidBit : ℕ
+invalidBit = 31
+
+abbrev pub transmitBit : ℕ
+transmitBit = 30
+
+abbrev pub identifierBits : ℕ
+identifierBits = 11
+
+abbrev pub firstIdentifier : ℕ
+firstIdentifier = 0x181
+
+abbrev pub lastIdentifier : ℕ
+lastIdentifier = 0x57F
+
+abbrev pub isValid : ℕ → Bool
+isValid w = not (bit invalidBit w)
+
+abbrev pub frameIdentifier : ℕ → ℕ
+frameIdentifier w = bits 0 identifierBits w
+
+abbrev pub reservedBits : ℕ → ℕ
+reservedBits w = bits identifierBits transmitBit w
+
+abbrev pub transmits : Direction → Bool
+transmits receive = false
+transmits transmit = true
+
+-- the identifier words of the eight PDOs
+unfoldable pub identifiers : List ℕ → List ℕ
+identifiers d = map (λ p. read d (identifier p)) pdos
+
+-- another PDO is valid and has this word's eleven bits; `ws` are the present words
+unfoldable pub clashes : List ℕ → ℕ → ℕ → ℕ → Bool
+clashes ws p w q =
+    not (eqb q p) && isValid (getD ws q 0) && eqb (frameIdentifier w) (frameIdentifier (getD ws q 0))
+
+unfoldable pub badIdentifier : List ℕ → ℕ → ℕ → Bool
+badIdentifier ws p w =
+    not (Bool·beq (bit transmitBit w) (transmits (directionOf p)))
+    || not (eqb (reservedBits w) 0)
+    || (isValid w && not (between firstIdentifier lastIdentifier (frameIdentifier w)))
+    || (isValid w && any (clashes ws p w) pdos)
+    || (isValid w && isValid (getD ws p 0) && not (eqb w (getD ws p 0)))
+
+-- ---- mapping words: "0 or index, subindex, bit length"
+
+abbrev pub suits : Direction → Mappable → Bool
+suits receive unmappable = false
+suits receive toReceive = true
+suits receive toTransmit = false
+suits transmit unmappable = false
+suits transmit toReceive = false
+suits transmit toTransmit = true
+
+-- "A missing target gives 06020000h or 06090011h; wrong direction or length 06040041h"
+unfoldable pub targetVerdict : Direction → ℕ → Found → Verdict
+targetVerdict way w (found x) =
+    firstOf (test (not (suits way (x .mappable)) || not (eqb (wordLength w) (8 * sizeOf x))) notMappable ∷ []) good
+targetVerdict way w missing = bad noObject
+targetVerdict way w missingSubindex = bad noSubindex
+
+unfoldable pub entryVerdict : ℕ → ℕ → Verdict
+entryVerdict p w =
+    elim (eqb w 0) [ true ↦ good | false ↦ targetVerdict (directionOf p) w (lookup (wordIndex w) (wordSubindex w)) ]
+
+-- the eight mapping words of a PDO, which stand one after another
+unfoldable pub mapWords : List ℕ → ℕ → List ℕ
+mapWords d p = map (λ w. w .value) (unpacked (map (mapEntry p) mapSlots) (drop (mapEntry p 1 .place) d))
+
+abbrev pub mostBits : ℕ
+mostBits = 64
+
+-- "a zero among the first n gives 06040041h, over 64 bits 06040042h"
+unfoldable pub countVerdict : List ℕ → ℕ → Verdict
+countVerdict words n =
+    let ws = take n words in
+    firstOf (test (any (eqb 0) ws) notMappable ∷ test (ltb mostBits (sum (map wordLength ws))) overLength ∷ []) good
+
+-- ---- a value for a row, "in order: below range 06090032h, above 06090031h; other bad value 06090030h; mapping faults"
+
+-- a bad mode or transmission type
+abbrev pub badChoice : Role → ℕ → Bool
+badChoice plain v = false
+badChoice modeOfOperation v = not (isMode v)
+badChoice (pdoIdentifier p) v = false
+badChoice (pdoType p) v = not (isType v)
+badChoice (mappingCount p) v = false
+badChoice (mappingEntry p) v = false
+
+unfoldable pub otherBadValue : List ℕ → Role → ℕ → Bool
+otherBadValue d plain v = false
+otherBadValue d modeOfOperation v = badChoice modeOfOperation v
+otherBadValue d (pdoIdentifier p) v = badIdentifier (identifiers d) p v
+otherBadValue d (pdoType p) v = badChoice (pdoType p) v
+otherBadValue d (mappingCount p) v = false
+otherBadValue d (mappingEntry p) v = false
+
+unfoldable pub mappingVerdict : List ℕ → Role → ℕ → Verdict
+mappingVerdict d plain v = good
+mappingVerdict d modeOfOperation v = good
+mappingVerdict d (pdoIdentifier p) v = good
+mappingVerdict d (pdoType p) v = good
+mappingVerdict d (mappingCount p) v = countVerdict (mapWords d p) v
+mappingVerdict d (mappingEntry p) v = entryVerdict p v
+
+abbrev pub isBelow : Row → ℕ → Bool
+isBelow x v = ltb v (x .range .least)
+
+abbrev pub isAbove : Row → ℕ → Bool
+isAbove x v = ltb (x .range .greatest) v
+
+unfoldable pub valueVerdict : List ℕ → Row → ℕ → Verdict
+valueVerdict d x v =
+    firstOf
+    (test (isBelow x v) belowRange
+    ∷ test (isAbove x v) aboveRange
+    ∷ test (otherBadValue d (x .role) v) badValue
+    ∷ [])
+    (mappingVerdict d (x .role) v)
+
+-- opens every definition of this module, where a proof computes
+unfoldable pub open-legal : Unit {0}
+unfolding identifiers clashes badIdentifier targetVerdict entryVerdict mapWords countVerdict otherBadValue mappingVerdict valueVerdict
+open-legal = tt

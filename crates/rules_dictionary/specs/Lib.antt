@@ -1,0 +1,7 @@
+pub mod Numbers
+pub mod TheNode
+pub mod Table
+pub mod Values
+pub mod Aborts
+pub mod Legal
+pub mod Plans

@@ -1,0 +1,318 @@
+-- Document 01, 'The dictionary': the 122 rows, each with a name, and the table of them all.
+-- Assumes nothing.
+use Prim.Native.Nat.{ℕ, _+_, _-_, _*_, _/_, _%_, _^_}
+use mathlib.Core.List.{List, [], _∷_, _++_, map, flatMap}
+use mathlib.Core.Bool.{Bool, true, false, cond, _&&_}
+use lib.Dec.{eqb, ltb}
+use lib.ListN.{length, getD}
+use Rattle.rules_dictionary.specs.Numbers.{bits}
+
+-- ---- the columns of a row
+
+pub data ValueType : Type 0 where
+  u8 u16 u32 i8 i32 : ValueType
+
+-- in bytes
+abbrev pub size : ValueType → ℕ
+size u8 = 1
+size u16 = 2
+size u32 = 4
+size i8 = 1
+size i32 = 4
+
+-- (c) constant, (o) node-written, (w) writable
+pub data Access : Type 0 where
+  constant nodeWritten writable : Access
+
+-- R or T: mappable to receive or transmit
+pub data Mappable : Type 0 where
+  unmappable toReceive toTransmit : Mappable
+
+-- a default is the same for every node, or counts up from the node-ID
+pub data Default : Type 0 where
+  fixed plusNode : ℕ → Default
+
+-- the least and the greatest value, both legal, of the value's bits read as unsigned
+pub record Range : Type 0 where
+  pub least : ℕ
+  pub greatest : ℕ
+
+abbrev pub largest : ValueType → ℕ
+largest t = 256 ^ size t - 1
+
+abbrev pub whole : ValueType → Range
+whole t = record { least = 0; greatest = largest t }
+
+abbrev pub from : ℕ → ValueType → Range
+from low t = record { least = low; greatest = largest t }
+
+abbrev pub upTo : ℕ → Range
+upTo high = record { least = 0; greatest = high }
+
+-- what further rule a value obeys; of a PDO's rows also which PDO
+pub data Role : Type 0 where
+  plain modeOfOperation : Role
+  pdoIdentifier pdoType mappingCount mappingEntry : ℕ → Role
+
+pub record Row : Type 0 where
+  pub index : ℕ
+  pub subindex : ℕ
+  pub type : ValueType
+  pub access : Access
+  pub mappable : Mappable
+  pub range : Range
+  pub default : Default
+  pub place : ℕ
+  pub role : Role
+
+abbrev pub row : Role → ℕ → ℕ → ValueType → Access → Mappable → Range → Default → ℕ → Row
+row o i s t a m r v p =
+    record { index = i; subindex = s; type = t; access = a; mappable = m; range = r; default = v; place = p; role = o }
+
+abbrev pub sizeOf : Row → ℕ
+sizeOf x = size (x .type)
+
+-- the same index and subindex
+abbrev pub same : Row → Row → Bool
+same x y = eqb (x .index) (y .index) && eqb (x .subindex) (y .subindex)
+
+abbrev pub isConstant : Access → Bool
+isConstant constant = true
+isConstant nodeWritten = false
+isConstant writable = false
+
+abbrev pub isWritable : Access → Bool
+isWritable constant = false
+isWritable nodeWritten = false
+isWritable writable = true
+
+-- the number of bytes, and of entries
+abbrev pub dictionaryLength : ℕ
+dictionaryLength = 389
+
+abbrev pub entries : ℕ
+entries = 122
+
+-- ---- the node's rows: index, subindex, type, access, mappable, range, default, place
+
+abbrev pub deviceType : Row
+deviceType = row plain 0x1000 0 u32 constant unmappable (whole u32) (fixed 0x00020192) 0
+
+abbrev pub errorRegister : Row
+errorRegister = row plain 0x1001 0 u8 nodeWritten toTransmit (whole u8) (fixed 0) 4
+
+abbrev pub syncIdentifier : Row
+syncIdentifier = row plain 0x1005 0 u32 constant unmappable (whole u32) (fixed 0x80) 5
+
+abbrev pub emergencyIdentifier : Row
+emergencyIdentifier = row plain 0x1014 0 u32 constant unmappable (whole u32) (plusNode 0x80) 9
+
+abbrev pub heartbeatTime : Row
+heartbeatTime = row plain 0x1017 0 u16 writable unmappable (whole u16) (fixed 0) 13
+
+abbrev pub identityCount : Row
+identityCount = row plain 0x1018 0 u8 constant unmappable (whole u8) (fixed 1) 15
+
+abbrev pub vendor : Row
+vendor = row plain 0x1018 1 u32 constant unmappable (whole u32) (fixed 0) 16
+
+-- ---- the drive's rows
+
+abbrev pub errorCode : Row
+errorCode = row plain 0x603F 0 u16 nodeWritten toTransmit (whole u16) (fixed 0) 332
+
+abbrev pub controlWord : Row
+controlWord = row plain 0x6040 0 u16 writable toReceive (whole u16) (fixed 0) 334
+
+abbrev pub statusWord : Row
+statusWord = row plain 0x6041 0 u16 nodeWritten toTransmit (whole u16) (fixed 0) 336
+
+abbrev pub mode : Row
+mode = row modeOfOperation 0x6060 0 i8 writable toReceive (whole i8) (fixed 0) 338
+
+abbrev pub modeDisplay : Row
+modeDisplay = row plain 0x6061 0 i8 nodeWritten toTransmit (whole i8) (fixed 0) 339
+
+abbrev pub position : Row
+position = row plain 0x6064 0 i32 nodeWritten toTransmit (whole i32) (fixed 0) 340
+
+abbrev pub positionWindow : Row
+positionWindow = row plain 0x6067 0 u32 writable unmappable (upTo 0x7FFFFFFF) (fixed 0) 344
+
+abbrev pub velocity : Row
+velocity = row plain 0x606C 0 i32 nodeWritten toTransmit (whole i32) (fixed 0) 348
+
+abbrev pub velocityWindow : Row
+velocityWindow = row plain 0x606D 0 u16 writable unmappable (whole u16) (fixed 0) 352
+
+abbrev pub velocityThreshold : Row
+velocityThreshold = row plain 0x606F 0 u16 writable unmappable (whole u16) (fixed 0) 354
+
+abbrev pub targetPosition : Row
+targetPosition = row plain 0x607A 0 i32 writable toReceive (whole i32) (fixed 0) 356
+
+abbrev pub limitCount : Row
+limitCount = row plain 0x607D 0 u8 constant unmappable (whole u8) (fixed 2) 360
+
+-- -2^31 and 2^31-1, in their words
+abbrev pub minimumPosition : Row
+minimumPosition = row plain 0x607D 1 i32 writable unmappable (whole i32) (fixed 0x80000000) 361
+
+abbrev pub maximumPosition : Row
+maximumPosition = row plain 0x607D 2 i32 writable unmappable (whole i32) (fixed 0x7FFFFFFF) 365
+
+abbrev pub profileVelocity : Row
+profileVelocity = row plain 0x6081 0 u32 writable toReceive (whole u32) (fixed 0) 369
+
+abbrev pub profileAcceleration : Row
+profileAcceleration = row plain 0x6083 0 u32 writable toReceive (from 1 u32) (fixed 1) 373
+
+abbrev pub profileDeceleration : Row
+profileDeceleration = row plain 0x6084 0 u32 writable toReceive (from 1 u32) (fixed 1) 377
+
+abbrev pub targetVelocity : Row
+targetVelocity = row plain 0x60FF 0 i32 writable toReceive (whole i32) (fixed 0) 381
+
+abbrev pub supportedModes : Row
+supportedModes = row plain 0x6502 0 u32 constant unmappable (whole u32) (fixed 5) 385
+
+-- ---- the PDOs: 0 to 3 receive, 4 to 7 transmit
+
+pub data Direction : Type 0 where
+  receive transmit : Direction
+
+abbrev pub eachWay : ℕ
+eachWay = 4
+
+abbrev pub receivePdos : List ℕ
+receivePdos = 0 ∷ 1 ∷ 2 ∷ 3 ∷ []
+
+abbrev pub transmitPdos : List ℕ
+transmitPdos = 4 ∷ 5 ∷ 6 ∷ 7 ∷ []
+
+abbrev pub pdos : List ℕ
+pdos = receivePdos ++ transmitPdos
+
+abbrev pub directionOf : ℕ → Direction
+directionOf p = cond (ltb p eachWay) receive transmit
+
+abbrev pub byDirection {ℓ} : {A : Type ℓ} → Direction → A → A → A
+byDirection receive r t = r
+byDirection transmit r t = t
+
+-- the first of its direction's records, and how far each next one is on
+abbrev pub ofPdo : ℕ → ℕ → ℕ → ℕ → ℕ
+ofPdo p ofReceive ofTransmit step = byDirection (directionOf p) ofReceive ofTransmit + step * (p % eachWay)
+
+-- 1400h to 1403h and 1800h to 1803h: three rows, six bytes
+abbrev pub communicationIndex : ℕ → ℕ
+communicationIndex p = ofPdo p 0x1400 0x1800 1
+
+abbrev pub communicationPlace : ℕ → ℕ
+communicationPlace p = ofPdo p 20 176 6
+
+abbrev pub communicationCount : ℕ → Row
+communicationCount p = row plain (communicationIndex p) 0 u8 constant unmappable (whole u8) (fixed 2) (communicationPlace p)
+
+-- "PDO identifiers default to 200h-500h and, with bit 30, 180h-480h, in steps of 100h, plus N"
+abbrev pub identifier : ℕ → Row
+identifier p =
+    row (pdoIdentifier p) (communicationIndex p) 1 u32 writable unmappable (whole u32)
+    (plusNode (ofPdo p 0x200 (2 ^ 30 + 0x180) 0x100)) (communicationPlace p + 1)
+
+abbrev pub transmissionType : ℕ → Row
+transmissionType p =
+    row (pdoType p) (communicationIndex p) 2 u8 writable unmappable (whole u8) (fixed 255) (communicationPlace p + 5)
+
+-- "Default maps: receive 6040; 6040+6060; 6040+607A; 6040+60FF; transmit 6041; 6041+6061; 6041+6064; 6041+606C"
+abbrev pub defaultMaps : List (List Row)
+defaultMaps =
+    (controlWord ∷ [])
+    ∷ (controlWord ∷ mode ∷ [])
+    ∷ (controlWord ∷ targetPosition ∷ [])
+    ∷ (controlWord ∷ targetVelocity ∷ [])
+    ∷ (statusWord ∷ [])
+    ∷ (statusWord ∷ modeDisplay ∷ [])
+    ∷ (statusWord ∷ position ∷ [])
+    ∷ (statusWord ∷ velocity ∷ [])
+    ∷ []
+
+abbrev pub defaultMap : ℕ → List Row
+defaultMap p = getD defaultMaps p []
+
+-- a mapping word: index, subindex, bit length
+abbrev pub mappingWord : Row → ℕ
+mappingWord x = x .index * 2 ^ 16 + x .subindex * 2 ^ 8 + 8 * sizeOf x
+
+abbrev pub wordIndex : ℕ → ℕ
+wordIndex w = bits 16 32 w
+
+abbrev pub wordSubindex : ℕ → ℕ
+wordSubindex w = bits 8 16 w
+
+abbrev pub wordLength : ℕ → ℕ
+wordLength w = bits 0 8 w
+
+-- 1600h to 1603h and 1A00h to 1A03h: the count and eight entries, 33 bytes
+abbrev pub mostMoves : ℕ
+mostMoves = 8
+
+abbrev pub mappingIndex : ℕ → ℕ
+mappingIndex p = ofPdo p 0x1600 0x1A00 1
+
+abbrev pub mappingPlace : ℕ → ℕ
+mappingPlace p = ofPdo p 44 200 33
+
+abbrev pub mapCount : ℕ → Row
+mapCount p =
+    row (mappingCount p) (mappingIndex p) 0 u8 writable unmappable (upTo mostMoves) (fixed (length (defaultMap p))) (mappingPlace p)
+
+-- entry 1 to 8
+abbrev pub mapEntry : ℕ → ℕ → Row
+mapEntry p k =
+    row (mappingEntry p) (mappingIndex p) k u32 writable unmappable (whole u32)
+    (fixed (getD (map mappingWord (defaultMap p)) (k - 1) 0)) (mappingPlace p + 1 + 4 * (k - 1))
+
+abbrev pub mapSlots : List ℕ
+mapSlots = 1 ∷ 2 ∷ 3 ∷ 4 ∷ 5 ∷ 6 ∷ 7 ∷ 8 ∷ []
+
+unfoldable pub communicationRows : ℕ → List Row
+communicationRows p = communicationCount p ∷ identifier p ∷ transmissionType p ∷ []
+
+unfoldable pub mappingRows : ℕ → List Row
+mappingRows p = mapCount p ∷ map (mapEntry p) mapSlots
+
+-- ---- the table, "in rising order of index and subindex"
+
+unfoldable pub table : List Row
+unfolding communicationRows mappingRows flatMap
+table =
+    deviceType ∷ errorRegister ∷ syncIdentifier ∷ emergencyIdentifier ∷ heartbeatTime ∷ identityCount ∷ vendor
+    ∷ (flatMap communicationRows receivePdos
+    ++ flatMap mappingRows receivePdos
+    ++ flatMap communicationRows transmitPdos
+    ++ flatMap mappingRows transmitPdos
+    ++ (errorCode ∷ controlWord ∷ statusWord ∷ mode ∷ modeDisplay ∷ position ∷ positionWindow ∷ velocity ∷ velocityWindow
+    ∷ velocityThreshold ∷ targetPosition ∷ limitCount ∷ minimumPosition ∷ maximumPosition ∷ profileVelocity
+    ∷ profileAcceleration ∷ profileDeceleration ∷ targetVelocity ∷ supportedModes ∷ []))
+
+-- ---- the look-up
+
+pub data Found : Type 0 where
+  found : Row → Found
+  noObject noSubindex : Found
+
+-- the row of that index and subindex; without one, whether the index was seen
+unfoldable pub search : Bool → ℕ → ℕ → List Row → Found
+search seen i s [] = elim seen [ true ↦ noSubindex | false ↦ noObject ]
+search seen i s (x ∷ xs) =
+    elim (eqb (x .index) i)
+    [ true ↦ elim (eqb (x .subindex) s) [ true ↦ found x | false ↦ search true i s xs ] | false ↦ search seen i s xs ]
+
+unfoldable pub lookup : ℕ → ℕ → Found
+lookup i s = search false i s table
+
+-- opens every definition of this module, where a proof computes
+unfoldable pub open-table : Unit {0}
+unfolding communicationRows mappingRows table search lookup
+open-table = tt

@@ -1,0 +1,3 @@
+pub mod DriveStates
+pub mod SetPoints
+pub mod StatusWord

@@ -1,0 +1,97 @@
+-- Document 01, 'Drive states' and 'Set-points': the status word 6041h.
+-- Assumes nothing.
+use Prim.Native.Nat.{ℕ, _+_, _^_}
+use mathlib.Core.List.{List}
+use mathlib.Core.Bool.{Bool, true, false, cond, not, _&&_, _||_}
+use lib.Dec.{eqb, leb}
+use lib.IntN.{ℤ, natAbs, _-ℤ_}
+use Rattle.state.specs.declared.NmtState.{NmtState}
+use Rattle.state.specs.declared.NmtState.the-variants.{PreOperational, Operational, Stopped}
+use Rattle.state.specs.declared.Mode.{Mode}
+use Rattle.state.specs.declared.Mode.the-variants.{NoMode, ProfilePosition, ProfileVelocity}
+use Rattle.state.specs.declared.Store.{Store}
+use Rattle.state.specs.declared.Store.the-variants.{Empty, Rested, Moving, Queued}
+use Rattle.state.specs.declared.Drive.{Drive}
+use Rattle.rules_dictionary.specs.Numbers.{bit, integer}
+use Rattle.rules_dictionary.specs.Table.{controlWord, position, positionWindow, velocity, velocityWindow, velocityThreshold, targetVelocity}
+use Rattle.rules_dictionary.specs.Values.{read}
+use Rattle.rules_drive.specs.DriveStates.{isEnabled, stateWord}
+use Rattle.rules_drive.specs.SetPoints.{isQueued}
+
+-- ---- the bits of 6041h beside the state's, and the one of 6040h that they look at
+
+abbrev pub voltageShown : ℕ
+voltageShown = 4
+
+abbrev pub remoteShown : ℕ
+remoteShown = 9
+
+abbrev pub reachedShown : ℕ
+reachedShown = 10
+
+abbrev pub limitShown : ℕ
+limitShown = 11
+
+-- in mode 1 the acknowledge of a set-point, in mode 3 speed 0
+abbrev pub ackShown : ℕ
+ackShown = 12
+
+abbrev pub haltBit : ℕ
+haltBit = 8
+
+-- that bit, where the flag is set
+abbrev pub flag : ℕ → Bool → ℕ
+flag k true = 2 ^ k
+flag k false = 0
+
+abbrev pub isStopped : NmtState → Bool
+isStopped PreOperational = false
+isStopped Operational = false
+isStopped Stopped = true
+
+-- "magnitude of 606Ch at most 606Fh", "within 6067h": the ends count, and nothing wraps
+abbrev pub within : ℕ → ℤ → ℤ → Bool
+within window a b = leb (natAbs (a -ℤ b)) window
+
+-- "bit 12 in mode 1, taken or Queued; in mode 3, magnitude of 606Ch at most 606Fh"
+unfoldable pub ackInMode : Mode → Drive → List ℕ → Bool
+ackInMode NoMode v d = false
+ackInMode ProfilePosition v d = v .taken || isQueued (v .store)
+ackInMode ProfileVelocity v d = leb (natAbs (integer (read d velocity))) (read d velocityThreshold)
+
+-- "in mode 1 Rested or active target within 6067h of 6064h (Empty: 0)"
+unfoldable pub positionReached : Store → List ℕ → Bool
+positionReached Empty d = false
+positionReached (Rested t) d = true
+positionReached (Moving a) d = within (read d positionWindow) (integer (a .target)) (integer (read d position))
+positionReached (Queued a b) d = within (read d positionWindow) (integer (a .target)) (integer (read d position))
+
+-- "in mode 3 60FFh within 606Dh of 606Ch"
+unfoldable pub velocityReached : List ℕ → Bool
+velocityReached d = within (read d velocityWindow) (integer (read d targetVelocity)) (integer (read d velocity))
+
+-- with bit 8 of 6040h set: "606Ch is 0"
+unfoldable pub standsStill : List ℕ → Bool
+standsStill d = eqb (read d velocity) 0
+
+-- "Bit 10 with bit 8 of 6040h set (modes 1, 3): 606Ch is 0; else .."
+unfoldable pub reachedInMode : Mode → Drive → List ℕ → Bool
+reachedInMode NoMode v d = false
+reachedInMode ProfilePosition v d = cond (bit haltBit (read d controlWord)) (standsStill d) (positionReached (v .store) d)
+reachedInMode ProfileVelocity v d = cond (bit haltBit (read d controlWord)) (standsStill d) (velocityReached d)
+
+-- "Enabled only": bits 12, 11 and 10
+unfoldable pub enabledBits : Drive → List ℕ → ℕ
+enabledBits v d =
+    flag ackShown (ackInMode (v .mode) v d) + flag limitShown (v .limit) + flag reachedShown (reachedInMode (v .mode) v d)
+
+-- "Bit 4 voltage; bit 9 not Stopped; rest below, else 0."
+unfoldable pub status : NmtState → Bool → Drive → List ℕ → ℕ
+status nmt voltage v d =
+    stateWord (v .state) + flag voltageShown voltage + flag remoteShown (not (isStopped nmt))
+    + cond (isEnabled (v .state)) (enabledBits v d) 0
+
+-- opens every definition of this module, where a proof computes
+unfoldable pub open-status-word : Unit {0}
+unfolding ackInMode positionReached velocityReached standsStill reachedInMode enabledBits status
+open-status-word = tt
