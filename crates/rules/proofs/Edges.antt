@@ -7,17 +7,17 @@ use mathlib.Core.Bool.{Bool, true, false}
 use mathlib.Core.List.{List, [], _∷_, _++_, map}
 use lib.ListN.{replicate, length}
 use Rattle.state.specs.declared.NmtState.the-variants.{PreOperational, Operational, Stopped}
-use Rattle.state.specs.declared.Mode.the-variants.{NoMode, ProfilePosition}
-use Rattle.state.specs.declared.DriveState.the-variants.{NotReady, SwitchOnDisabled, OperationEnabled, Fault}
-use Rattle.state.specs.declared.Store.{Store}
-use Rattle.state.specs.declared.Store.the-variants.{Empty, Rested}
-use Rattle.state.specs.declared.Drive.{Drive}
-use Rattle.state.specs.declared.PdoData.{PdoData}
+use Rattle.rules_dictionary.specs.declared.Mode.the-variants.{NoMode, ProfilePosition}
+use Rattle.drive.specs.declared.DriveState.the-variants.{NotReady, SwitchOnDisabled, OperationEnabled, Fault}
+use Rattle.drive.specs.declared.Store.{Store}
+use Rattle.drive.specs.declared.Store.the-variants.{Empty, Rested}
+use Rattle.drive.specs.declared.Drive.{Drive}
+use Rattle.rules_dictionary.specs.declared.PdoData.{PdoData}
 use Rattle.state.specs.declared.State.{State}
 use Rattle.rules_dictionary.specs.Table.{table, deviceType, positionWindow, transmissionType, mapEntry, identifier, statusWord, modeDisplay, mode, controlWord, heartbeatTime, position, errorRegister}
 use Rattle.rules_dictionary.specs.Values.{Write, write, store, stored}
 use Rattle.rules_dictionary.proofs.Defaults.{packedDefaults}
-use Rattle.rules_drive.specs.SetPoints.{withState, withMode, withStore, withMarks, withCause}
+use Rattle.drive.specs.SetPoints.{withState, withMode, withStore, withMarks, withCause}
 use Rattle.rules_services.specs.Effects.{Effect, Frame, frame, writes, becomes, withNode, withDrive, withHeld, withPacing, withNmt, withHeartbeat}
 use Rattle.rules_services.specs.PdoTraffic.{noData, noneHeld}
 use Rattle.rules_services.specs.Nmt.{freshState, noCounts, noneDue}

@@ -10,8 +10,7 @@ use Rattle.state.specs.declared.Refusal.{Refusal}
 use Rattle.state.specs.declared.Refusal.the-variants.{Accepted, DictionaryLength, OutputLength, NodeId, NotSound, BadFrame, BadEvent, OutOfPlace}
 use Rattle.rules_dictionary.specs.TheNode.{isNodeId}
 use Rattle.rules_dictionary.specs.Table.{dictionaryLength, receivePdos}
-use Rattle.rules_drive.specs.StatusWord.{isStopped}
-use Rattle.rules_services.specs.Effects.{Effect, becomes}
+use Rattle.rules_services.specs.Effects.{isStopped, Effect, becomes}
 use Rattle.rules_services.specs.Sdo.{sdo, requestBase, requestLength}
 use Rattle.rules_services.specs.PdoTraffic.{sync, syncBase, receivedBy}
 use Rattle.rules_services.specs.Nmt.{nmt, nmtIdentifier, powerUp}

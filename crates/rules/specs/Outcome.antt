@@ -6,17 +6,17 @@ use mathlib.Core.List.{List, [], _∷_, _++_, map}
 use mathlib.Core.Bool.{Bool, true, false, cond, not, _&&_, _||_}
 use lib.Dec.{eqb}
 use lib.ListN.{length, getD, drop}
-use Rattle.state.specs.declared.Move.{Move}
-use Rattle.state.specs.declared.Plan.{Plan}
-use Rattle.state.specs.declared.PdoData.{PdoData}
+use Rattle.rules_dictionary.specs.declared.Move.{Move}
+use Rattle.rules_dictionary.specs.declared.Plan.{Plan}
+use Rattle.rules_dictionary.specs.declared.PdoData.{PdoData}
 use Rattle.state.specs.declared.State.{State}
 use Rattle.rules_dictionary.specs.Numbers.{bytes, padded}
 use Rattle.rules_dictionary.specs.Table.{statusWord, modeDisplay, eachWay}
 use Rattle.rules_dictionary.specs.Values.{store, stored}
 use Rattle.rules_dictionary.specs.Legal.{modeNumber}
 use Rattle.rules_dictionary.specs.Plans.{plansOf, readyOf}
-use Rattle.rules_drive.specs.StatusWord.{status}
-use Rattle.rules_services.specs.Effects.{Frame, Effect, isOperational}
+use Rattle.drive.specs.StatusWord.{status}
+use Rattle.rules_services.specs.Effects.{Frame, Effect, isStopped, isOperational}
 use Rattle.rules_services.specs.PdoTraffic.{Pace, pace, paceOf, works, typeOf, transmitted, noData}
 
 -- ---- equality of what the state keeps
@@ -39,7 +39,7 @@ sameData a b = eqb (a .length) (b .length) && sameBy eqb (a .bytes) (b .bytes)
 -- ---- 6041h and 6061h: "6061h follows 6060h at once"
 
 unfoldable pub statusOf : State → List ℕ → ℕ
-statusOf s d = status (s .node .nmt) (s .node .voltage) (s .axis .drive) d
+statusOf s d = status (not (isStopped (s .node .nmt))) (s .node .voltage) (s .axis .drive) d
 
 unfoldable pub settled : State → List ℕ → List ℕ
 settled s d = store modeDisplay (modeNumber (s .axis .drive .mode)) (store statusWord (statusOf s d) d)

@@ -12,9 +12,9 @@ use Rattle.rules_dictionary.specs.Values.{read, open-values}
 use Rattle.rules_dictionary.specs.Aborts.{open-aborts}
 use Rattle.rules_dictionary.specs.Legal.{open-legal}
 use Rattle.rules_dictionary.specs.Plans.{open-plans}
-use Rattle.rules_drive.specs.DriveStates.{open-drive-states}
-use Rattle.rules_drive.specs.SetPoints.{open-set-points}
-use Rattle.rules_drive.specs.StatusWord.{open-status-word}
+use Rattle.drive.specs.DriveStates.{open-drive-states}
+use Rattle.drive.specs.SetPoints.{open-set-points}
+use Rattle.drive.specs.StatusWord.{open-status-word}
 use Rattle.rules_services.specs.Effects.{Frame, frame, open-effects}
 use Rattle.rules_services.specs.Emergency.{open-emergency}
 use Rattle.rules_services.specs.Written.{open-written}

@@ -6,8 +6,8 @@ use mathlib.Core.Bool.{Bool, true, false, cond, not, _&&_, _||_}
 use lib.Dec.{eqb, ltb}
 use lib.ListN.{take, getD}
 use Rattle.state.specs.declared.NmtState.{NmtState}
-use Rattle.state.specs.declared.Drive.{Drive}
-use Rattle.state.specs.declared.PdoData.{PdoData}
+use Rattle.drive.specs.declared.Drive.{Drive}
+use Rattle.rules_dictionary.specs.declared.PdoData.{PdoData}
 use Rattle.state.specs.declared.State.{State}
 use Rattle.rules_dictionary.specs.Numbers.{all, bit}
 use Rattle.rules_dictionary.specs.TheNode.{isNodeId}
@@ -16,8 +16,8 @@ use Rattle.rules_dictionary.specs.Values.{read, defaultOf, unpacked}
 use Rattle.rules_dictionary.specs.Aborts.{isGood}
 use Rattle.rules_dictionary.specs.Legal.{isBelow, isAbove, badChoice, entryVerdict, countVerdict, mapWords, identifiers, badIdentifier, modeNumber, isSynchronous, isCyclic}
 use Rattle.rules_dictionary.specs.Plans.{plansOf, readyOf, mapped, pdoData}
-use Rattle.rules_drive.specs.DriveStates.{isFaulty}
-use Rattle.rules_drive.specs.SetPoints.{positions, isEmpty, newSetPointBit}
+use Rattle.drive.specs.DriveStates.{isFaulty}
+use Rattle.drive.specs.SetPoints.{positions, isEmpty, newSetPointBit}
 use Rattle.rules_services.specs.PdoTraffic.{works, typeOf, isHeld, noData, mappedLength, areLegal}
 use Rattle.rules.specs.Outcome.{sameBy, samePlan, sameData, statusOf}
 

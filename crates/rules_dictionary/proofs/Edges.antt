@@ -6,8 +6,8 @@ use mathlib.Core.Path.{_≡_, refl}
 use mathlib.Core.Bool.{Bool, true, false}
 use mathlib.Core.List.{List, [], _∷_, map}
 use lib.ListN.{getD}
-use Rattle.state.specs.declared.Plan.{Plan}
-use Rattle.state.specs.declared.PdoData.{PdoData}
+use Rattle.rules_dictionary.specs.declared.Plan.{Plan}
+use Rattle.rules_dictionary.specs.declared.PdoData.{PdoData}
 use Rattle.rules_dictionary.specs.Numbers.{value, bytes, integer, open-numbers}
 use Rattle.rules_dictionary.specs.Table.{Row, table, lookup, found, noObject, noSubindex, positionWindow, profileAcceleration, mode, transmissionType, identifier, mapCount, mapEntry, mappingWord, targetPosition, velocity, position, modeDisplay, controlWord, statusWord, emergencyIdentifier, mapSlots, pdos, open-table}
 use Rattle.rules_dictionary.specs.Values.{read, store, stored, write, defaultOf, toDefaults, open-values}

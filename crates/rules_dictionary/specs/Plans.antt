@@ -4,9 +4,9 @@ use Prim.Native.Nat.{ℕ}
 use mathlib.Core.List.{List, [], _∷_, _++_, map}
 use mathlib.Core.Bool.{Bool, true, false}
 use lib.ListN.{length, take}
-use Rattle.state.specs.declared.Move.{Move}
-use Rattle.state.specs.declared.Plan.{Plan}
-use Rattle.state.specs.declared.PdoData.{PdoData}
+use Rattle.rules_dictionary.specs.declared.Move.{Move}
+use Rattle.rules_dictionary.specs.declared.Plan.{Plan}
+use Rattle.rules_dictionary.specs.declared.PdoData.{PdoData}
 use Rattle.rules_dictionary.specs.Numbers.{padded}
 use Rattle.rules_dictionary.specs.Table.{Row, sizeOf, mapCount, mostMoves, pdos, transmitPdos, wordIndex, wordSubindex, Found, found, noObject, noSubindex, lookup}
 use Rattle.rules_dictionary.specs.Values.{read, field}

@@ -8,11 +8,11 @@ use mathlib.Core.List.{List, [], _∷_, _++_, map}
 use lib.ListN.{length, replicate, getD}
 use Rattle.state.specs.declared.NmtState.{NmtState}
 use Rattle.state.specs.declared.NmtState.the-variants.{PreOperational, Operational, Stopped}
-use Rattle.state.specs.declared.Mode.the-variants.{NoMode, ProfilePosition}
-use Rattle.state.specs.declared.DriveState.{DriveState}
-use Rattle.state.specs.declared.DriveState.the-variants.{NotReady, SwitchOnDisabled, ReadyToSwitchOn, OperationEnabled, FaultReactionActive, Fault}
-use Rattle.state.specs.declared.Store.the-variants.{Empty, Rested, Moving, Queued}
-use Rattle.state.specs.declared.PdoData.{PdoData}
+use Rattle.rules_dictionary.specs.declared.Mode.the-variants.{NoMode, ProfilePosition}
+use Rattle.drive.specs.declared.DriveState.{DriveState}
+use Rattle.drive.specs.declared.DriveState.the-variants.{NotReady, SwitchOnDisabled, ReadyToSwitchOn, OperationEnabled, FaultReactionActive, Fault}
+use Rattle.drive.specs.declared.Store.the-variants.{Empty, Rested, Moving, Queued}
+use Rattle.rules_dictionary.specs.declared.PdoData.{PdoData}
 use Rattle.state.specs.declared.State.{State}
 use Rattle.rules_dictionary.specs.Numbers.{bytes, value, part, open-numbers}
 use Rattle.rules_dictionary.specs.Table.{table, errorRegister, errorCode, controlWord, heartbeatTime, mode, targetPosition, position, velocity, transmissionType, profileAcceleration, mapEntry, mapCount, mappingWord, identifier, open-table}
@@ -21,9 +21,9 @@ use Rattle.rules_dictionary.specs.Aborts.{Abort, abortCode, unknownCommand, noO
 use Rattle.rules_dictionary.specs.Legal.{open-legal}
 use Rattle.rules_dictionary.specs.Plans.{open-plans}
 use Rattle.rules_dictionary.proofs.Defaults.{packedDefaults}
-use Rattle.rules_drive.specs.DriveStates.{open-drive-states}
-use Rattle.rules_drive.specs.SetPoints.{withState, withCause, withStore, open-set-points}
-use Rattle.rules_drive.specs.StatusWord.{open-status-word}
+use Rattle.drive.specs.DriveStates.{open-drive-states}
+use Rattle.drive.specs.SetPoints.{withState, withCause, withStore, open-set-points}
+use Rattle.drive.specs.StatusWord.{open-status-word}
 use Rattle.rules_services.specs.Effects.{Effect, Frame, frame, becomes, withNmt, withDrive, withHeartbeat, withHeld, open-effects}
 use Rattle.rules_services.specs.Emergency.{emergency, open-emergency}
 use Rattle.rules_services.specs.Written.{open-written}

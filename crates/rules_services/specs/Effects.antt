@@ -6,8 +6,8 @@ use mathlib.Core.List.{List, [], _∷_, _++_}
 use mathlib.Core.Bool.{Bool, true, false, _||_}
 use Rattle.state.specs.declared.NmtState.{NmtState}
 use Rattle.state.specs.declared.NmtState.the-variants.{PreOperational, Operational, Stopped}
-use Rattle.state.specs.declared.Drive.{Drive}
-use Rattle.state.specs.declared.PdoData.{PdoData}
+use Rattle.drive.specs.declared.Drive.{Drive}
+use Rattle.rules_dictionary.specs.declared.PdoData.{PdoData}
 use Rattle.state.specs.declared.Axis.{Axis}
 use Rattle.state.specs.declared.Node.{Node}
 use Rattle.state.specs.declared.State.{State}
@@ -92,6 +92,11 @@ abbrev pub isPreOperational : NmtState → Bool
 isPreOperational PreOperational = true
 isPreOperational Operational = false
 isPreOperational Stopped = false
+
+abbrev pub isStopped : NmtState → Bool
+isStopped PreOperational = false
+isStopped Operational = false
+isStopped Stopped = true
 
 abbrev pub isOperational : NmtState → Bool
 isOperational PreOperational = false

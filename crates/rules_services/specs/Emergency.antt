@@ -7,8 +7,7 @@ use Rattle.state.specs.declared.State.{State}
 use Rattle.rules_dictionary.specs.Numbers.{bytes}
 use Rattle.rules_dictionary.specs.Table.{errorRegister}
 use Rattle.rules_dictionary.specs.Values.{read}
-use Rattle.rules_drive.specs.StatusWord.{isStopped}
-use Rattle.rules_services.specs.Effects.{Frame, frame}
+use Rattle.rules_services.specs.Effects.{isStopped, Frame, frame}
 
 abbrev pub emergencyBase : ℕ
 emergencyBase = 0x80

@@ -6,13 +6,13 @@ use mathlib.Core.Bool.{Bool, true, false, cond, not, _&&_, _||_}
 use lib.Bits.{bitOr}
 use lib.Dec.{eqb, leb}
 use lib.ListN.{getD, length}
-use Rattle.state.specs.declared.DriveState.the-variants.{SwitchOnDisabled, FaultReactionActive, Fault}
+use Rattle.drive.specs.declared.DriveState.the-variants.{SwitchOnDisabled, FaultReactionActive, Fault}
 use Rattle.state.specs.declared.State.{State}
 use Rattle.rules_dictionary.specs.Numbers.{value, part}
 use Rattle.rules_dictionary.specs.Table.{errorCode, errorRegister, position, velocity}
 use Rattle.rules_dictionary.specs.Values.{write, read, stored}
-use Rattle.rules_drive.specs.DriveStates.{isNotReady, isQuickStop, isReaction, isFaulty}
-use Rattle.rules_drive.specs.SetPoints.{isMoving, reached, withStore, withCause, enters}
+use Rattle.drive.specs.DriveStates.{isNotReady, isQuickStop, isReaction, isFaulty}
+use Rattle.drive.specs.SetPoints.{isMoving, reached, withStore, withCause, enters}
 use Rattle.rules_services.specs.Effects.{Effect, becomes, sends, writes, withDrive, withVoltage}
 use Rattle.rules_services.specs.Emergency.{emergency}
 use Rattle.rules_services.specs.Nmt.{tick as ticked}

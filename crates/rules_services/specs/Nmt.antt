@@ -7,15 +7,15 @@ use lib.Dec.{eqb, ltb}
 use lib.ListN.{getD, length}
 use Rattle.state.specs.declared.NmtState.{NmtState}
 use Rattle.state.specs.declared.NmtState.the-variants.{PreOperational, Operational, Stopped}
-use Rattle.state.specs.declared.Mode.the-variants.{NoMode}
-use Rattle.state.specs.declared.DriveState.the-variants.{NotReady}
-use Rattle.state.specs.declared.Store.the-variants.{Empty}
+use Rattle.rules_dictionary.specs.declared.Mode.the-variants.{NoMode}
+use Rattle.drive.specs.declared.DriveState.the-variants.{NotReady}
+use Rattle.drive.specs.declared.Store.the-variants.{Empty}
 use Rattle.state.specs.declared.State.{State}
 use Rattle.rules_dictionary.specs.Numbers.{between, filter}
 use Rattle.rules_dictionary.specs.Table.{Row, table, same, errorRegister, heartbeatTime}
 use Rattle.rules_dictionary.specs.Values.{read, toDefaults}
-use Rattle.rules_drive.specs.DriveStates.{next, disableVoltage}
-use Rattle.rules_drive.specs.SetPoints.{enters}
+use Rattle.drive.specs.DriveStates.{next, disableVoltage}
+use Rattle.drive.specs.SetPoints.{enters}
 use Rattle.rules_services.specs.Effects.{Effect, Frame, frame, becomes, sends, writes, withDrive, withHeld, withPacing, withNmt, withHeartbeat, isOperational, isPreOperational}
 use Rattle.rules_services.specs.PdoTraffic.{noneHeld}
 

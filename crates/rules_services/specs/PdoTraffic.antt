@@ -6,7 +6,7 @@ use mathlib.Core.Bool.{Bool, true, false, cond, not, _&&_, _||_}
 use lib.Dec.{eqb, ltb}
 use lib.ListN.{getD, length, take, set}
 use Rattle.state.specs.declared.NmtState.{NmtState}
-use Rattle.state.specs.declared.PdoData.{PdoData}
+use Rattle.rules_dictionary.specs.declared.PdoData.{PdoData}
 use Rattle.state.specs.declared.State.{State}
 use Rattle.rules_dictionary.specs.Numbers.{all, sum}
 use Rattle.rules_dictionary.specs.Table.{Row, sizeOf, identifier, transmissionType, mapCount, receivePdos}
@@ -14,8 +14,7 @@ use Rattle.rules_dictionary.specs.Values.{Write, read, unpacked}
 use Rattle.rules_dictionary.specs.Aborts.{isGood}
 use Rattle.rules_dictionary.specs.Legal.{isValid, frameIdentifier, isSynchronous, isCyclic, valueVerdict}
 use Rattle.rules_dictionary.specs.Plans.{mapped, pdoData}
-use Rattle.rules_drive.specs.StatusWord.{isStopped}
-use Rattle.rules_services.specs.Effects.{Effect, Frame, frame, becomes, sends, syncs, andThen, withHeld, isOperational}
+use Rattle.rules_services.specs.Effects.{isStopped, Effect, Frame, frame, becomes, sends, syncs, andThen, withHeld, isOperational}
 use Rattle.rules_services.specs.Emergency.{emergency, pdoTooShort, pdoTooLong, valueRefused, syncLength}
 use Rattle.rules_services.specs.Written.{applied}
 

@@ -8,7 +8,7 @@ use Rattle.state.specs.declared.State.{State}
 use Rattle.rules_dictionary.specs.Numbers.{any}
 use Rattle.rules_dictionary.specs.Table.{Row, same, controlWord, mode, errorRegister, heartbeatTime}
 use Rattle.rules_dictionary.specs.Values.{Write, write, read, store, stored}
-use Rattle.rules_drive.specs.SetPoints.{modeWritten, controlWritten}
+use Rattle.drive.specs.SetPoints.{modeWritten, controlWritten}
 use Rattle.rules_services.specs.Effects.{Effect, becomes, sends, writes, withDrive, withHeartbeat}
 use Rattle.rules_services.specs.Emergency.{emergency, faultGone}
 

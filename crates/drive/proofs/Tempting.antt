@@ -4,9 +4,9 @@ use Prim.Native.Nat.{ℕ}
 use mathlib.Core.Path.{_≡_}
 use mathlib.Core.Bool.{true, and-false}
 use mathlib.Core.List.{List}
-use Rattle.state.specs.declared.Drive.{Drive}
+use Rattle.drive.specs.declared.Drive.{Drive}
 use Rattle.rules_dictionary.specs.Numbers.{bit}
-use Rattle.rules_drive.specs.SetPoints.{setPointRule, newSetPointBit}
+use Rattle.drive.specs.SetPoints.{setPointRule, newSetPointBit}
 
 pub held-bit-takes-nothing : (d : List ℕ) (old word : ℕ) (v : Drive) → bit newSetPointBit old ≡ true → bit newSetPointBit word ≡ true →
     setPointRule d old word v ≡ v

@@ -8,19 +8,19 @@ use lib.IntN.{ℤ, pos, _+ℤ_}
 use lib.Signed.{leZ}
 use mir.Syntax.{w32}
 use mir.Val.{ofZ}
-use Rattle.state.specs.declared.Mode.{Mode}
-use Rattle.state.specs.declared.Mode.the-variants.{NoMode, ProfilePosition, ProfileVelocity}
-use Rattle.state.specs.declared.DriveState.{DriveState}
-use Rattle.state.specs.declared.SetPoint.{SetPoint}
-use Rattle.state.specs.declared.Store.{Store}
-use Rattle.state.specs.declared.Store.the-variants.{Empty, Rested, Moving, Queued}
-use Rattle.state.specs.declared.Drive.{Drive}
-use Rattle.state.specs.declared.Controlled.{Controlled}
+use Rattle.rules_dictionary.specs.declared.Mode.{Mode}
+use Rattle.rules_dictionary.specs.declared.Mode.the-variants.{NoMode, ProfilePosition, ProfileVelocity}
+use Rattle.drive.specs.declared.DriveState.{DriveState}
+use Rattle.drive.specs.declared.SetPoint.{SetPoint}
+use Rattle.drive.specs.declared.Store.{Store}
+use Rattle.drive.specs.declared.Store.the-variants.{Empty, Rested, Moving, Queued}
+use Rattle.drive.specs.declared.Drive.{Drive}
+use Rattle.drive.specs.declared.Controlled.{Controlled}
 use Rattle.rules_dictionary.specs.Numbers.{bit, integer}
 use Rattle.rules_dictionary.specs.Table.{controlWord, mode, position, targetPosition, minimumPosition, maximumPosition, profileVelocity, profileAcceleration, profileDeceleration}
 use Rattle.rules_dictionary.specs.Values.{read}
 use Rattle.rules_dictionary.specs.Legal.{modeNumber}
-use Rattle.rules_drive.specs.DriveStates.{isEnabled, command, next, resets}
+use Rattle.drive.specs.DriveStates.{isEnabled, command, next, resets}
 
 -- ---- the bits of 6040h in mode 1
 

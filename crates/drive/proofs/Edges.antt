@@ -7,21 +7,20 @@ use mathlib.Core.Bool.{Bool, true, false}
 use mathlib.Core.List.{List, [], _∷_, _++_, map}
 use lib.ListN.{replicate}
 use lib.IntN.{ℤ, pos, negsuc}
-use Rattle.state.specs.declared.NmtState.the-variants.{PreOperational, Operational, Stopped}
-use Rattle.state.specs.declared.Mode.{Mode}
-use Rattle.state.specs.declared.Mode.the-variants.{NoMode, ProfilePosition, ProfileVelocity}
-use Rattle.state.specs.declared.DriveState.{DriveState}
-use Rattle.state.specs.declared.DriveState.the-variants.{NotReady, SwitchOnDisabled, ReadyToSwitchOn, SwitchedOn, OperationEnabled, QuickStopActive, FaultReactionActive, Fault}
-use Rattle.state.specs.declared.SetPoint.{SetPoint}
-use Rattle.state.specs.declared.Store.{Store}
-use Rattle.state.specs.declared.Store.the-variants.{Empty, Rested, Moving, Queued}
-use Rattle.state.specs.declared.Drive.{Drive}
+use Rattle.rules_dictionary.specs.declared.Mode.{Mode}
+use Rattle.rules_dictionary.specs.declared.Mode.the-variants.{NoMode, ProfilePosition, ProfileVelocity}
+use Rattle.drive.specs.declared.DriveState.{DriveState}
+use Rattle.drive.specs.declared.DriveState.the-variants.{NotReady, SwitchOnDisabled, ReadyToSwitchOn, SwitchedOn, OperationEnabled, QuickStopActive, FaultReactionActive, Fault}
+use Rattle.drive.specs.declared.SetPoint.{SetPoint}
+use Rattle.drive.specs.declared.Store.{Store}
+use Rattle.drive.specs.declared.Store.the-variants.{Empty, Rested, Moving, Queued}
+use Rattle.drive.specs.declared.Drive.{Drive}
 use Rattle.rules_dictionary.specs.Numbers.{bit, open-numbers}
 use Rattle.rules_dictionary.specs.Table.{controlWord, mode, position, positionWindow, targetPosition, minimumPosition, maximumPosition, velocity, velocityWindow, velocityThreshold, targetVelocity, profileVelocity, profileAcceleration, profileDeceleration, dictionaryLength, open-table}
 use Rattle.rules_dictionary.specs.Values.{Write, write, stored, open-values}
-use Rattle.rules_drive.specs.DriveStates.{Command, none, faultReset, disableVoltage, quickStop, shutdown, switchOn, enable, command, next, resets, open-drive-states}
-use Rattle.rules_drive.specs.SetPoints.{offered, controlWritten, modeWritten, setPointRule, enters, open-set-points}
-use Rattle.rules_drive.specs.StatusWord.{status, open-status-word}
+use Rattle.drive.specs.DriveStates.{Command, none, faultReset, disableVoltage, quickStop, shutdown, switchOn, enable, command, next, resets, open-drive-states}
+use Rattle.drive.specs.SetPoints.{offered, controlWritten, modeWritten, setPointRule, enters, open-set-points}
+use Rattle.drive.specs.StatusWord.{status, open-status-word}
 
 -- ---- commands: "read at each write, also of the same value"
 
@@ -140,13 +139,13 @@ leaving-empties = (refl, refl, refl)
 idle : Drive
 idle = record { state = SwitchOnDisabled; mode = NoMode; store = Empty; taken = false; limit = false; cause = false }
 
-voltage-and-remote : (status PreOperational false idle (bench []) ≡ 0x0240) × (status Operational true idle (bench []) ≡ 0x0250) × (status Stopped true idle (bench []) ≡ 0x0050)
+voltage-and-remote : (status true false idle (bench []) ≡ 0x0240) × (status true true idle (bench []) ≡ 0x0250) × (status false true idle (bench []) ≡ 0x0050)
 unfolding idle open-edges
 voltage-and-remote = (refl, refl, refl)
 
 -- of an enabled drive in mode 1, with the voltage on
 word : List Write → Store → Bool → Bool → ℕ
-word ws st taken limit = status Operational true (drive st taken limit) (bench ws)
+word ws st taken limit = status true true (drive st taken limit) (bench ws)
 
 -- bit 12: taken, or Queued; bit 11: the limit mark
 acknowledge : (word [] (Moving (point 900)) false false ≡ 0x0237) × (word [] (Moving (point 900)) true false ≡ 0x1237)
@@ -169,7 +168,7 @@ halted = (refl, refl)
 -- mode 3: 606Ch against 606Fh for bit 12, and 60FFh against 606Dh for bit 10; the magnitude of -2^31 is 2^31
 turning : List Write → ℕ
 turning ws =
-    status Operational true (record { state = OperationEnabled; mode = ProfileVelocity; store = Empty; taken = false; limit = false; cause = false })
+    status true true (record { state = OperationEnabled; mode = ProfileVelocity; store = Empty; taken = false; limit = false; cause = false })
     (bench (write velocityThreshold 5 ∷ write velocityWindow 2 ∷ write targetVelocity 10 ∷ ws))
 
 velocity-bits : (turning (write velocity 5 ∷ []) ≡ 0x1237) × (turning (write velocity 6 ∷ []) ≡ 0x0237) × (turning (write velocity 0xFFFFFFFB ∷ []) ≡ 0x1237)
@@ -179,6 +178,6 @@ unfolding turning open-edges
 velocity-bits = (refl, refl, refl, refl, refl, refl, refl)
 
 -- "Enabled only": a limit mark or a window shows in no other state
-enabled-only : status Operational true (record { state = SwitchedOn; mode = ProfilePosition; store = Rested 50; taken = true; limit = true; cause = false }) (bench []) ≡ 0x0233
+enabled-only : status true true (record { state = SwitchedOn; mode = ProfilePosition; store = Rested 50; taken = true; limit = true; cause = false }) (bench []) ≡ 0x0233
 unfolding open-edges
 enabled-only = refl

@@ -5,18 +5,16 @@ use mathlib.Core.List.{List}
 use mathlib.Core.Bool.{Bool, true, false, cond, not, _&&_, _||_}
 use lib.Dec.{eqb, leb}
 use lib.IntN.{ℤ, natAbs, _-ℤ_}
-use Rattle.state.specs.declared.NmtState.{NmtState}
-use Rattle.state.specs.declared.NmtState.the-variants.{PreOperational, Operational, Stopped}
-use Rattle.state.specs.declared.Mode.{Mode}
-use Rattle.state.specs.declared.Mode.the-variants.{NoMode, ProfilePosition, ProfileVelocity}
-use Rattle.state.specs.declared.Store.{Store}
-use Rattle.state.specs.declared.Store.the-variants.{Empty, Rested, Moving, Queued}
-use Rattle.state.specs.declared.Drive.{Drive}
+use Rattle.rules_dictionary.specs.declared.Mode.{Mode}
+use Rattle.rules_dictionary.specs.declared.Mode.the-variants.{NoMode, ProfilePosition, ProfileVelocity}
+use Rattle.drive.specs.declared.Store.{Store}
+use Rattle.drive.specs.declared.Store.the-variants.{Empty, Rested, Moving, Queued}
+use Rattle.drive.specs.declared.Drive.{Drive}
 use Rattle.rules_dictionary.specs.Numbers.{bit, integer}
 use Rattle.rules_dictionary.specs.Table.{controlWord, position, positionWindow, velocity, velocityWindow, velocityThreshold, targetVelocity}
 use Rattle.rules_dictionary.specs.Values.{read}
-use Rattle.rules_drive.specs.DriveStates.{isEnabled, stateWord}
-use Rattle.rules_drive.specs.SetPoints.{isQueued}
+use Rattle.drive.specs.DriveStates.{isEnabled, stateWord}
+use Rattle.drive.specs.SetPoints.{isQueued}
 
 -- ---- the bits of 6041h beside the state's, and the one of 6040h that they look at
 
@@ -43,11 +41,6 @@ haltBit = 8
 abbrev pub flag : ℕ → Bool → ℕ
 flag k true = 2 ^ k
 flag k false = 0
-
-abbrev pub isStopped : NmtState → Bool
-isStopped PreOperational = false
-isStopped Operational = false
-isStopped Stopped = true
 
 -- "magnitude of 606Ch at most 606Fh", "within 6067h": the ends count, and nothing wraps
 abbrev pub within : ℕ → ℤ → ℤ → Bool
@@ -85,10 +78,10 @@ unfoldable pub enabledBits : Drive → List ℕ → ℕ
 enabledBits v d =
     flag ackShown (ackInMode (v .mode) v d) + flag limitShown (v .limit) + flag reachedShown (reachedInMode (v .mode) v d)
 
--- "Bit 4 voltage; bit 9 not Stopped; rest below, else 0."
-unfoldable pub status : NmtState → Bool → Drive → List ℕ → ℕ
-status nmt voltage v d =
-    stateWord (v .state) + flag voltageShown voltage + flag remoteShown (not (isStopped nmt))
+-- "Bit 4 voltage; bit 9 not Stopped; rest below, else 0." The flags: not Stopped, voltage
+unfoldable pub status : Bool → Bool → Drive → List ℕ → ℕ
+status remote voltage v d =
+    stateWord (v .state) + flag voltageShown voltage + flag remoteShown remote
     + cond (isEnabled (v .state)) (enabledBits v d) 0
 
 -- opens every definition of this module, where a proof computes
