@@ -58,7 +58,7 @@ filled-behind n (x ∷ xs) before d p h =
     (rw length-drop (omega arith))
     ∙ rw drop-drop (simp append-assoc)
 
-table-packed : packedFrom 0 table ≡ true
+pub table-packed : packedFrom 0 table ≡ true
 unfolding table
 table-packed = refl
 

@@ -1,4 +1,6 @@
 pub mod Tests
 pub mod Packing
 pub mod Defaults
+pub mod Rows
+pub mod Members
 pub mod Edges

@@ -2,8 +2,10 @@
 -- Assumes nothing.
 use Prim.Native.Nat.{ℕ, zero, suc, _+_, _*_, _<_, _≤_}
 use mathlib.Core.Path.{_≡_, refl, sym, _∙_, ap, subst}
-use mathlib.Core.Bool.{Bool, true, false, _&&_, _||_}
+use mathlib.Core.Bool.{Bool, true, false, _&&_, _||_, or-comm}
+use mathlib.Core.Logic.{_⊎_, inl, inr}
 use mathlib.Core.List.{List, [], _∷_}
+use native.Mathlib.Omega.{arith}
 use native.Mathlib.Nat.{le-of-suc-le-suc}
 use borrow.Author.Tests.{ltb-true, leb-true, eqb-true}
 use lib.Dec.{eqb, leb, ltb}
@@ -65,28 +67,50 @@ last-end = refl
 abbrev pub apart : Row → Row → Bool
 apart x y = leb (x .place + sizeOf x) (y .place) || leb (y .place + sizeOf y) (x .place)
 
--- the look-up of its own index and subindex finds the row
-findsItself : Row → Bool
-findsItself x = isRow (lookup (x .index) (x .subindex)) x
-  where
-    isRow : Found → Row → Bool
-    isRow (found y) x = eqb (y .place) (x .place)
-    isRow noObject x = false
-    isRow noSubindex x = false
+-- of any two rows at different places of the list
+abbrev pub allApart : List Row → Bool
+allApart [] = true
+allApart (x ∷ xs) = all (apart x) xs && allApart xs
 
--- every row lies within the dictionary, and any two rows are the same or apart
-rowTest : Row → Bool
-rowTest x = leb (x .place + sizeOf x) dictionaryLength && all (λ y. same x y || apart x y) table
+abbrev pub isWithin : Row → Bool
+isWithin x = leb (x .place + sizeOf x) dictionaryLength
 
-rows-test : all rowTest table ≡ true
-unfolding rowTest table
-rows-test = refl
+rows-test : (allApart table ≡ true) × (all isWithin table ≡ true)
+unfolding table
+rows-test = (refl, refl)
 
+-- every row lies within the dictionary
 pub within : {x : Row} → In x table → x .place + sizeOf x ≤ dictionaryLength
-unfolding rowTest
-within {x} i = leb-true _ _ (and-left _ (all (λ y. same x y || apart x y) table) (all-in rowTest i rows-test))
+within i = leb-true _ _ (all-in isWithin i (rows-test .1))
 
-pub same-or-apart : {x y : Row} → In x table → In y table → (same x y || apart x y) ≡ true
-unfolding rowTest
-same-or-apart {x} i j =
-    all-in (λ y. same x y || apart x y) j (and-right (leb (x .place + sizeOf x) dictionaryLength) _ (all-in rowTest i rows-test))
+apart-sym : (x y : Row) → apart x y ≡ true → apart y x ≡ true
+apart-sym x y h = or-comm (leb (y .place + sizeOf y) (x .place)) (leb (x .place + sizeOf x) (y .place)) ∙ h
+
+either : {x y : Row} {xs : List Row} → In x xs → In y xs → allApart xs ≡ true → (x ≡ y) ⊎ (apart x y ≡ true)
+either here here h = inl refl
+either {x} {y} (here {xs = zs}) (there j) h = inr (all-in (apart x) j (and-left (all (apart x) zs) (allApart zs) h))
+either {x} {y} (there i) (here {xs = zs}) h = inr (apart-sym y x (all-in (apart y) i (and-left (all (apart y) zs) (allApart zs) h)))
+either (there {y = z} {xs = zs} i) (there j) h = either i j (and-right (all (apart z) zs) (allApart zs) h)
+
+-- any two rows are one, or share no byte
+pub same-or-apart : {x y : Row} → In x table → In y table → (x ≡ y) ⊎ (apart x y ≡ true)
+same-or-apart i j = either i j (rows-test .0)
+
+-- ---- the look-up finds rows of the table
+
+searched : (seen : Bool) (i s : ℕ) (xs : List Row) {x : Row} → search seen i s xs ≡ found x → In x xs
+unfolding search
+searched true i s [] h = let z : _≡_ {A = ℕ} 0 1 = cc in absurd (omega arith)
+searched false i s [] h = let z : _≡_ {A = ℕ} 0 1 = cc in absurd (omega arith)
+searched seen i s (y ∷ ys) {x} h =
+    go (eqb (y .index) i) (eqb (y .subindex) s) (λ b e. searched b i s ys e) h
+  where
+    go : (a b : Bool) → ((c : Bool) → search c i s ys ≡ found x → In x ys) →
+        (elim a [ true ↦ elim b [ true ↦ found y | false ↦ search true i s ys ] | false ↦ search seen i s ys ]) ≡ found x → In x (y ∷ ys)
+    go true true r e = subst (λ (z : Row). In z (y ∷ ys)) (cc) here
+    go true false r e = there (r true e)
+    go false b r e = there (r seen e)
+
+pub found-in : (i s : ℕ) {x : Row} → lookup i s ≡ found x → In x table
+unfolding lookup
+found-in i s h = searched false i s table h

@@ -36,6 +36,26 @@ module _ {ℓ} {A : Type ℓ} (f : A → Bool) where
   all-in (here {xs = ys}) h = and-left _ (all f ys) h
   all-in (there {y = y} {xs = ys} i) h = all-in i (and-right (f y) (all f ys) h)
 
+abbrev Some {ℓ} : {A : Type ℓ} → List A → Type 0
+Some [] = ⊥
+Some (x ∷ xs) = Unit
+
+some-in {ℓ} : {A : Type ℓ} {x : A} {xs : List A} → In x xs → Some xs
+some-in here = tt
+some-in (there i) = tt
+
+pub none-in {ℓ} : {A : Type ℓ} {x : A} → In x [] → ⊥
+none-in i = some-in i
+
+-- a fact of each element of a list that is written out
+abbrev pub Each {ℓ κ} : {A : Type ℓ} → (A → Type κ) → List A → Type κ
+Each P [] = Unit
+Each P (x ∷ xs) = P x × Each P xs
+
+pub each-in {ℓ κ} : {A : Type ℓ} (P : A → Type κ) {x : A} {xs : List A} → In x xs → Each P xs → P x
+each-in P here h = h .0
+each-in P (there i) h = each-in P i (h .1)
+
 -- ---- numbers below a bound
 
 abbrev pub allBelow : (ℕ → Bool) → ℕ → Bool

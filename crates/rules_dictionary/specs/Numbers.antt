@@ -3,11 +3,23 @@
 use Prim.Native.Nat.{ℕ, zero, suc, _+_, _-_, _*_, _/_, _%_, _^_}
 use mathlib.Core.List.{List, [], _∷_}
 use mathlib.Core.Bool.{Bool, true, false, _&&_, _||_}
-use lib.Dec.{eqb, leb}
+use lib.Dec.{eqb, leb, ltb}
 use lib.IntN.{ℤ}
 use lib.ListN.{take, drop}
 use mir.Syntax.{w32}
 use mir.Val.{toZ}
+
+-- ---- tests of every element, and of some
+
+abbrev pub all {ℓ} : {A : Type ℓ} → (A → Bool) → List A → Bool
+all f [] = true
+all f (x ∷ xs) = f x && all f xs
+
+abbrev pub any {ℓ} : {A : Type ℓ} → (A → Bool) → List A → Bool
+any f [] = false
+any f (x ∷ xs) = f x || any f xs
+
+-- ---- values in bytes
 
 -- the value of bytes, low byte first
 unfoldable pub value : List ℕ → ℕ
@@ -18,6 +30,13 @@ value (b ∷ bs) = b + 256 * value bs
 unfoldable pub bytes : ℕ → ℕ → List ℕ
 bytes zero v = []
 bytes (suc size) v = v % 256 ∷ bytes size (v / 256)
+
+-- every element is a byte
+abbrev pub isByte : ℕ → Bool
+isByte b = ltb b 256
+
+abbrev pub areBytes : List ℕ → Bool
+areBytes bs = all isByte bs
 
 -- so many bytes from a place on
 abbrev pub part : ℕ → ℕ → List ℕ → List ℕ
@@ -38,15 +57,7 @@ integer w = toZ w32 w
 abbrev pub between : ℕ → ℕ → ℕ → Bool
 between low high v = leb low v && leb v high
 
--- ---- lists of tests and of things worked out one by one
-
-abbrev pub all {ℓ} : {A : Type ℓ} → (A → Bool) → List A → Bool
-all f [] = true
-all f (x ∷ xs) = f x && all f xs
-
-abbrev pub any {ℓ} : {A : Type ℓ} → (A → Bool) → List A → Bool
-any f [] = false
-any f (x ∷ xs) = f x || any f xs
+-- ---- things worked out one by one
 
 abbrev pub filter {ℓ} : {A : Type ℓ} → (A → Bool) → List A → List A
 filter f [] = []

@@ -284,17 +284,24 @@ mappingRows p = mapCount p ∷ map (mapEntry p) mapSlots
 
 -- ---- the table, "in rising order of index and subindex"
 
+abbrev pub nodeRows : List Row
+nodeRows = deviceType ∷ errorRegister ∷ syncIdentifier ∷ emergencyIdentifier ∷ heartbeatTime ∷ identityCount ∷ vendor ∷ []
+
+abbrev pub driveRows : List Row
+driveRows =
+    errorCode ∷ controlWord ∷ statusWord ∷ mode ∷ modeDisplay ∷ position ∷ positionWindow ∷ velocity ∷ velocityWindow
+    ∷ velocityThreshold ∷ targetPosition ∷ limitCount ∷ minimumPosition ∷ maximumPosition ∷ profileVelocity
+    ∷ profileAcceleration ∷ profileDeceleration ∷ targetVelocity ∷ supportedModes ∷ []
+
 unfoldable pub table : List Row
 unfolding communicationRows mappingRows flatMap
 table =
-    deviceType ∷ errorRegister ∷ syncIdentifier ∷ emergencyIdentifier ∷ heartbeatTime ∷ identityCount ∷ vendor
-    ∷ (flatMap communicationRows receivePdos
+    nodeRows
+    ++ flatMap communicationRows receivePdos
     ++ flatMap mappingRows receivePdos
     ++ flatMap communicationRows transmitPdos
     ++ flatMap mappingRows transmitPdos
-    ++ (errorCode ∷ controlWord ∷ statusWord ∷ mode ∷ modeDisplay ∷ position ∷ positionWindow ∷ velocity ∷ velocityWindow
-    ∷ velocityThreshold ∷ targetPosition ∷ limitCount ∷ minimumPosition ∷ maximumPosition ∷ profileVelocity
-    ∷ profileAcceleration ∷ profileDeceleration ∷ targetVelocity ∷ supportedModes ∷ []))
+    ++ driveRows
 
 -- ---- the look-up
 

@@ -1,0 +1,75 @@
+-- Tests that failed, and tests taken apart.
+-- Assumes nothing.
+use Prim.Native.Nat.{ℕ}
+use native.Mathlib.Omega.{arith}
+use mathlib.Core.Path.{_≡_, refl, sym, _∙_, ap}
+use mathlib.Core.Logic.{_⊎_, inl, inr}
+use mathlib.Core.Bool.{Bool, true, false, not, _&&_, _||_, false≢true, true≢false}
+use mathlib.Core.List.{List, [], _∷_}
+use lib.Dec.{eqb}
+use borrow.Author.Tests.{eqb-true, eq-eqb}
+use Rattle.rules_dictionary.specs.Numbers.{any}
+use Rattle.rules_dictionary.proofs.Tests.{In, here, there}
+
+-- a test passes or fails
+pub either : (b : Bool) → (b ≡ true) ⊎ (b ≡ false)
+either true = inl refl
+either false = inr refl
+
+pub clash {ℓ} : {A : Type ℓ} (b : Bool) → b ≡ true → b ≡ false → A
+clash true p q = absurd (true≢false q)
+clash false p q = absurd (false≢true p)
+
+pub or-false-left : (a b : Bool) → (a || b) ≡ false → a ≡ false
+or-false-left true b h = absurd (true≢false h)
+or-false-left false b h = refl
+
+pub or-false-right : (a b : Bool) → (a || b) ≡ false → b ≡ false
+or-false-right true b h = absurd (true≢false h)
+or-false-right false b h = h
+
+pub or-both-false : (a b : Bool) → a ≡ false → b ≡ false → (a || b) ≡ false
+or-both-false a b p q = rw (p, q)
+
+-- a conjunction fails once its second part does wherever the first passes
+pub and-false-if : (a b : Bool) → (a ≡ true → b ≡ false) → (a && b) ≡ false
+and-false-if true b h = h refl
+and-false-if false b h = refl
+
+pub and-then-false : (a b : Bool) → (a && b) ≡ false → a ≡ true → b ≡ false
+and-then-false true b h p = h
+and-then-false false b h p = absurd (false≢true p)
+
+pub not-false : (b : Bool) → not b ≡ true → b ≡ false
+not-false true h = absurd (false≢true h)
+not-false false h = refl
+
+pub false-not : (b : Bool) → b ≡ false → not b ≡ true
+false-not b h = rw h
+
+module _ {ℓ} {A : Type ℓ} (f : A → Bool) where
+  pub any-false-in : {x : A} {xs : List A} → In x xs → any f xs ≡ false → f x ≡ false
+  any-false-in (here {xs = ys}) h = or-false-left _ (any f ys) h
+  any-false-in (there {y = y} {xs = ys} i) h = any-false-in i (or-false-right (f y) (any f ys) h)
+
+  pub any-false-of : (xs : List A) → ((x : A) → In x xs → f x ≡ false) → any f xs ≡ false
+  any-false-of [] h = refl
+  any-false-of (x ∷ xs) h = or-both-false (f x) (any f xs) (h x here) (any-false-of xs (λ y i. h y (there i)))
+
+pub eqb-comm : (a b : ℕ) → eqb a b ≡ eqb b a
+eqb-comm a b = go (eqb a b) (eqb b a) refl refl
+  where
+    go : (x y : Bool) → eqb a b ≡ x → eqb b a ≡ y → x ≡ y
+    go true true p q = refl
+    go true false p q = clash (eqb b a) (eq-eqb b a (sym (eqb-true a b p))) q
+    go false true p q = clash (eqb a b) (eq-eqb a b (sym (eqb-true b a q))) p
+    go false false p q = refl
+
+-- "not a, or b" is: where a, b
+pub implied : (a b : Bool) → (not a || b) ≡ true → a ≡ true → b ≡ true
+implied true b h p = h
+implied false b h p = absurd (false≢true p)
+
+pub implies : (a b : Bool) → (a ≡ true → b ≡ true) → (not a || b) ≡ true
+implies true b h = h refl
+implies false b h = refl

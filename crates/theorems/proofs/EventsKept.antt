@@ -1,0 +1,176 @@
+-- Events leave a lawful state.
+-- Assumes nothing.
+use Prim.Native.Nat.{ℕ, zero, suc, _+_, _*_, _^_, _<_, _≤_}
+use native.Mathlib.Omega.{arith}
+use native.Mathlib.Nat.{pow-suc}
+use mathlib.Core.Path.{_≡_, refl, sym, _∙_, ap, subst}
+use mathlib.Core.Logic.{_⊎_, inl, inr}
+use mathlib.Core.Bool.{Bool, true, false, cond, not, _&&_, _||_}
+use mathlib.Core.List.{List, [], _∷_}
+use borrow.Author.Tests.{ltb-true}
+use lib.Bits.{bitOr, or-lt}
+use lib.Dec.{ltb}
+use lib.ListN.{length, take, drop, getD}
+use Rattle.drive.specs.declared.DriveState.{DriveState}
+use Rattle.drive.specs.declared.DriveState.the-variants.{NotReady, SwitchOnDisabled, ReadyToSwitchOn, SwitchedOn, OperationEnabled, QuickStopActive, FaultReactionActive, Fault}
+use Rattle.drive.specs.declared.Drive.{Drive}
+use Rattle.state.specs.declared.State.{State}
+use Rattle.rules_dictionary.specs.Numbers.{all, value, part, isByte, areBytes}
+use Rattle.rules_dictionary.specs.Table.{Row, plain, whole, size, table, sizeOf, dictionaryLength, isConstant, errorCode, errorRegister, position, velocity, mode, controlWord, heartbeatTime, open-table}
+use Rattle.rules_dictionary.specs.Values.{Write, write, read, store, stored}
+use Rattle.rules_dictionary.proofs.Tests.{and-left, and-right, and-both, In}
+use Rattle.rules_dictionary.proofs.Packing.{apart, found-in, within}
+use Rattle.rules_dictionary.proofs.Rows.{read-fits}
+use Rattle.drive.specs.DriveStates.{isNotReady, isQuickStop, isReaction, isFault, isFaulty}
+use Rattle.drive.specs.SetPoints.{enters, withStore, withCause, reached, isMoving}
+use Rattle.rules_services.specs.Effects.{Effect, becomes, withDrive, withVoltage}
+use Rattle.rules_services.specs.Events.{Event, started, quickStopDone, reactionDone, setPointReached, tick, causeGone, fault, feedback, voltage, isInPlace, faulted, happens, genericError}
+use Rattle.rules.specs.Sound.{inRange, driveSound, storeInPlace, takenInPlace, causeInPlace}
+use Rattle.theorems.proofs.Booleans.{either, clash, implied, implies}
+use Rattle.theorems.proofs.Alike.{isPdo}
+use Rattle.theorems.proofs.Settled.{drive-may, whole-range}
+use Rattle.theorems.proofs.Lawful.{Lawful}
+use Rattle.theorems.proofs.DriveKept.{enters-sound, enters-store, enters-cause, emptied-mode, emptied-state, emptied-taken, reached-sound}
+use Rattle.theorems.proofs.Writes.{store-lawful}
+use Rattle.theorems.proofs.NmtKept.{LawfulAfter, drive-lawful, tick-lawful}
+
+-- ---- values of arguments fit
+
+pub value-take : (k : ℕ) (bs : List ℕ) → areBytes bs ≡ true → value (take k bs) < 256 ^ k
+unfolding value
+value-take zero bs h = omega arith
+value-take (suc k) [] h =
+    let p : 256 ^ suc k ≡ 256 ^ k * 256 = pow-suc 256 k in
+    let r : value (take k []) < 256 ^ k = value-take k [] refl in
+    omega arith
+value-take (suc k) (b ∷ bs) h =
+    let p : 256 ^ suc k ≡ 256 ^ k * 256 = pow-suc 256 k in
+    let r : value (take k bs) < 256 ^ k = value-take k bs (and-right (isByte b) (areBytes bs) h) in
+    let l : b < 256 = ltb-true b 256 (and-left (isByte b) (areBytes bs) h) in
+    omega arith
+
+-- ---- a plain row of the drive, written
+
+pub record PlainRow (x : Row) : Type 0 where
+  pub inside : In x table
+  pub quiet : isPdo (x .role) ≡ false
+  pub variable : isConstant (x .access) ≡ false
+  pub unread : (apart x mode ≡ true) × (apart x controlWord ≡ true) × (apart x heartbeatTime ≡ true)
+  pub free : (x .range ≡ whole (x .type)) × (x .role ≡ plain)
+
+pub plain-lawful : (s : State) (d : List ℕ) (x : Row) (v : ℕ) → Lawful s d → PlainRow x → v < 256 ^ sizeOf x → Lawful s (store x v d)
+plain-lawful s d x v law r f =
+    store-lawful s d x v law (r .inside) (r .quiet) (drive-may (s .node .id) d x v (r .quiet) (r .variable) f (whole-range x v (r .free .0) (r .free .1) f))
+    (r .unread .0) (r .unread .1) (r .unread .2)
+
+code-row : PlainRow errorCode
+unfolding open-table
+code-row = record { inside = found-in 0x603F 0 refl; quiet = refl; variable = refl; unread = (refl, refl, refl); free = (refl, refl) }
+
+register-row : PlainRow errorRegister
+unfolding open-table
+register-row = record { inside = found-in 0x1001 0 refl; quiet = refl; variable = refl; unread = (refl, refl, refl); free = (refl, refl) }
+
+position-row : PlainRow position
+unfolding open-table
+position-row = record { inside = found-in 0x6064 0 refl; quiet = refl; variable = refl; unread = (refl, refl, refl); free = (refl, refl) }
+
+velocity-row : PlainRow velocity
+unfolding open-table
+velocity-row = record { inside = found-in 0x606C 0 refl; quiet = refl; variable = refl; unread = (refl, refl, refl); free = (refl, refl) }
+
+-- ---- the events
+
+abbrev pub ArgumentsFit : Event → Type 0
+ArgumentsFit started = Unit
+ArgumentsFit quickStopDone = Unit
+ArgumentsFit reactionDone = Unit
+ArgumentsFit setPointReached = Unit
+ArgumentsFit tick = Unit
+ArgumentsFit causeGone = Unit
+ArgumentsFit (fault code register) = (code < 256 ^ 2) × (register < 256 ^ 1)
+ArgumentsFit (feedback at speed) = (at < 256 ^ 4) × (speed < 256 ^ 4)
+ArgumentsFit (voltage b) = Unit
+
+unfaulty : (s : DriveState) → (isNotReady s || isQuickStop s) ≡ true → isFaulty s ≡ false
+unfaulty NotReady h = refl
+unfaulty SwitchOnDisabled h = refl
+unfaulty ReadyToSwitchOn h = refl
+unfaulty SwitchedOn h = refl
+unfaulty OperationEnabled h = refl
+unfaulty QuickStopActive h = refl
+unfaulty FaultReactionActive h = clash false h refl
+unfaulty Fault h = clash false h refl
+
+or-left : (a b : Bool) → a ≡ true → (a || b) ≡ true
+or-left a b h = rw h
+
+or-right : (a b : Bool) → b ≡ true → (a || b) ≡ true
+or-right true b h = refl
+or-right false b h = h
+
+module _ (s : State) (d : List ℕ) (law : Lawful s d) where
+  v0 : Drive
+  v0 = s .axis .drive
+
+  taken0 : takenInPlace v0 d ≡ true
+  unfolding v0 driveSound
+  taken0 = and-right (storeInPlace v0) (takenInPlace v0 d) (and-left _ (causeInPlace v0) (law .drive))
+
+  cause0 : v0 .cause ≡ true → isFaulty (v0 .state) ≡ true
+  unfolding v0 driveSound causeInPlace
+  cause0 = implied (v0 .cause) _ (and-right (storeInPlace v0 && takenInPlace v0 d) (causeInPlace v0) (law .drive))
+
+  pub enters-lawful : (q : DriveState) → (s .axis .drive .cause ≡ true → isFaulty q ≡ true) → Lawful (withDrive (enters q (s .axis .drive)) s) d
+  unfolding v0 enters
+  enters-lawful q h = drive-lawful s d (enters q v0) law (emptied-mode _) (enters-sound q v0 d taken0 h)
+
+  -- from a state that has no cause
+  leaves-lawful : (q : DriveState) → (isNotReady (v0 .state) || isQuickStop (v0 .state)) ≡ true → Lawful (withDrive (enters q (s .axis .drive)) s) d
+  unfolding v0
+  leaves-lawful q h = enters-lawful q (λ c. clash (isFaulty (v0 .state)) (cause0 c) (unfaulty (v0 .state) h))
+
+  gone-lawful : Lawful (withDrive (withCause false (s .axis .drive)) s) d
+  unfolding v0 driveSound storeInPlace takenInPlace causeInPlace
+  gone-lawful = drive-lawful s d (withCause false v0) law refl (and-both _ _ (and-left (storeInPlace v0 && takenInPlace v0 d) (causeInPlace v0) (law .drive)) refl)
+
+  caused-lawful : (q : DriveState) → isFaulty q ≡ true → Lawful (withDrive (withCause true (enters q (s .axis .drive))) s) d
+  unfolding v0 enters driveSound storeInPlace takenInPlace causeInPlace
+  caused-lawful q h =
+      let w = enters q v0 in
+      drive-lawful s d (withCause true w) law (emptied-mode _)
+      (and-both _ _ (and-both _ _ (enters-store q v0) (emptied-taken _ d taken0)) (ap isFaulty (emptied-state _) ∙ h))
+
+faulty-next : (s : DriveState) → isFaulty (cond (isFaulty s) s FaultReactionActive) ≡ true
+faulty-next NotReady = refl
+faulty-next SwitchOnDisabled = refl
+faulty-next ReadyToSwitchOn = refl
+faulty-next SwitchedOn = refl
+faulty-next OperationEnabled = refl
+faulty-next QuickStopActive = refl
+faulty-next FaultReactionActive = refl
+faulty-next Fault = refl
+
+pub fault-lawful : (code register : ℕ) (s : State) (d : List ℕ) → Lawful s d → areBytes d ≡ true → code < 256 ^ 2 → register < 256 ^ 1 → LawfulAfter d (faulted code register s d)
+unfolding faulted stored
+fault-lawful code register s d law bs c r =
+    let old : read d errorRegister < 2 ^ 8 = read-fits errorRegister d bs (omega (arith, within (register-row .inside), law .long)) in
+    let new = or-lt 8 (read d errorRegister) (bitOr register genericError) old (or-lt 8 register genericError r (omega arith)) in
+    let law1 = plain-lawful s d errorCode code law code-row c in
+    let law2 = plain-lawful s (store errorCode code d) errorRegister (bitOr (read d errorRegister) (bitOr register genericError)) law1 register-row new in
+    caused-lawful s _ law2 (cond (isFaulty (s .axis .drive .state)) (s .axis .drive .state) FaultReactionActive) (faulty-next (s .axis .drive .state))
+
+pub event-lawful : (e : Event) (s : State) (d : List ℕ) → Lawful s d → areBytes d ≡ true → isInPlace e s ≡ true → ArgumentsFit e → LawfulAfter d (happens e s d)
+unfolding happens isInPlace stored v0
+event-lawful started s d law bs h a = leaves-lawful s d law SwitchOnDisabled (or-left (isNotReady (s .axis .drive .state)) _ h)
+event-lawful quickStopDone s d law bs h a = leaves-lawful s d law SwitchOnDisabled (or-right (isNotReady (s .axis .drive .state)) _ h)
+event-lawful reactionDone s d law bs h a = enters-lawful s d law Fault (λ c. refl)
+event-lawful setPointReached s d law bs h a =
+    drive-lawful s d (withStore (reached (s .axis .drive .store)) (s .axis .drive)) law refl (reached-sound (s .axis .drive) d (law .drive) h)
+event-lawful tick s d law bs h a = tick-lawful s d law
+event-lawful causeGone s d law bs h a = gone-lawful s d law
+event-lawful (fault code register) s d law bs h a = fault-lawful code register s d law bs (a .0) (a .1)
+event-lawful (feedback at speed) s d law bs h a =
+    plain-lawful s (store position at d) velocity speed (plain-lawful s d position at law position-row (a .0)) velocity-row (a .1)
+event-lawful (voltage b) s d law bs h a =
+    record { id = law .id; long = law .long; dictionary = law .dictionary; mode = law .mode; drive = law .drive; heartbeat = law .heartbeat; counts = law .counts; held = law .held }

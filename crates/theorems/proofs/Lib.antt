@@ -1,0 +1,14 @@
+pub mod Booleans
+pub mod Identifiers
+pub mod Dictionary
+pub mod Alike
+pub mod Settled
+pub mod Lawful
+pub mod DriveKept
+pub mod Writes
+pub mod NmtKept
+pub mod EventsKept
+pub mod SdoKept
+pub mod Mapped
+pub mod PdoKept
+pub mod Runs

@@ -1,0 +1,167 @@
+-- SDO leaves a lawful state: what its tests let through is what a row may hold, at a time when it may.
+-- Assumes nothing.
+use Prim.Native.Nat.{ℕ, _+_, _^_, _<_}
+use mathlib.Core.Path.{_≡_, refl, sym, _∙_, ap, subst}
+use mathlib.Core.Logic.{_⊎_, inl, inr}
+use mathlib.Core.Bool.{Bool, true, false, cond, not, _&&_, _||_, Bool·not-not}
+use mathlib.Core.List.{List, [], _∷_, _++_}
+use borrow.Author.Tests.{eqb-true}
+use lib.Dec.{eqb, ltb}
+use lib.ListN.{length, drop}
+use Rattle.state.specs.declared.NmtState.{NmtState}
+use Rattle.state.specs.declared.NmtState.the-variants.{PreOperational, Operational, Stopped}
+use Rattle.state.specs.declared.State.{State}
+use Rattle.rules_dictionary.specs.Numbers.{areBytes}
+use Rattle.rules_dictionary.specs.Table.{Row, Role, plain, modeOfOperation, pdoIdentifier, pdoType, mappingCount, mappingEntry, Access, constant, nodeWritten, writable, table, sizeOf, isConstant, isWritable, identifier, mapCount, Found, found, noObject, noSubindex, lookup}
+use Rattle.rules_dictionary.specs.Values.{Write, write, read, store, stored}
+use Rattle.rules_dictionary.specs.Aborts.{Abort, Verdict, good, bad, isGood, Test, firstOf}
+use Rattle.rules_dictionary.specs.Legal.{valueVerdict, otherBadValue, mappingVerdict, badChoice, badIdentifier, identifiers, entryVerdict, countVerdict, mapWords, isValid, isBelow, isAbove}
+use Rattle.rules_dictionary.proofs.Tests.{and-left, and-right, and-both, In, here, there}
+use Rattle.rules_dictionary.proofs.Packing.{found-in}
+use Rattle.rules_dictionary.proofs.Rows.{all-drop}
+use Rattle.rules_services.specs.Effects.{Effect, isPreOperational, isOperational}
+use Rattle.rules_services.specs.Sdo.{Command, download, upload, clientAbort, unknown, commandOf, commandByte, askedIndex, askedSubindex, askedValue, isWrongTime, downloadVerdict, decided, toRow, toObject, asked, sdo, abort, dataPlace}
+use Rattle.rules.specs.Sound.{inRange}
+use Rattle.theorems.proofs.Booleans.{either, clash, or-false-left, or-false-right, not-false, false-not}
+use Rattle.theorems.proofs.Dictionary.{DictionaryOk, MayHold, store-ok}
+use Rattle.theorems.proofs.Alike.{isPdo}
+use Rattle.theorems.proofs.Lawful.{Lawful}
+use Rattle.theorems.proofs.Writes.{InTable, NoPdo, Quiet, one-row, applied-lawful}
+use Rattle.theorems.proofs.NmtKept.{LawfulAfter}
+use Rattle.theorems.proofs.EventsKept.{value-take}
+
+-- ---- where the verdict is good, no test fired
+
+pub good-passes : (t : Test) (ts : List Test) (v : Verdict) → firstOf (t ∷ ts) v ≡ good → (t .fires ≡ false) × (firstOf ts v ≡ good)
+unfolding firstOf
+good-passes t ts v h = go (t .fires) refl h
+  where
+    go : (b : Bool) → t .fires ≡ b → (elim b [ true ↦ bad (t .abort) | false ↦ firstOf ts v ]) ≡ good → (t .fires ≡ false) × (firstOf ts v ≡ good)
+    go true e k = clash (isGood (bad (t .abort))) (ap isGood k) refl
+    go false e k = (e, k)
+
+good-last : (v : Verdict) → firstOf [] v ≡ good → v ≡ good
+unfolding firstOf
+good-last v h = h
+
+-- a good verdict of a value, taken apart
+pub record GoodValue (d : List ℕ) (x : Row) (v : ℕ) : Type 0 where
+  pub notBelow : isBelow x v ≡ false
+  pub notAbove : isAbove x v ≡ false
+  pub choice : otherBadValue d (x .role) v ≡ false
+  pub mapping : mappingVerdict d (x .role) v ≡ good
+
+pub good-value : (d : List ℕ) (x : Row) (v : ℕ) → valueVerdict d x v ≡ good → GoodValue d x v
+unfolding valueVerdict
+good-value d x v h =
+    let a = good-passes _ _ _ h in
+    let b = good-passes _ _ _ (a .1) in
+    let c = good-passes _ _ _ (b .1) in
+    record { notBelow = a .0; notAbove = b .0; choice = c .0; mapping = good-last _ (c .1) }
+
+choice-known : (d : List ℕ) (r : Role) (v : ℕ) → otherBadValue d r v ≡ false → badChoice r v ≡ false
+unfolding otherBadValue
+choice-known d plain v h = refl
+choice-known d modeOfOperation v h = h
+choice-known d (pdoIdentifier p) v h = refl
+choice-known d (pdoType p) v h = h
+choice-known d (mappingCount p) v h = refl
+choice-known d (mappingEntry p) v h = refl
+
+pub good-range : (d : List ℕ) (x : Row) (v : ℕ) → GoodValue d x v → inRange x v ≡ true
+unfolding inRange
+good-range d x v g = and-both _ _ (and-both _ _ (false-not _ (g .notBelow)) (false-not _ (g .notAbove))) (false-not _ (choice-known d (x .role) v (g .choice)))
+
+writable-varies : (a : Access) → not (isWritable a) ≡ false → isConstant a ≡ false
+writable-varies constant h = clash true refl h
+writable-varies nodeWritten h = refl
+writable-varies writable h = refl
+
+-- ---- what a good download may write
+
+module _ (rq : List ℕ) (nmt : NmtState) (n : ℕ) (d : List ℕ) (x : Row) (bytes : areBytes rq ≡ true) (fine : downloadVerdict rq nmt d x ≡ good) where
+  fit : askedValue rq x < 256 ^ sizeOf x
+  unfolding askedValue
+  fit = value-take (sizeOf x) (drop dataPlace rq) (all-drop dataPlace rq bytes)
+
+  checked : (not (isWritable (x .access)) ≡ false) × (isWrongTime nmt d (x .role) ≡ false) × (valueVerdict d x (askedValue rq x) ≡ good)
+  unfolding downloadVerdict
+  checked =
+      let a = good-passes _ _ _ fine in
+      let b = good-passes _ _ _ (a .1) in
+      let c = good-passes _ _ _ (b .1) in
+      let e = good-passes _ _ _ (c .1) in
+      (a .0, e .0, good-last _ (e .1))
+
+  value : GoodValue d x (askedValue rq x)
+  value = good-value d x (askedValue rq x) (checked .2)
+
+  time-of : (r : Role) → x .role ≡ r → isWrongTime nmt d r ≡ false
+  time-of r e = ap (isWrongTime nmt d) (sym e) ∙ checked .1
+
+  may : MayHold n d x (askedValue rq x)
+  unfolding isWrongTime otherBadValue mappingVerdict
+  may =
+      record {
+        fits = fit;
+        listed = λ k. clash (isConstant (x .access)) k (writable-varies (x .access) (checked .0));
+        ranged = good-range d x (askedValue rq x) value;
+        entry = λ p e. (
+          ap isGood (ap (λ (r : Role). mappingVerdict d r (askedValue rq x)) (sym e) ∙ value .mapping),
+          eqb-true _ _ (sym (Bool·not-not _) ∙ false-not _ (or-false-right (not (isPreOperational nmt) || isValid (read d (identifier p))) (not (eqb (read d (mapCount p)) 0)) (time-of (mappingEntry p) e))),
+        );
+        count = λ p e. ap isGood (ap (λ (r : Role). mappingVerdict d r (askedValue rq x)) (sym e) ∙ value .mapping);
+        named = λ p e. ap (λ (r : Role). otherBadValue d r (askedValue rq x)) (sym e) ∙ value .choice;
+      }
+
+  pre-idle : (m : NmtState) → not (isPreOperational m) ≡ false → isOperational m ≡ false
+  pre-idle PreOperational h = refl
+  pre-idle Operational h = clash true refl h
+  pre-idle Stopped h = clash true refl h
+
+  idle-or-quiet : (isOperational nmt ≡ false) ⊎ (isPdo (x .role) ≡ false)
+  unfolding isWrongTime
+  idle-or-quiet = go (x .role) refl
+    where
+      go : (r : Role) → x .role ≡ r → (isOperational nmt ≡ false) ⊎ (isPdo r ≡ false)
+      go plain e = inr refl
+      go modeOfOperation e = inr refl
+      go (pdoIdentifier p) e = inl (pre-idle nmt (time-of (pdoIdentifier p) e))
+      go (pdoType p) e = inl (pre-idle nmt (time-of (pdoType p) e))
+      go (mappingCount p) e = inl (pre-idle nmt (or-false-left (not (isPreOperational nmt)) _ (time-of (mappingCount p) e)))
+      go (mappingEntry p) e = inl (pre-idle nmt (or-false-left (not (isPreOperational nmt)) _ (or-false-left (not (isPreOperational nmt) || isValid (read d (identifier p))) _ (time-of (mappingEntry p) e))))
+
+-- ---- the server
+
+module _ (rq : List ℕ) (s : State) (d : List ℕ) (bytes : areBytes rq ≡ true) (law : Lawful s d) where
+  decided-lawful : (x : Row) → In x table → (v : Verdict) → downloadVerdict rq (s .node .nmt) d x ≡ v → LawfulAfter d (decided v rq x s d)
+  unfolding decided abort stored
+  decided-lawful x i good e =
+      let v = askedValue rq x in
+      applied-lawful s d (write x v ∷ []) law (one-row (λ w. In (w .row) table) i) (go (idle-or-quiet rq (s .node .nmt) (s .node .id) d x bytes e))
+      (store-ok (s .node .id) d x v i (law .long) (law .dictionary) (may rq (s .node .nmt) (s .node .id) d x bytes e))
+    where
+      go : (isOperational (s .node .nmt) ≡ false) ⊎ (isPdo (x .role) ≡ false) → (isOperational (s .node .nmt) ≡ false) ⊎ NoPdo (write x (askedValue rq x) ∷ [])
+      go (inl h) = inl h
+      go (inr h) = inr (one-row (λ w. isPdo (w .row .role) ≡ false) h)
+  decided-lawful x i (bad a) e = law
+
+  object-lawful : (writing : Bool) (f : Found) → lookup (askedIndex rq) (askedSubindex rq) ≡ f → LawfulAfter d (toObject writing rq f s d)
+  unfolding toObject toRow abort stored
+  object-lawful true (found x) e = decided-lawful x (found-in _ _ e) (downloadVerdict rq (s .node .nmt) d x) refl
+  object-lawful false (found x) e = law
+  object-lawful true noObject e = law
+  object-lawful false noObject e = law
+  object-lawful true noSubindex e = law
+  object-lawful false noSubindex e = law
+
+  asked-lawful : (c : Command) → LawfulAfter d (asked c rq s d)
+  unfolding asked abort stored
+  asked-lawful download = object-lawful true _ refl
+  asked-lawful upload = object-lawful false _ refl
+  asked-lawful clientAbort = law
+  asked-lawful unknown = law
+
+  pub sdo-lawful : LawfulAfter d (sdo rq s d)
+  unfolding sdo
+  sdo-lawful = asked-lawful (commandOf (commandByte rq))
