@@ -46,12 +46,16 @@ matches l o =
     && eqb (o .frames) (length (l .sent))
     && sameBy eqb (o .output) (sentInto blank (l .sent))
 
+-- what answers calls: the rules, or another node that is held to the same lines
+abbrev pub Answers : Type 0
+Answers = Call → State → List ℕ → List ℕ → Outcome
+
 -- each call gives its line, and the next starts from what it left
-unfoldable pub runs : List Line → State → List ℕ → Bool
-runs [] s d = true
-runs (l ∷ ls) s d =
-    let o = answer (l .call) s d blank in
-    elim (matches l o) [ true ↦ runs ls (o .state) (o .dictionary) | false ↦ false ]
+unfoldable pub runs : Answers → List Line → State → List ℕ → Bool
+runs node [] s d = true
+runs node (l ∷ ls) s d =
+    let o = node (l .call) s d blank in
+    elim (matches l o) [ true ↦ runs node ls (o .state) (o .dictionary) | false ↦ false ]
 
 -- before power-up: no node
 unfoldable pub nothing : State
@@ -60,10 +64,14 @@ nothing = freshState 0
 abbrev pub zeros : List ℕ
 zeros = replicate dictionaryLength 0
 
+unfoldable pub givenBy : Answers → List Line → Bool
+givenBy node ls = runs node ls nothing zeros
+
+-- the rules' own answers
 unfoldable pub fromNothing : List Line → Bool
-fromNothing ls = runs ls nothing zeros
+fromNothing ls = givenBy answer ls
 
 -- opens every definition of the rules, where a proof computes
 unfoldable pub open-rules : Unit {0}
-unfolding open-numbers open-table open-values open-aborts open-legal open-plans open-drive-states open-set-points open-status-word open-effects open-emergency open-written open-sdo open-pdo-traffic open-nmt open-events open-outcome open-sound open-calls matches runs nothing fromNothing
+unfolding open-numbers open-table open-values open-aborts open-legal open-plans open-drive-states open-set-points open-status-word open-effects open-emergency open-written open-sdo open-pdo-traffic open-nmt open-events open-outcome open-sound open-calls matches runs nothing givenBy fromNothing
 open-rules = tt

@@ -19,7 +19,7 @@ pub of-pdo {ℓ} : {A : Type ℓ} (f : ℕ → A) (z : A) {p : ℕ} → In p pdo
 of-pdo f z i = each-in (λ p. getD (map f pdos) p z ≡ f p) i (refl, (refl, (refl, (refl, (refl, (refl, (refl, (refl, tt))))))))
 
 -- what a word must be by itself
-pub badAlone : ℕ → ℕ → Bool
+unfoldable pub badAlone : ℕ → ℕ → Bool
 badAlone p w =
     not (Bool·beq (bit transmitBit w) (transmits (directionOf p)))
     || not (eqb (reservedBits w) 0)

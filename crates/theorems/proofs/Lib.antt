@@ -12,3 +12,11 @@ pub mod SdoKept
 pub mod Mapped
 pub mod PdoKept
 pub mod Runs
+pub mod Changes
+pub mod Quiet
+pub mod Demands
+pub mod Taken
+pub mod TakenBy
+pub mod Sent
+pub mod SentBy
+pub mod ShutOut

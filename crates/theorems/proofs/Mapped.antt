@@ -166,7 +166,7 @@ writes-ok n d₀ (w ∷ ws) d l ok h =
     (drive-may n d (w .row) (w .value) (m .quiet) (m .variable) (range-fits (w .value) (m .inside) (g .notAbove)) (good-range d₀ (w .row) (w .value) g)))
     (λ v i. h v (there i))
 
-unpacked-rows : (xs : List Row) (bs : List ℕ) {w : Write} → In w (unpacked xs bs) → In (w .row) xs
+pub unpacked-rows : (xs : List Row) (bs : List ℕ) {w : Write} → In w (unpacked xs bs) → In (w .row) xs
 unfolding unpacked
 unpacked-rows [] bs i = absurd (none-in i)
 unpacked-rows (x ∷ xs) bs {w} i = go (in-cons i) (λ j. unpacked-rows xs (drop (sizeOf x) bs) j)
@@ -175,11 +175,13 @@ unpacked-rows (x ∷ xs) bs {w} i = go (in-cons i) (λ j. unpacked-rows xs (drop
     go (inl e) rest = subst (λ (v : Write). In (v .row) (x ∷ xs)) (sym e) here
     go (inr j) rest = there (rest j)
 
+pub receive-mapped : {n : ℕ} {d : List ℕ} → DictionaryOk n d → {p : ℕ} → In p receivePdos → (x : Row) → In x (mapped d p) → suits receive (x .mappable) ≡ true
+receive-mapped ok i x j = ap (λ (way : Direction). suits way (x .mappable)) (sym (receive-way i)) ∙ mapped-way ok (in-left transmitPdos i) x j
+
 pub received-may : (n : ℕ) (d : List ℕ) {p : ℕ} (bs : List ℕ) → DictionaryOk n d → In p receivePdos → areLegal d (unpacked (mapped d p) bs) ≡ true → (w : Write) → In w (unpacked (mapped d p) bs) → MayWrite d w
 unfolding areLegal
 received-may n d {p} bs ok i legal w j =
     let row = unpacked-rows (mapped d p) bs j in
     let inside = mapped-in d p row in
-    let way : suits receive (w .row .mappable) ≡ true = ap (λ (way : Direction). suits way (w .row .mappable)) (sym (receive-way i)) ∙ mapped-way ok (in-left transmitPdos i) (w .row) row in
-    let free = received-row inside way in
+    let free = received-row inside (receive-mapped ok i (w .row) row) in
     record { inside = inside; quiet = free .0; variable = free .1; value = is-good _ (all-in (λ w. isGood (valueVerdict d (w .row) (w .value))) j legal) }

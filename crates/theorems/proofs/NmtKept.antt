@@ -178,7 +178,7 @@ pub in-cons {ℓ} : {A : Type ℓ} {x y : A} {ys : List A} → In x (y ∷ ys) �
 in-cons here = inl refl
 in-cons (there i) = inr i
 
-filtered {ℓ} : {A : Type ℓ} (f : A → Bool) {x : A} (xs : List A) → In x (filter f xs) → In x xs × (f x ≡ true)
+pub filtered {ℓ} : {A : Type ℓ} (f : A → Bool) {x : A} (xs : List A) → In x (filter f xs) → In x xs × (f x ≡ true)
 filtered f [] i = absurd (none-in i)
 filtered f {x} (y ∷ ys) i = go (f y) refl i (λ j. filtered f ys j)
   where
@@ -190,7 +190,7 @@ filtered f {x} (y ∷ ys) i = go (f y) refl i (λ j. filtered f ys j)
     go true e j rest = head e rest (in-cons j)
     go false e j rest = let r = rest j in (there (r .0), r .1)
 
-filter-in {ℓ} : {A : Type ℓ} (f : A → Bool) {x : A} {xs : List A} → In x xs → f x ≡ true → In x (filter f xs)
+pub filter-in {ℓ} : {A : Type ℓ} (f : A → Bool) {x : A} {xs : List A} → In x xs → f x ≡ true → In x (filter f xs)
 filter-in f {x} (here {xs = ys}) h = go (f x) h
   where
     go : (b : Bool) → b ≡ true → In x (elim b [ true ↦ x ∷ filter f ys | false ↦ filter f ys ])

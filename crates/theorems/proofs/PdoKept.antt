@@ -68,7 +68,7 @@ held-lawful s d {p} f law i h =
       held = pairwise-set (heldSound (s .node .nmt) d) receivePdos (s .axis .held) p f (law .held) (ap (λ (q : ℕ). heldSound (s .node .nmt) d q f) (receiver-at i .0) ∙ h);
     }
 
-none-sound : (m : NmtState) (d : List ℕ) (p : ℕ) → heldSound m d p noData ≡ true
+pub none-sound : (m : NmtState) (d : List ℕ) (p : ℕ) → heldSound m d p noData ≡ true
 unfolding heldSound
 none-sound m d p = refl
 
@@ -85,7 +85,7 @@ drop-take (suc n) m [] = rw suc-add (sym (take-nil m))
 drop-take (suc n) m (x ∷ xs) = rw suc-add (drop-take n m xs)
 
 -- values look at no more than the mapped length
-unpacked-same : (xs : List Row) (l l′ : List ℕ) → take (mappedLength xs) l ≡ take (mappedLength xs) l′ → unpacked xs l ≡ unpacked xs l′
+pub unpacked-same : (xs : List Row) (l l′ : List ℕ) → take (mappedLength xs) l ≡ take (mappedLength xs) l′ → unpacked xs l ≡ unpacked xs l′
 unfolding unpacked mappedLength
 unpacked-same [] l l′ h = refl
 unpacked-same (x ∷ xs) l l′ h =
@@ -163,16 +163,16 @@ received-by-lawful (p ∷ ps) i bs s d law h = go (listens i (s .node .nmt) d p)
 
 -- ---- SYNC
 
-held-at : (s : State) (d : List ℕ) {p : ℕ} → Lawful s d → In p receivePdos → heldSound (s .node .nmt) d p (getD (s .axis .held) p noData) ≡ true
+pub held-at : (s : State) (d : List ℕ) {p : ℕ} → Lawful s d → In p receivePdos → heldSound (s .node .nmt) d p (getD (s .axis .held) p noData) ≡ true
 held-at s d {p} law i =
     subst (λ (q : ℕ). heldSound (s .node .nmt) d q (getD (s .axis .held) p noData) ≡ true) (receiver-at i .0)
     (pairwise-at (heldSound (s .node .nmt) d) 0 noData receivePdos (s .axis .held) (law .held) p (receiver-at i .1))
 
-held-legal : (m : NmtState) (d : List ℕ) (p : ℕ) (f : PdoData) → heldSound m d p f ≡ true → isHeld f ≡ true → areLegal d (unpacked (mapped d p) (f .bytes)) ≡ true
+pub held-legal : (m : NmtState) (d : List ℕ) (p : ℕ) (f : PdoData) → heldSound m d p f ≡ true → isHeld f ≡ true → areLegal d (unpacked (mapped d p) (f .bytes)) ≡ true
 unfolding heldSound
 held-legal m d p f h e = and-right (works m d p && isSynchronous (typeOf d p) && sameData f (pdoData (take (mappedLength (mapped d p)) (f .bytes)))) _ (rw e at h)
 
-release-lawful : (s : State) (d : List ℕ) {p : ℕ} → Lawful s d → In p receivePdos → LawfulAfter d (release p s d)
+pub release-lawful : (s : State) (d : List ℕ) {p : ℕ} → Lawful s d → In p receivePdos → LawfulAfter d (release p s d)
 unfolding release stored
 release-lawful s d {p} law i = go (isHeld (getD (s .axis .held) p noData)) refl
   where

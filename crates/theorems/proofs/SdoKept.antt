@@ -99,7 +99,7 @@ module _ (rq : List ℕ) (nmt : NmtState) (n : ℕ) (d : List ℕ) (x : Row) (by
   time-of : (r : Role) → x .role ≡ r → isWrongTime nmt d r ≡ false
   time-of r e = ap (isWrongTime nmt d) (sym e) ∙ checked .1
 
-  may : MayHold n d x (askedValue rq x)
+  pub may : MayHold n d x (askedValue rq x)
   unfolding isWrongTime otherBadValue mappingVerdict
   may =
       record {

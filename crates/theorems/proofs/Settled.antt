@@ -96,11 +96,11 @@ module _ (d d′ : List ℕ) (h : SameMotion d d′) where
 
 -- ---- 6041h and 6061h made
 
-status-in : In statusWord table
+pub status-in : In statusWord table
 unfolding open-table
 status-in = found-in 0x6041 0 refl
 
-display-in : In modeDisplay table
+pub display-in : In modeDisplay table
 unfolding open-table
 display-in = found-in 0x6061 0 refl
 

@@ -133,7 +133,7 @@ mode-in : In mode table
 unfolding open-table
 mode-in = found-in 0x6060 0 refl
 
-control-in : In controlWord table
+pub control-in : In controlWord table
 unfolding open-table
 control-in = found-in 0x6040 0 refl
 
@@ -141,7 +141,7 @@ time-in : In heartbeatTime table
 unfolding open-table
 time-in = found-in 0x1017 0 refl
 
-register-in : In errorRegister table
+pub register-in : In errorRegister table
 unfolding open-table
 register-in = found-in 0x1001 0 refl
 

@@ -1,19 +1,41 @@
 -- What holds after any calls: the statements that are made to the customer, in the order of his demands, with the few definitions that they
 -- need. They speak of the rules of document 01 alone; their proofs stand in proofs/.
 -- Assumes nothing.
-use Prim.Native.Nat.{ℕ, _+_, _<_, _≤_}
+use Prim.Native.Nat.{ℕ, _+_, _*_, _<_, _≤_}
 use mathlib.Core.Path.{_≡_}
-use mathlib.Core.Bool.{Bool, true, false}
-use mathlib.Core.List.{List, [], _∷_}
-use lib.ListN.{length}
+use mathlib.Core.Logic.{_⊎_}
+use mathlib.Core.Bool.{Bool, true, false, cond, not, _&&_, _||_}
+use mathlib.Core.List.{List, [], _∷_, _++_, map}
+use lib.Dec.{eqb, leb, ltb}
+use lib.ListN.{length, getD, drop}
+use Rattle.rules_dictionary.specs.declared.Plan.{Plan}
+use Rattle.rules_dictionary.specs.declared.PdoData.{PdoData}
+use Rattle.drive.specs.declared.SetPoint.{SetPoint}
+use Rattle.drive.specs.declared.Store.{Store}
+use Rattle.drive.specs.declared.Store.the-variants.{Empty, Rested, Moving, Queued}
 use Rattle.state.specs.declared.State.{State}
 use Rattle.state.specs.declared.Refusal.{Refusal}
-use Rattle.state.specs.declared.Refusal.the-variants.{NotSound}
-use Rattle.rules_dictionary.specs.Numbers.{areBytes}
+use Rattle.state.specs.declared.Refusal.the-variants.{Accepted, DictionaryLength, NotSound}
+use Rattle.rules_dictionary.specs.Numbers.{all, any, areBytes, filter, bit}
 use Rattle.rules_dictionary.specs.TheNode.{isNodeId}
-use Rattle.rules_dictionary.specs.Table.{dictionaryLength}
+use Rattle.rules_dictionary.specs.Table.{Row, table, sizeOf, same, dictionaryLength, statusWord, mode, modeDisplay, controlWord, errorCode, errorRegister, position, velocity, identifier, mappingRows, eachWay, pdos, receivePdos, transmitPdos, Found, found, noObject, noSubindex, lookup}
+use Rattle.rules_dictionary.specs.Values.{Write, read, field, unpacked}
+use Rattle.rules_dictionary.specs.Aborts.{Abort, bad}
+use Rattle.rules_dictionary.specs.Plans.{mapped, planFor, readyFor, plansOf, readyOf, joined, pdoData}
+use Rattle.rules_dictionary.proofs.Tests.{In}
+use Rattle.drive.specs.SetPoints.{newSetPointBit, controlWritten}
+use Rattle.drive.specs.declared.Drive.{Drive}
+use Rattle.rules_services.specs.Effects.{Frame, frame, Effect, isStopped}
+use Rattle.rules_services.specs.Emergency.{emergency, emergencyBase, pdoTooShort}
+use Rattle.rules_services.specs.Sdo.{Command, download, upload, clientAbort, unknown, commandOf, commandByte, askedIndex, askedSubindex, downloadVerdict, requestBase, replyBase}
+use Rattle.rules_services.specs.PdoTraffic.{listens, mappedLength, areLegal, transmitted, noData, syncBase}
+use Rattle.rules_services.specs.Nmt.{nmtIdentifier, isReset, heartbeatBase, commandOf as nmtCommandOf, Command as NmtCommand, start, stop, enterPreOperational, resetNode, resetCommunication, unknown as unknownNmt}
+use Rattle.rules_services.specs.Events.{Told, event, badEvent, eventOf, Event, started, quickStopDone, reactionDone, setPointReached, tick, causeGone, fault, feedback, voltage}
+use Rattle.rules.specs.Outcome.{statusOf, encoded, sentInto, frameSize, transmitters}
 use Rattle.rules.specs.Sound.{sound}
-use Rattle.rules.specs.Calls.{Call, powerUpCall, frameCall, eventCall, Outcome, answer, outputLength}
+use Rattle.rules.specs.Calls.{Call, powerUpCall, frameCall, eventCall, Decision, refuses, does as performs, decided, Outcome, answer, outputLength}
+use Rattle.rules.specs.Scripts.{Answers, givenBy}
+use Rattle.rules.specs.Examples.{examples}
 
 -- ---- a run: an accepted power-up, and then calls in any number, refused ones included, each handed the state and the dictionary that the
 -- one before handed back, with output of any length
@@ -72,6 +94,254 @@ pub record SoundAt (a : Stand) : Type 0 where
 abbrev pub SoundAlways : Type 0
 SoundAlways = (r : Run) → SoundAt (reached r)
 
+-- every byte of the output is a byte, where those lent were
+abbrev pub OutputOfBytes : Type 0
+OutputOfBytes = (r : Run) (k : Step) → octets (k .call) ≡ true → areBytes (k .output) ≡ true → areBytes (does k (reached r) .output) ≡ true
+
 -- so that refusal 4 never comes
 abbrev pub NeverUnsound : Type 0
 NeverUnsound = (r : Run) (k : Step) → does k (reached r) .refusal ≡ NotSound → ⊥
+
+-- ---- demand 3, "every kept transfer plan and ready transmit frame is equal to the one worked out afresh from that dictionary"; and 6041h and
+-- 6061h are those that the rules make
+
+pub record FreshAt (a : Stand) : Type 0 where
+  pub plans : a .state .axis .plans ≡ plansOf (a .dictionary)
+  pub ready : a .state .axis .ready ≡ readyOf (a .dictionary)
+  pub status : read (a .dictionary) statusWord ≡ statusOf (a .state) (a .dictionary)
+  pub shown : read (a .dictionary) modeDisplay ≡ read (a .dictionary) mode
+
+abbrev pub NothingStale : Type 0
+NothingStale = (r : Run) → FreshAt (reached r)
+
+-- ---- demand 3, "A call changes no objects but those it writes and those document 01 lists as following from them"
+
+-- "an SDO .. write its objects"
+abbrev pub bySdo : Command → Found → List Row
+bySdo download (found x) = x ∷ []
+bySdo download noObject = []
+bySdo download noSubindex = []
+bySdo upload f = []
+bySdo clientAbort f = []
+bySdo unknown f = []
+
+-- ".. or PDO write its objects": what those receive PDOs map
+unfoldable pub byPdos : List ℕ → List ℕ → List Row
+byPdos d [] = []
+byPdos d (p ∷ ps) = mapped d p ++ byPdos d ps
+
+-- "1001h from a fault reset", which only a write of 6040h can bring
+abbrev pub orReset : List Row → List Row
+orReset xs = cond (any (same controlWord) xs) (errorRegister ∷ xs) xs
+
+-- "82h the objects it resets; 81h .. all"
+abbrev pub byNmt : NmtCommand → List Row
+byNmt start = []
+byNmt stop = []
+byNmt enterPreOperational = []
+byNmt resetNode = table
+byNmt resetCommunication = filter isReset table
+byNmt unknownNmt = []
+
+-- "event 5 6064h and 606Ch"; "603Fh and 1001h from event 3"
+abbrev pub byEvent : Event → List Row
+byEvent started = []
+byEvent quickStopDone = []
+byEvent reactionDone = []
+byEvent setPointReached = []
+byEvent tick = []
+byEvent causeGone = []
+byEvent (fault code register) = errorCode ∷ errorRegister ∷ []
+byEvent (feedback at speed) = position ∷ velocity ∷ []
+byEvent (voltage b) = []
+
+abbrev pub byTold : Told → List Row
+byTold (event e) = byEvent e
+byTold badEvent = []
+
+unfoldable pub byFrame : ℕ → List ℕ → State → List ℕ → List Row
+byFrame i bs s d =
+    cond (eqb i nmtIdentifier) (byNmt (nmtCommandOf (getD bs 0 0)))
+    (cond (eqb i syncBase) (orReset (byPdos d receivePdos))
+    (cond (eqb i (requestBase + s .node .id)) (orReset (bySdo (commandOf (commandByte bs)) (lookup (askedIndex bs) (askedSubindex bs))))
+    (orReset (byPdos d (filter (listens i (s .node .nmt) d) receivePdos)))))
+
+-- the rows that a call may change; "6041h and 6061h from any call"
+unfoldable pub mayChange : Call → State → List ℕ → List Row
+mayChange (powerUpCall n) s d = table
+mayChange (frameCall i bs) s d = statusWord ∷ modeDisplay ∷ byFrame i bs s d
+mayChange (eventCall k xs) s d = statusWord ∷ modeDisplay ∷ byTold (eventOf k xs)
+
+-- the byte of that number is one of the row's
+abbrev pub covers : ℕ → Row → Bool
+covers i x = leb (x .place) i && ltb i (x .place + sizeOf x)
+
+-- byte for byte: a byte of no such row stays
+abbrev pub ChangesNoOther : Type 0
+ChangesNoOther = (r : Run) (k : Step) (i : ℕ) → octets (k .call) ≡ true →
+    any (covers i) (mayChange (k .call) (reached r .state) (reached r .dictionary)) ≡ false →
+    getD (does k (reached r) .dictionary) i 0 ≡ getD (reached r .dictionary) i 0
+
+-- "and no ready frame but of a transmit PDO that maps a changed object or had its mapping written"
+abbrev pub ReadyFrameStays : Type 0
+ReadyFrameStays = (r : Run) (k : Step) (t : ℕ) → octets (k .call) ≡ true → In t transmitters →
+    ((x : Row) → In x (mappingRows (eachWay + t)) → field (does k (reached r) .dictionary) x ≡ field (reached r .dictionary) x) →
+    ((x : Row) → In x (mapped (reached r .dictionary) (eachWay + t)) → field (does k (reached r) .dictionary) x ≡ field (reached r .dictionary) x) →
+    getD (does k (reached r) .state .axis .ready) t noData ≡ getD (reached r .state .axis .ready) t noData
+
+-- ---- demand 1, "A refused call sends nothing and changes nothing.": of every state, dictionary and output, sound or not
+
+abbrev pub RefusedMeansNothing : Type 0
+RefusedMeansNothing = (k : Step) (a : Stand) → (does k a .refusal ≡ Accepted → ⊥) →
+    does k a ≡ record { refusal = does k a .refusal; frames = 0; state = a .state; dictionary = a .dictionary; output = k .output }
+
+-- "a refused write .. changes no object"
+abbrev pub RefusedWriteChangesNothing : Type 0
+RefusedWriteChangesNothing = (r : Run) (rq o : List ℕ) (x : Row) (c : Abort) → areBytes rq ≡ true → commandOf (commandByte rq) ≡ download →
+    lookup (askedIndex rq) (askedSubindex rq) ≡ found x → downloadVerdict rq (reached r .state .node .nmt) (reached r .dictionary) x ≡ bad c →
+    does (record { call = frameCall (requestBase + reached r .state .node .id) rq; output = o }) (reached r) .dictionary ≡ reached r .dictionary
+
+-- "or a dropped process frame changes no object": one that is too short, or that holds a value SDO would refuse
+abbrev pub DroppedFrameChangesNothing : Type 0
+DroppedFrameChangesNothing = (r : Run) (p i : ℕ) (bs o : List ℕ) → areBytes bs ≡ true → In p receivePdos → listens i (reached r .state .node .nmt) (reached r .dictionary) p ≡ true →
+    (length bs < mappedLength (mapped (reached r .dictionary) p)) ⊎ (areLegal (reached r .dictionary) (unpacked (mapped (reached r .dictionary) p) bs) ≡ false) →
+    does (record { call = frameCall i bs; output = o }) (reached r) .dictionary ≡ reached r .dictionary
+
+-- ---- demand 1 and 2, the frames: "eleven bytes a frame, one after another", "At most 6 frames. Order: SDO reply; emergencies in order of
+-- cause; boot-up or heartbeat; TPDOs rising", "Bytes past the frames reported stay"
+
+abbrev pub isOn : ℕ → Frame → Bool
+isOn i f = eqb (f .identifier) i
+
+-- a list of frames in the paper's order; `sending` says which transmit PDOs are sent
+pub record Ordered (a : Stand) (sent : List Frame) : Type 0 where
+  pub replies : List Frame
+  pub emergencies : List Frame
+  pub beats : List Frame
+  pub sending : ℕ → Bool
+  pub whole : sent ≡ replies ++ (emergencies ++ (beats ++
+      map (λ t. transmitted (a .dictionary) (eachWay + t) (getD (a .state .axis .ready) t noData)) (filter sending transmitters)))
+  pub onReply : all (isOn (replyBase + a .state .node .id)) replies ≡ true
+  pub onEmergency : all (isOn (emergencyBase + a .state .node .id)) emergencies ≡ true
+  pub onBeat : all (isOn (heartbeatBase + a .state .node .id)) beats ≡ true
+  pub few : length replies + (length emergencies + length beats) ≤ 2
+
+unfoldable pub laid : List Frame → List ℕ
+laid [] = []
+laid (f ∷ fs) = encoded f ++ laid fs
+
+-- the frames of an answer, whose output was o before
+pub record FramesOf (u : Outcome) (o : List ℕ) : Type 0 where
+  pub sent : List Frame
+  pub counted : u .frames ≡ length sent
+  pub most : length sent ≤ 6
+  pub inOrder : Ordered (record { state = u .state; dictionary = u .dictionary }) sent
+  pub output : u .output ≡ laid sent ++ drop (frameSize * length sent) o
+
+abbrev pub AtMostSixInOrder : Type 0
+AtMostSixInOrder = (r : Run) (k : Step) → octets (k .call) ≡ true → FramesOf (does k (reached r)) (k .output)
+
+abbrev pub ElevenBytes : Type 0
+ElevenBytes = (f : Frame) → length (encoded f) ≡ frameSize
+
+-- ---- his complaints
+
+-- "A receive path that was never tested on a short frame read missing bytes as zero": a process frame shorter than its mapping changes no
+-- object and sends 8210h, and nothing else
+abbrev pub ShortFrameChangesNothing : Type 0
+ShortFrameChangesNothing = (r : Run) (p i : ℕ) (bs o : List ℕ) → In p receivePdos → listens i (reached r .state .node .nmt) (reached r .dictionary) p ≡ true →
+    length bs < mappedLength (mapped (reached r .dictionary) p) → outputLength ≤ length o →
+    (does (record { call = frameCall i bs; output = o }) (reached r) .dictionary ≡ reached r .dictionary)
+    × (does (record { call = frameCall i bs; output = o }) (reached r) .frames ≡ 1)
+    × (does (record { call = frameCall i bs; output = o }) (reached r) .output ≡ sentInto o (emergency pdoTooShort (reached r .state) (reached r .dictionary)))
+
+-- "mappings edited while a packed copy of the old one was still in use": after any call, so after any accepted mapping write, the plan and
+-- the ready frame of each PDO are those of the mapping that the dictionary now holds
+abbrev pub NoOldMapping : Type 0
+NoOldMapping = (r : Run) (k : Step) → octets (k .call) ≡ true →
+    (does k (reached r) .state .axis .plans ≡ map (λ p. planFor (mapped (does k (reached r) .dictionary) p)) pdos)
+    × (does k (reached r) .state .axis .ready ≡ map (λ p. readyFor (does k (reached r) .dictionary) p) transmitPdos)
+
+-- "a status word in a sent frame that differs from the one read by SDO a moment later": every transmit PDO carries, of each mapped object, the
+-- bytes that the dictionary holds; and an upload of 6041h made right after the call answers with those very bytes
+abbrev pub uploadStatus : ℕ → Call
+uploadStatus n = frameCall (requestBase + n) (0x40 ∷ 0x41 ∷ 0x60 ∷ 0x00 ∷ 0x00 ∷ 0x00 ∷ 0x00 ∷ 0x00 ∷ [])
+
+abbrev pub SameStatusWord : Type 0
+SameStatusWord = (r : Run) (o : List ℕ) → outputLength ≤ length o → isStopped (reached r .state .node .nmt) ≡ false →
+    (reached r .state .axis .ready ≡ map (λ p. pdoData (joined (reached r .dictionary) (mapped (reached r .dictionary) p))) transmitPdos)
+    × (does (record { call = uploadStatus (reached r .state .node .id); output = o }) (reached r) .output
+    ≡ sentInto o (frame (replyBase + reached r .state .node .id) (0x4B ∷ 0x41 ∷ 0x60 ∷ 0x00 ∷ (field (reached r .dictionary) statusWord ++ (0x00 ∷ 0x00 ∷ []))) ∷ []))
+
+-- "set-points taken twice because somebody looked at the level of a bit and missed its edge"
+
+abbrev pub points : Store → List SetPoint
+points Empty = []
+points (Rested t) = []
+points (Moving a) = a ∷ []
+points (Queued a b) = a ∷ b ∷ []
+
+-- the writes of a call
+abbrev pub writesOf : Decision → List Write
+writesOf (refuses x) = []
+writesOf (performs e) = e .writes
+
+-- the call writes no 6040h with bit 4 zero
+abbrev pub keepsBitFour : Step → Stand → Bool
+keepsBitFour k a =
+    all (λ w. not (same controlWord (w .row)) || bit newSetPointBit (w .value)) (writesOf (decided (k .call) (a .state) (a .dictionary) (k .output)))
+
+-- bit 4 of 6040h is 1 before each of these calls, and none of them writes it zero
+unfoldable pub HoldsBitFour : List Step → Stand → Type 0
+HoldsBitFour [] a = Unit
+HoldsBitFour (k ∷ ks) a = (bit newSetPointBit (read (a .dictionary) controlWord) ≡ true) × (keepsBitFour k a ≡ true) × HoldsBitFour ks (left k a)
+
+-- while bit 4 stays 1, over any calls, no set-point is taken: those in the store are the last ones of those before
+abbrev pub HeldBitTakesNothing : Type 0
+HeldBitTakesNothing = (r : Run) (ks : List Step) → allOctets ks → HoldsBitFour ks (reached r) →
+    (n : ℕ) × (points (after ks (reached r) .state .axis .drive .store) ≡ drop n (points (reached r .state .axis .drive .store)))
+
+-- and one control word takes at most one, where bit 4 rose
+abbrev pub OneEdgeTakesOne : Type 0
+OneEdgeTakesOne = (d : List ℕ) (old : ℕ) (v : Drive) →
+    (n : ℕ) × (xs : List SetPoint) × (points (controlWritten d old v .drive .store) ≡ drop n (points (v .store)) ++ xs) × (length xs ≤ 1)
+    × ((xs ≡ []) ⊎ ((bit newSetPointBit old ≡ false) × (bit newSetPointBit (read d controlWord) ≡ true)))
+
+-- ---- "Shut out by demand 2: a node that refuses everything, one with a constant reply, one that does nothing, one that reports six frames
+-- always. One idle after power-up falls to 2 and 3.": the ten examples hold of the rules, and of none of these
+
+abbrev pub keepsExamples : Answers → Bool
+keepsExamples node = all (givenBy node) examples
+
+unfoldable pub refusesEverything : Answers
+refusesEverything c s d o = record { refusal = DictionaryLength; frames = 0; state = s; dictionary = d; output = o }
+
+unfoldable pub doesNothing : Answers
+doesNothing c s d o = record { refusal = Accepted; frames = 0; state = s; dictionary = d; output = o }
+
+unfoldable pub constantReply : Answers
+constantReply (frameCall i bs) s d o =
+    record {
+      refusal = Accepted;
+      frames = 1;
+      state = s;
+      dictionary = d;
+      output = sentInto o (frame (replyBase + s .node .id) (0x60 ∷ 0x40 ∷ 0x60 ∷ 0x00 ∷ 0x00 ∷ 0x00 ∷ 0x00 ∷ 0x00 ∷ []) ∷ []);
+    }
+constantReply (powerUpCall n) s d o = answer (powerUpCall n) s d o
+constantReply (eventCall k xs) s d o = answer (eventCall k xs) s d o
+
+unfoldable pub sixFramesAlways : Answers
+sixFramesAlways c s d o =
+    let u = answer c s d o in
+    record { refusal = u .refusal; frames = 6; state = u .state; dictionary = u .dictionary; output = u .output }
+
+unfoldable pub idleAfterPowerUp : Answers
+idleAfterPowerUp (powerUpCall n) s d o = answer (powerUpCall n) s d o
+idleAfterPowerUp (frameCall i bs) s d o = record { refusal = Accepted; frames = 0; state = s; dictionary = d; output = o }
+idleAfterPowerUp (eventCall k xs) s d o = record { refusal = Accepted; frames = 0; state = s; dictionary = d; output = o }
+
+abbrev pub ShutsOut : Type 0
+ShutsOut =
+    (keepsExamples answer ≡ true) × (keepsExamples refusesEverything ≡ false) × (keepsExamples constantReply ≡ false) × (keepsExamples doesNothing ≡ false)
+    × (keepsExamples sixFramesAlways ≡ false) × (keepsExamples idleAfterPowerUp ≡ false)

@@ -1,0 +1,5 @@
+pub mod Bytes
+pub mod Order
+pub mod LookUp
+pub mod Stands
+pub mod Filled

@@ -1,0 +1,17 @@
+-- The default identifiers of the four PDOs of a direction.
+-- Assumes nothing.
+use Prim.Native.Nat.{ℕ, _+_}
+use mathlib.Core.List.{List}
+use lib.Seq.{sets}
+use Rattle.rules_dictionary.specs.Numbers.{bytes}
+
+-- four values in steps of 100h, six bytes apart
+unfoldable pub fourFrom : ℕ → ℕ → ℕ → List ℕ → List ℕ
+fourFrom place first n d =
+    sets
+    (sets
+    (sets (sets d place (bytes 4 (first + n))) (place + 6) (bytes 4 (first + 0x100 + n)))
+    (place + 12)
+    (bytes 4 (first + 0x200 + n)))
+    (place + 18)
+    (bytes 4 (first + 0x300 + n))

@@ -1,0 +1,94 @@
+// The defaults.
+use crate::values::write4;
+ghost use mathlib.Core.Path.{_≡_};
+ghost use Prim.Native.Nat.{_+_, _≤_};
+ghost use lib.ListN.{length};
+ghost use Rattle.rules_dictionary.specs.Table.{table, dictionaryLength};
+ghost use Rattle.rules_dictionary.specs.Values.{stored, toDefaults};
+ghost use Rattle.rules_dictionary.proofs.Defaults.{packedDefaults};
+ghost use Rattle.dictionary.specs.Identifiers.{fourFrom};
+
+// The default bytes, an object a line, without the node-ID.
+const DEFAULTS: [u8; 389] = *b"\
+    \x92\x01\x02\0\
+    \0\
+    \x80\0\0\0\
+    \x80\0\0\0\
+    \0\0\
+    \x01\0\0\0\0\
+    \x02\0\x02\0\0\xFF\
+    \x02\0\x03\0\0\xFF\
+    \x02\0\x04\0\0\xFF\
+    \x02\0\x05\0\0\xFF\
+    \x01\x10\0\x40\x60\0\0\0\0\0\0\0\0\0\0\0\0\0\0\0\0\0\0\0\0\0\0\0\0\0\0\0\0\
+    \x02\x10\0\x40\x60\x08\0\x60\x60\0\0\0\0\0\0\0\0\0\0\0\0\0\0\0\0\0\0\0\0\0\0\0\0\
+    \x02\x10\0\x40\x60\x20\0\x7A\x60\0\0\0\0\0\0\0\0\0\0\0\0\0\0\0\0\0\0\0\0\0\0\0\0\
+    \x02\x10\0\x40\x60\x20\0\xFF\x60\0\0\0\0\0\0\0\0\0\0\0\0\0\0\0\0\0\0\0\0\0\0\0\0\
+    \x02\x80\x01\0\x40\xFF\
+    \x02\x80\x02\0\x40\xFF\
+    \x02\x80\x03\0\x40\xFF\
+    \x02\x80\x04\0\x40\xFF\
+    \x01\x10\0\x41\x60\0\0\0\0\0\0\0\0\0\0\0\0\0\0\0\0\0\0\0\0\0\0\0\0\0\0\0\0\
+    \x02\x10\0\x41\x60\x08\0\x61\x60\0\0\0\0\0\0\0\0\0\0\0\0\0\0\0\0\0\0\0\0\0\0\0\0\
+    \x02\x10\0\x41\x60\x20\0\x64\x60\0\0\0\0\0\0\0\0\0\0\0\0\0\0\0\0\0\0\0\0\0\0\0\0\
+    \x02\x10\0\x41\x60\x20\0\x6C\x60\0\0\0\0\0\0\0\0\0\0\0\0\0\0\0\0\0\0\0\0\0\0\0\0\
+    \0\0\
+    \0\0\
+    \0\0\
+    \0\
+    \0\
+    \0\0\0\0\
+    \0\0\0\0\
+    \0\0\0\0\
+    \0\0\
+    \0\0\
+    \0\0\0\0\
+    \x02\0\0\0\x80\xFF\xFF\xFF\x7F\
+    \0\0\0\0\
+    \x01\0\0\0\
+    \x01\0\0\0\
+    \0\0\0\0\
+    \x05\0\0\0";
+
+// They are the packed defaults of the definitions' table: one computed test.
+fn defaults() -> [u8; 389]
+    ensures { λ r. ⌜ r ≡ packedDefaults 0 table ⌝ }
+{
+    DEFAULTS
+}
+
+// The default bytes into the dictionary.
+fn write_all(d: &mut [u8])
+    requires { ⌜ length (now d) ≡ dictionaryLength ⌝ }
+    ensures { λ r. ⌜ now (d .exit) ≡ packedDefaults 0 table ⌝ }
+{
+    let all = defaults();
+    let mut i: usize = 0;
+    while i < 389 {
+        d[i] = all[i];
+        i += 1;
+    }
+}
+
+// The identifiers of the four PDOs of a direction, in steps of 100h, plus n.
+fn write_identifiers(d: &mut [u8], place: usize, first: u32, n: u8)
+    requires { ⌜ ((place + 22 ≤ length (now d)) × (first ≤ 0x40000180)) × (n ≤ 127) ⌝ }
+    ensures { λ r. ⌜ now (d .exit) ≡ fourFrom place first n (now (d .entry)) ⌝ }
+{
+    let node = n as u32;
+    write4(d, place, first + node);
+    write4(d, place + 6, first + 0x100 + node);
+    write4(d, place + 12, first + 0x200 + node);
+    write4(d, place + 18, first + 0x300 + node);
+}
+
+// Every row to its default on node n.
+pub fn write_defaults(d: &mut [u8], n: u8)
+    requires { ⌜ (length (now d) ≡ dictionaryLength) × ((1 ≤ n) × (n ≤ 127)) ⌝ }
+    ensures { λ r. ⌜ now (d .exit) ≡ stored (toDefaults n table) (now (d .entry)) ⌝ }
+{
+    write_all(d);
+    write4(d, 9, 0x80 + (n as u32));
+    write_identifiers(d, 21, 0x200, n);
+    write_identifiers(d, 177, 0x4000_0180, n);
+}

@@ -1,0 +1,50 @@
+// The object dictionary: values in its bytes, the flat table of its rows, its defaults.
+
+mod values; // a value read and written at a place
+mod table; // the rows, and the look-up by index and subindex
+mod defaults; // the values after power-up
+
+pub use defaults::write_defaults;
+pub use table::find;
+pub use values::read;
+pub use values::read1;
+pub use values::read2;
+pub use values::read4;
+pub use values::write;
+pub use values::write1;
+pub use values::write2;
+pub use values::write4;
+
+// Who writes an entry's value.
+pub enum Access {
+    Constant,
+    NodeWritten,
+    Writable,
+}
+
+// What further rule a value obeys; of a PDO's entries also which PDO, 0 to 7.
+pub enum Role {
+    Plain,
+    ModeOfOperation,
+    PdoIdentifier(u8),
+    PdoType(u8),
+    MappingCount(u8),
+    MappingEntry(u8),
+}
+
+// A row of the table: where its value stands and what it may be.
+pub struct Entry {
+    pub place: u16,
+    pub size: u8,
+    pub access: Access,
+    pub least: u32,
+    pub greatest: u32,
+    pub role: Role,
+}
+
+// What a look-up finds.
+pub enum Found {
+    Entry(Entry),
+    NoObject,
+    NoSubindex,
+}

@@ -1,0 +1,17 @@
+-- The nodes that demand 2 shuts out do not keep the ten examples.
+-- Assumes nothing.
+use mathlib.Core.Path.{_≡_, refl}
+use mathlib.Core.Bool.{true, false}
+use Rattle.rules.specs.Scripts.{fromNothing, open-rules}
+use Rattle.rules.specs.Examples.{open-examples}
+use Rattle.rules.specs.Calls.{answer}
+use Rattle.rules.proofs.Examples.{ten-examples}
+use Rattle.theorems.specs.Promises.{keepsExamples, refusesEverything, constantReply, doesNothing, sixFramesAlways, idleAfterPowerUp, ShutsOut}
+
+kept : keepsExamples answer ≡ true
+unfolding fromNothing
+kept = ten-examples
+
+pub shuts-out : ShutsOut
+unfolding open-rules open-examples refusesEverything constantReply doesNothing sixFramesAlways idleAfterPowerUp
+shuts-out = (kept, refl, refl, refl, refl, refl)

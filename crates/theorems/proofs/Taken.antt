@@ -1,0 +1,207 @@
+-- Set-points are taken at the edge of bit 4 and nowhere else.
+-- Assumes nothing.
+use Prim.Native.Nat.{ℕ, zero, suc, _+_, _^_, _<_, _≤_}
+use native.Mathlib.Omega.{arith}
+use mathlib.Core.Path.{_≡_, refl, sym, _∙_, ap, ap₂, subst}
+use mathlib.Core.Logic.{_⊎_, inl, inr}
+use mathlib.Core.Bool.{Bool, true, false, cond, not, _&&_, _||_}
+use mathlib.Core.List.{List, [], _∷_, _++_, append-nil}
+use borrow.Author.Tests.{eqb-true, ltb-false}
+use lib.Dec.{eqb, leb, ltb}
+use lib.ListN.{length, getD, take, drop, set}
+use lib.Seq.{drop-drop}
+use Rattle.rules_dictionary.specs.declared.PdoData.{PdoData}
+use Rattle.drive.specs.declared.DriveState.{DriveState}
+use Rattle.drive.specs.declared.SetPoint.{SetPoint}
+use Rattle.drive.specs.declared.Store.{Store}
+use Rattle.drive.specs.declared.Store.the-variants.{Empty, Rested, Moving, Queued}
+use Rattle.drive.specs.declared.Drive.{Drive}
+use Rattle.drive.specs.declared.Controlled.{Controlled}
+use Rattle.state.specs.declared.State.{State}
+use Rattle.rules_dictionary.specs.Numbers.{all, bit}
+use Rattle.rules_dictionary.specs.Table.{Row, table, same, sizeOf, dictionaryLength, controlWord, mode, heartbeatTime}
+use Rattle.rules_dictionary.specs.Values.{Write, write, read, store, stored}
+use Rattle.rules_dictionary.proofs.Packing.{apart, within, same-or-apart}
+use Rattle.rules_dictionary.proofs.Rows.{length-store, length-stored, read-same, read-apart}
+use Rattle.rules_dictionary.proofs.Tests.{and-left, and-right, and-both, In, here, there}
+use Rattle.drive.specs.DriveStates.{command, next}
+use Rattle.drive.specs.SetPoints.{positions, emptied, enters, withState, withStore, withMarks, behind, isQueued, target, withinLimits, setPoint, offered, setPointRule, modeWritten, controlWritten, reached, newSetPointBit, atOnceBit}
+use Rattle.drive.specs.SetPoints as SetPoints
+use Rattle.drive.proofs.Tempting.{held-bit-takes-nothing}
+use Rattle.rules_services.specs.Effects.{Effect, becomes, withDrive, withHeartbeat}
+use Rattle.rules_services.specs.Written.{wrote, countRestarted, modeActed, faultReset, controlActed, applied}
+use Rattle.theorems.specs.Promises.{points, OneEdgeTakesOne}
+use Rattle.theorems.proofs.Booleans.{either, clash, not-false, implied}
+use Rattle.theorems.proofs.Writes.{control-in}
+
+-- ---- a store later on: it holds the last ones of the set-points before
+
+abbrev pub Later : Store → Store → Type 0
+Later a b = (n : ℕ) × (points b ≡ drop n (points a))
+
+pub later-self : (a : Store) → Later a a
+later-self a = (0, refl)
+
+pub later-empty : (a : Store) → Later a Empty
+later-empty Empty = (0, refl)
+later-empty (Rested t) = (0, refl)
+later-empty (Moving p) = (1, refl)
+later-empty (Queued p q) = (2, refl)
+
+pub later-reached : (a : Store) → Later a (reached a)
+later-reached Empty = (0, refl)
+later-reached (Rested t) = (0, refl)
+later-reached (Moving p) = (1, refl)
+later-reached (Queued p q) = (1, refl)
+
+pub later-trans : (a b c : Store) → Later a b → Later b c → Later a c
+later-trans a b c f g = (f .0 + g .0, g .1 ∙ ap (drop (g .0)) (f .1) ∙ drop-drop (g .0) (f .0) (points a))
+
+later-emptied : (v : Drive) → Later (v .store) (emptied v .store)
+unfolding emptied
+later-emptied v = go (positions v)
+  where
+    go : (b : Bool) → Later (v .store) (cond b v (withMarks false false (withStore Empty v)) .store)
+    go true = later-self (v .store)
+    go false = later-empty (v .store)
+
+pub later-enters : (q : DriveState) (v : Drive) → Later (v .store) (enters q v .store)
+unfolding enters
+later-enters q v = later-emptied (withState q v)
+
+pub later-mode : (d : List ℕ) (v : Drive) → Later (v .store) (modeWritten d v .store)
+unfolding modeWritten
+later-mode d v = later-emptied _
+
+-- while bit 4 stays 1
+pub later-control : (d : List ℕ) (old : ℕ) (v : Drive) → bit newSetPointBit old ≡ true → bit newSetPointBit (read d controlWord) ≡ true → Later (v .store) (controlWritten d old v .drive .store)
+unfolding controlWritten
+later-control d old v before now =
+    let word = read d controlWord in
+    let w = enters (next (v .cause) (v .state) (command old word)) v in
+    subst (λ (x : Drive). Later (v .store) (x .store)) (sym (held-bit-takes-nothing d old word w before now)) (later-enters (next (v .cause) (v .state) (command old word)) v)
+
+-- ---- one control word takes at most one
+
+-- a set-point at most taken, and only where the flag says so
+abbrev Takes : Bool → Store → Store → Type 0
+Takes rose a b =
+    (n : ℕ) × (xs : List SetPoint) × (points b ≡ drop n (points a) ++ xs) × (length xs ≤ 1) × ((xs ≡ []) ⊎ (rose ≡ true))
+
+takes-none : (rose : Bool) (a b : Store) → Later a b → Takes rose a b
+takes-none rose a b f = (f .0, [], f .1 ∙ sym (append-nil (drop (f .0) (points a))), omega arith, inl refl)
+
+takes-behind : (a : Store) (p : SetPoint) → Takes true a (behind a p)
+takes-behind Empty p = (0, p ∷ [], refl, omega arith, inr refl)
+takes-behind (Rested t) p = (0, p ∷ [], refl, omega arith, inr refl)
+takes-behind (Moving q) p = (0, p ∷ [], refl, omega arith, inr refl)
+takes-behind (Queued q r) p = (0, [], refl, omega arith, inl refl)
+
+takes-all : (a : Store) (p : SetPoint) → Takes true a (Moving p)
+takes-all Empty p = (0, p ∷ [], refl, omega arith, inr refl)
+takes-all (Rested t) p = (0, p ∷ [], refl, omega arith, inr refl)
+takes-all (Moving q) p = (1, p ∷ [], refl, omega arith, inr refl)
+takes-all (Queued q r) p = (2, p ∷ [], refl, omega arith, inr refl)
+
+takes-offered : (d : List ℕ) (word : ℕ) (v : Drive) → Takes true (v .store) (offered d word v .store)
+unfolding offered SetPoints.take
+takes-offered d word v = go (not (bit atOnceBit word) && isQueued (v .store)) (withinLimits d (target d word (v .store))) (bit atOnceBit word)
+  where
+    p : SetPoint
+    p = setPoint d (target d word (v .store))
+
+    go : (a b c : Bool) → Takes true (v .store) (cond a v (cond b (withMarks true false (withStore (cond c (Moving p) (behind (v .store) p)) v)) (withMarks (v .taken) true v)) .store)
+    go true b c = takes-none true (v .store) (v .store) (later-self (v .store))
+    go false true true = takes-all (v .store) p
+    go false true false = takes-behind (v .store) p
+    go false false c = takes-none true (v .store) (v .store) (later-self (v .store))
+
+takes-rule : (d : List ℕ) (old word : ℕ) (v : Drive) → Takes (not (bit newSetPointBit old) && bit newSetPointBit word) (v .store) (setPointRule d old word v .store)
+unfolding setPointRule
+takes-rule d old word v = go (bit newSetPointBit word) (positions v) (bit newSetPointBit old)
+  where
+    go : (a b c : Bool) → Takes (not c && a) (v .store) (cond a (cond (b && not c) (offered d word v) v) (withMarks false (v .limit) v) .store)
+    go true true true = takes-none false (v .store) (v .store) (later-self (v .store))
+    go true true false = takes-offered d word v
+    go true false true = takes-none false (v .store) (v .store) (later-self (v .store))
+    go true false false = takes-none true (v .store) (v .store) (later-self (v .store))
+    go false b true = takes-none false (v .store) (v .store) (later-self (v .store))
+    go false b false = takes-none false (v .store) (v .store) (later-self (v .store))
+
+-- first the drive command, which takes nothing, then the rule
+takes-after : (rose : Bool) (a b c : Store) → Later a b → Takes rose b c → Takes rose a c
+takes-after rose a b c f g =
+    let xs = g .1 in
+    (f .0 + g .0, xs, g .2 ∙ ap (λ (l : List SetPoint). drop (g .0) l ++ xs) (f .1) ∙ ap (λ (l : List SetPoint). l ++ xs) (drop-drop (g .0) (f .0) (points a)), g .3, g .4)
+
+pub one-edge-takes-one : OneEdgeTakesOne
+unfolding controlWritten
+one-edge-takes-one d old v =
+    let word = read d controlWord in
+    let w = enters (next (v .cause) (v .state) (command old word)) v in
+    let t = takes-after _ (v .store) (w .store) (setPointRule d old word w .store) (later-enters (next (v .cause) (v .state) (command old word)) v) (takes-rule d old word w) in
+    (t .0, t .1, t .2, t .3, go (t .4))
+  where
+    go : {xs : List SetPoint} → (xs ≡ []) ⊎ ((not (bit newSetPointBit old) && bit newSetPointBit (read d controlWord)) ≡ true) → (xs ≡ []) ⊎ ((bit newSetPointBit old ≡ false) × (bit newSetPointBit (read d controlWord) ≡ true))
+    go (inl e) = inl e
+    go (inr e) = inr (not-false _ (and-left (not (bit newSetPointBit old)) _ e), and-right (not (bit newSetPointBit old)) _ e)
+
+-- ---- bit 4 stays 1 over writes that leave it so
+
+abbrev pub keeps : List Write → Bool
+keeps ws = all (λ w. not (same controlWord (w .row)) || bit newSetPointBit (w .value)) ws
+
+-- rows of the table, with values that fit them
+abbrev pub Fitting : List Write → Type 0
+Fitting ws = (w : Write) → In w ws → In (w .row) table × (w .value < 256 ^ sizeOf (w .row))
+
+pub bit-stays : (ws : List Write) (d : List ℕ) → length d ≡ dictionaryLength → Fitting ws → keeps ws ≡ true → bit newSetPointBit (read d controlWord) ≡ true → bit newSetPointBit (read (stored ws d) controlWord) ≡ true
+unfolding stored
+bit-stays [] d l fit k h = h
+bit-stays (w ∷ ws) d l fit k h =
+    bit-stays ws (store (w .row) (w .value) d) (length-store (w .row) (w .value) d ∙ l) (λ v i. fit v (there i)) (and-right (not (same controlWord (w .row)) || bit newSetPointBit (w .value)) (keeps ws) k)
+    (go (same-or-apart (fit w here .0) control-in))
+  where
+    go : (w .row ≡ controlWord) ⊎ (apart (w .row) controlWord ≡ true) → bit newSetPointBit (read (store (w .row) (w .value) d) controlWord) ≡ true
+    go (inl e) =
+        ap (bit newSetPointBit) (subst (λ (z : Row). read (store (w .row) (w .value) d) z ≡ w .value) e (read-same (w .row) (w .value) d (omega (arith, within (fit w here .0), l)) (fit w here .1)))
+        ∙ implied (same controlWord (w .row)) _ (and-left _ (keeps ws) k) (ap (same controlWord) e ∙ refl)
+    go (inr a) = ap (bit newSetPointBit) (read-apart (w .row) controlWord (w .value) d a) ∙ h
+
+-- ---- the services: what an effect leaves in the store
+
+abbrev pub LaterBy : State → Effect → Type 0
+LaterBy s e = Later (s .axis .drive .store) (e .state .axis .drive .store)
+
+pub applied-later : (ws : List Write) (s : State) (d : List ℕ) → length d ≡ dictionaryLength → Fitting ws → keeps ws ≡ true → bit newSetPointBit (read d controlWord) ≡ true → LaterBy s (applied ws s d)
+unfolding applied controlActed faultReset modeActed countRestarted
+applied-later ws s d l fit k h = go (wrote heartbeatTime ws) (wrote mode ws) (wrote controlWord ws) (λ t. controlWritten d1 (read d controlWord) (t .axis .drive) .reset)
+  where
+    d1 : List ℕ
+    d1 = stored ws d
+
+    held : bit newSetPointBit (read (stored ws d) controlWord) ≡ true
+    held = bit-stays ws d l fit k h
+
+    restarted : Bool → State
+    restarted a = cond a (withHeartbeat 0 s) s
+
+    moded : Bool → Bool → State
+    moded a b = cond b (withDrive (modeWritten d1 (restarted a .axis .drive)) (restarted a)) (restarted a)
+
+    first : (a b : Bool) → Later (s .axis .drive .store) (moded a b .axis .drive .store)
+    first true true = later-mode d1 (s .axis .drive)
+    first true false = later-self (s .axis .drive .store)
+    first false true = later-mode d1 (s .axis .drive)
+    first false false = later-self (s .axis .drive .store)
+
+    act : (c r : Bool) → State → Effect
+    act c r t = cond c (cond r (faultReset (withDrive (controlWritten d1 (read d controlWord) (t .axis .drive) .drive) t) d1) (becomes (withDrive (controlWritten d1 (read d controlWord) (t .axis .drive) .drive) t))) (becomes t)
+
+    second : (c r : Bool) (t : State) → Later (t .axis .drive .store) (act c r t .state .axis .drive .store)
+    second true true t = later-control d1 (read d controlWord) (t .axis .drive) h held
+    second true false t = later-control d1 (read d controlWord) (t .axis .drive) h held
+    second false r t = later-self (t .axis .drive .store)
+
+    go : (a b c : Bool) (r : State → Bool) → Later (s .axis .drive .store) (act c (r (moded a b)) (moded a b) .state .axis .drive .store)
+    go a b c r = later-trans (s .axis .drive .store) (moded a b .axis .drive .store) (act c (r (moded a b)) (moded a b) .state .axis .drive .store) (first a b) (second c (r (moded a b)) (moded a b))
