@@ -11,6 +11,8 @@ use Rattle.rules_dictionary.specs.declared.Mode.{Mode}
 use Rattle.rules_dictionary.specs.declared.Mode.the-variants.{NoMode, ProfilePosition, ProfileVelocity}
 use Rattle.drive.specs.declared.DriveState.{DriveState}
 use Rattle.drive.specs.declared.DriveState.the-variants.{NotReady, SwitchOnDisabled, ReadyToSwitchOn, SwitchedOn, OperationEnabled, QuickStopActive, FaultReactionActive, Fault}
+use Rattle.drive.specs.declared.Command.{Command}
+use Rattle.drive.specs.declared.Command.the-variants.{None, FaultReset, DisableVoltage, QuickStop, Shutdown, SwitchOn, Enable}
 use Rattle.drive.specs.declared.SetPoint.{SetPoint}
 use Rattle.drive.specs.declared.Store.{Store}
 use Rattle.drive.specs.declared.Store.the-variants.{Empty, Rested, Moving, Queued}
@@ -18,7 +20,7 @@ use Rattle.drive.specs.declared.Drive.{Drive}
 use Rattle.rules_dictionary.specs.Numbers.{bit, open-numbers}
 use Rattle.rules_dictionary.specs.Table.{controlWord, mode, position, positionWindow, targetPosition, minimumPosition, maximumPosition, velocity, velocityWindow, velocityThreshold, targetVelocity, profileVelocity, profileAcceleration, profileDeceleration, dictionaryLength, open-table}
 use Rattle.rules_dictionary.specs.Values.{Write, write, stored, open-values}
-use Rattle.drive.specs.DriveStates.{Command, none, faultReset, disableVoltage, quickStop, shutdown, switchOn, enable, command, next, resets, open-drive-states}
+use Rattle.drive.specs.DriveStates.{command, next, resets, open-drive-states}
 use Rattle.drive.specs.SetPoints.{offered, controlWritten, modeWritten, setPointRule, enters, open-set-points}
 use Rattle.drive.specs.StatusWord.{status, open-status-word}
 
@@ -26,13 +28,13 @@ use Rattle.drive.specs.StatusWord.{status, open-status-word}
 
 -- from a word with bit 7 clear, and from one with bit 7 set
 commands-read : (map (command 0x000F) (0x80 ∷ 0x8F ∷ 0x00 ∷ 0x0D ∷ 0x02 ∷ 0x0B ∷ 0x06 ∷ 0x0E ∷ 0x07 ∷ 0x0F ∷ 0x1F ∷ [])
-    ≡ faultReset ∷ faultReset ∷ disableVoltage ∷ disableVoltage ∷ quickStop ∷ quickStop ∷ shutdown ∷ shutdown ∷ switchOn ∷ enable ∷ enable ∷ [])
-    × (map (command 0x0080) (0x80 ∷ 0x8F ∷ 0x06 ∷ []) ≡ none ∷ none ∷ shutdown ∷ [])
+    ≡ FaultReset ∷ FaultReset ∷ DisableVoltage ∷ DisableVoltage ∷ QuickStop ∷ QuickStop ∷ Shutdown ∷ Shutdown ∷ SwitchOn ∷ Enable ∷ Enable ∷ [])
+    × (map (command 0x0080) (0x80 ∷ 0x8F ∷ 0x06 ∷ []) ≡ None ∷ None ∷ Shutdown ∷ [])
 unfolding open-drive-states
 commands-read = (refl, refl)
 
 commands : List Command
-commands = none ∷ faultReset ∷ disableVoltage ∷ quickStop ∷ shutdown ∷ switchOn ∷ enable ∷ []
+commands = None ∷ FaultReset ∷ DisableVoltage ∷ QuickStop ∷ Shutdown ∷ SwitchOn ∷ Enable ∷ []
 
 row : Bool → DriveState → List DriveState
 row cause s = map (next cause s) commands
@@ -51,7 +53,7 @@ unfolding row commands open-drive-states
 drive-table = (refl, refl, refl, refl, refl, refl, refl, refl, refl)
 
 -- a reset is one only in Fault and without cause
-resets-told : (resets false Fault faultReset ≡ true) × (resets true Fault faultReset ≡ false) × (resets false FaultReactionActive faultReset ≡ false)
+resets-told : (resets false Fault FaultReset ≡ true) × (resets true Fault FaultReset ≡ false) × (resets false FaultReactionActive FaultReset ≡ false)
 unfolding open-drive-states
 resets-told = (refl, refl, refl)
 

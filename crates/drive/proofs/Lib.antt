@@ -1,2 +1,5 @@
 pub mod Edges
 pub mod Tempting
+pub mod Raised
+pub mod Ways
+pub mod Shown

@@ -4,6 +4,8 @@ use Prim.Native.Nat.{ℕ}
 use mathlib.Core.Bool.{Bool, true, false, cond, not, _&&_, _||_}
 use Rattle.drive.specs.declared.DriveState.{DriveState}
 use Rattle.drive.specs.declared.DriveState.the-variants.{NotReady, SwitchOnDisabled, ReadyToSwitchOn, SwitchedOn, OperationEnabled, QuickStopActive, FaultReactionActive, Fault}
+use Rattle.drive.specs.declared.Command.{Command}
+use Rattle.drive.specs.declared.Command.the-variants.{None, FaultReset, DisableVoltage, QuickStop, Shutdown, SwitchOn, Enable}
 use Rattle.rules_dictionary.specs.Numbers.{bit}
 
 -- ---- tests of the state
@@ -81,70 +83,71 @@ faultResetBit = 7
 
 -- ---- the commands
 
-pub data Command : Type 0 where
-  none faultReset disableVoltage quickStop shutdown switchOn enable : Command
-
 abbrev pub isFaultReset : Command → Bool
-isFaultReset none = false
-isFaultReset faultReset = true
-isFaultReset disableVoltage = false
-isFaultReset quickStop = false
-isFaultReset shutdown = false
-isFaultReset switchOn = false
-isFaultReset enable = false
+isFaultReset None = false
+isFaultReset FaultReset = true
+isFaultReset DisableVoltage = false
+isFaultReset QuickStop = false
+isFaultReset Shutdown = false
+isFaultReset SwitchOn = false
+isFaultReset Enable = false
 
 -- "Bit 7 set: Fault reset if it was 0 before, else none. Otherwise: bit 1 zero, Disable voltage; bit 1 one, bit 2 zero, Quick
--- stop; 1 1 0 (bits 2-0) Shutdown; 0111 Switch on; 1111 Enable."
+-- stop; 1 1 0 (bits 2-0) Shutdown; 0111 Switch on; 1111 Enable." The flags: bit 7, that of the old word, bits 1, 2, 0 and 3
+abbrev pub asked : Bool → Bool → Bool → Bool → Bool → Bool → Command
+asked reset wasReset voltage quickStop switchOn enable =
+    cond reset (cond wasReset None FaultReset)
+    (cond (not voltage) DisableVoltage
+    (cond (not quickStop) QuickStop
+    (cond (not switchOn) Shutdown
+    (cond (not enable) SwitchOn Enable))))
+
 unfoldable pub command : ℕ → ℕ → Command
 command old word =
-    cond (bit faultResetBit word) (cond (bit faultResetBit old) none faultReset)
-    (cond (not (bit voltageBit word)) disableVoltage
-    (cond (not (bit quickStopBit word)) quickStop
-    (cond (not (bit switchOnBit word)) shutdown
-    (cond (not (bit enableBit word)) switchOn enable))))
+    asked (bit faultResetBit word) (bit faultResetBit old) (bit voltageBit word) (bit quickStopBit word) (bit switchOnBit word) (bit enableBit word)
 
 -- ---- what each does
 
 -- "Switch on disabled: Shutdown to Ready."
 abbrev pub fromDisabled : Command → DriveState
-fromDisabled none = SwitchOnDisabled
-fromDisabled faultReset = SwitchOnDisabled
-fromDisabled disableVoltage = SwitchOnDisabled
-fromDisabled quickStop = SwitchOnDisabled
-fromDisabled shutdown = ReadyToSwitchOn
-fromDisabled switchOn = SwitchOnDisabled
-fromDisabled enable = SwitchOnDisabled
+fromDisabled None = SwitchOnDisabled
+fromDisabled FaultReset = SwitchOnDisabled
+fromDisabled DisableVoltage = SwitchOnDisabled
+fromDisabled QuickStop = SwitchOnDisabled
+fromDisabled Shutdown = ReadyToSwitchOn
+fromDisabled SwitchOn = SwitchOnDisabled
+fromDisabled Enable = SwitchOnDisabled
 
 -- "Ready, Switched on, Operation enabled: Shutdown to Ready, Switch on to Switched on, Enable to Operation enabled; Disable
 -- voltage to disabled; Quick stop to disabled, but from Operation enabled to Quick stop active."
 abbrev pub fromPowered : DriveState → DriveState → Command → DriveState
-fromPowered present stopped none = present
-fromPowered present stopped faultReset = present
-fromPowered present stopped disableVoltage = SwitchOnDisabled
-fromPowered present stopped quickStop = stopped
-fromPowered present stopped shutdown = ReadyToSwitchOn
-fromPowered present stopped switchOn = SwitchedOn
-fromPowered present stopped enable = OperationEnabled
+fromPowered present stopped None = present
+fromPowered present stopped FaultReset = present
+fromPowered present stopped DisableVoltage = SwitchOnDisabled
+fromPowered present stopped QuickStop = stopped
+fromPowered present stopped Shutdown = ReadyToSwitchOn
+fromPowered present stopped SwitchOn = SwitchedOn
+fromPowered present stopped Enable = OperationEnabled
 
 -- "Quick stop active: Enable back; Disable voltage .. to disabled."
 abbrev pub fromQuickStop : Command → DriveState
-fromQuickStop none = QuickStopActive
-fromQuickStop faultReset = QuickStopActive
-fromQuickStop disableVoltage = SwitchOnDisabled
-fromQuickStop quickStop = QuickStopActive
-fromQuickStop shutdown = QuickStopActive
-fromQuickStop switchOn = QuickStopActive
-fromQuickStop enable = OperationEnabled
+fromQuickStop None = QuickStopActive
+fromQuickStop FaultReset = QuickStopActive
+fromQuickStop DisableVoltage = SwitchOnDisabled
+fromQuickStop QuickStop = QuickStopActive
+fromQuickStop Shutdown = QuickStopActive
+fromQuickStop SwitchOn = QuickStopActive
+fromQuickStop Enable = OperationEnabled
 
 -- "Fault: Fault reset without cause to disabled"
 abbrev pub fromFault : Bool → Command → DriveState
-fromFault cause none = Fault
-fromFault cause faultReset = cond cause Fault SwitchOnDisabled
-fromFault cause disableVoltage = Fault
-fromFault cause quickStop = Fault
-fromFault cause shutdown = Fault
-fromFault cause switchOn = Fault
-fromFault cause enable = Fault
+fromFault cause None = Fault
+fromFault cause FaultReset = cond cause Fault SwitchOnDisabled
+fromFault cause DisableVoltage = Fault
+fromFault cause QuickStop = Fault
+fromFault cause Shutdown = Fault
+fromFault cause SwitchOn = Fault
+fromFault cause Enable = Fault
 
 -- the state after a command; the flag says whether a fault's cause is present. "Nothing else."
 unfoldable pub next : Bool → DriveState → Command → DriveState

@@ -1,3 +1,4 @@
 pub mod DriveStates
 pub mod SetPoints
 pub mod StatusWord
+pub mod Words

@@ -37,27 +37,39 @@ ackShown = 12
 abbrev pub haltBit : ℕ
 haltBit = 8
 
+-- that weight, where the flag is set
+abbrev pub shown : ℕ → Bool → ℕ
+shown weight true = weight
+shown weight false = 0
+
 -- that bit, where the flag is set
 abbrev pub flag : ℕ → Bool → ℕ
-flag k true = 2 ^ k
-flag k false = 0
+flag k on = shown (2 ^ k) on
 
 -- "magnitude of 606Ch at most 606Fh", "within 6067h": the ends count, and nothing wraps
 abbrev pub within : ℕ → ℤ → ℤ → Bool
 within window a b = leb (natAbs (a -ℤ b)) window
 
+-- "magnitude of 606Ch at most 606Fh"
+unfoldable pub slow : List ℕ → Bool
+slow d = leb (natAbs (integer (read d velocity))) (read d velocityThreshold)
+
 -- "bit 12 in mode 1, taken or Queued; in mode 3, magnitude of 606Ch at most 606Fh"
 unfoldable pub ackInMode : Mode → Drive → List ℕ → Bool
 ackInMode NoMode v d = false
 ackInMode ProfilePosition v d = v .taken || isQueued (v .store)
-ackInMode ProfileVelocity v d = leb (natAbs (integer (read d velocity))) (read d velocityThreshold)
+ackInMode ProfileVelocity v d = slow d
+
+-- "active target within 6067h of 6064h"
+unfoldable pub near : ℕ → List ℕ → Bool
+near t d = within (read d positionWindow) (integer t) (integer (read d position))
 
 -- "in mode 1 Rested or active target within 6067h of 6064h (Empty: 0)"
 unfoldable pub positionReached : Store → List ℕ → Bool
 positionReached Empty d = false
 positionReached (Rested t) d = true
-positionReached (Moving a) d = within (read d positionWindow) (integer (a .target)) (integer (read d position))
-positionReached (Queued a b) d = within (read d positionWindow) (integer (a .target)) (integer (read d position))
+positionReached (Moving a) d = near (a .target) d
+positionReached (Queued a b) d = near (a .target) d
 
 -- "in mode 3 60FFh within 606Dh of 606Ch"
 unfoldable pub velocityReached : List ℕ → Bool
@@ -86,5 +98,5 @@ status remote voltage v d =
 
 -- opens every definition of this module, where a proof computes
 unfoldable pub open-status-word : Unit {0}
-unfolding ackInMode positionReached velocityReached standsStill reachedInMode enabledBits status
+unfolding slow near ackInMode positionReached velocityReached standsStill reachedInMode enabledBits status
 open-status-word = tt

@@ -1,5 +1,12 @@
-// Document 01, 'Drive states' and 'Set-points': the drive and its rules, in specs/.
-// DriveStates: the commands of 6040h and the states. SetPoints: the store, its marks, the edge of bit 4. StatusWord: 6041h.
+// Document 01, 'Drive states' and 'Set-points': the drive and its rules, defined in specs/.
+// states: the commands of 6040h and the states. set_points: the store, its marks, the edge of bit 4. status: 6041h.
+// words: what the integers of the rules are in words of 32 bits. places: where the drive's entries stand in the dictionary.
+
+mod places;
+pub mod set_points;
+pub mod states;
+pub mod status;
+mod words;
 
 use rules_dictionary::Mode;
 
@@ -13,6 +20,17 @@ pub enum DriveState {
     QuickStopActive,
     FaultReactionActive,
     Fault,
+}
+
+// What a control word asks of the drive.
+pub enum Command {
+    None,
+    FaultReset,
+    DisableVoltage,
+    QuickStop,
+    Shutdown,
+    SwitchOn,
+    Enable,
 }
 
 // What is taken at one rising edge of bit 4. The target is a word of 32 bits, as 607Ah holds it.
@@ -45,4 +63,10 @@ pub struct Drive {
 pub struct Controlled {
     pub drive: Drive,
     pub reset: bool,
+}
+
+// Where a set-point is aimed: at a target, as a word, or outside the limits.
+pub enum Aim {
+    At(u32),
+    Outside,
 }

@@ -14,7 +14,8 @@ use Rattle.state.specs.declared.State.{State}
 use Rattle.rules_dictionary.specs.Numbers.{between, filter}
 use Rattle.rules_dictionary.specs.Table.{Row, table, same, errorRegister, heartbeatTime}
 use Rattle.rules_dictionary.specs.Values.{read, toDefaults}
-use Rattle.drive.specs.DriveStates.{next, disableVoltage}
+use Rattle.drive.specs.declared.Command.the-variants.{DisableVoltage}
+use Rattle.drive.specs.DriveStates.{next}
 use Rattle.drive.specs.SetPoints.{enters}
 use Rattle.rules_services.specs.Effects.{Effect, Frame, frame, becomes, sends, writes, withDrive, withHeld, withPacing, withNmt, withHeartbeat, isOperational, isPreOperational}
 use Rattle.rules_services.specs.PdoTraffic.{noneHeld}
@@ -102,7 +103,7 @@ left s = withHeld noneHeld (withPacing noCounts noneDue s)
 unfoldable pub voltageDisabled : State → State
 voltageDisabled s =
     let v = s .axis .drive in
-    withDrive (enters (next (v .cause) (v .state) disableVoltage) v) s
+    withDrive (enters (next (v .cause) (v .state) DisableVoltage) v) s
 
 abbrev pub firstCommunication : ℕ
 firstCommunication = 0x1000

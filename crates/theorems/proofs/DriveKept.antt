@@ -15,7 +15,9 @@ use Rattle.rules_dictionary.specs.Numbers.{bit}
 use Rattle.rules_dictionary.specs.Table.{controlWord, mode}
 use Rattle.rules_dictionary.specs.Values.{read}
 use Rattle.rules_dictionary.proofs.Tests.{and-left, and-right, and-both}
-use Rattle.drive.specs.DriveStates.{Command, none, faultReset, disableVoltage, quickStop, shutdown, switchOn, enable, isNotReady, isQuickStop, isReaction, isFault, isFaulty, command, next}
+use Rattle.drive.specs.declared.Command.{Command}
+use Rattle.drive.specs.declared.Command.the-variants.{None, FaultReset, DisableVoltage, QuickStop, Shutdown, SwitchOn, Enable}
+use Rattle.drive.specs.DriveStates.{isNotReady, isQuickStop, isReaction, isFault, isFaulty, command, next}
 use Rattle.drive.specs.SetPoints.{positions, emptied, enters, withState, withMode, withStore, withMarks, withCause, isEmpty, isMoving, isQueued, reached, behind, take, offered, target, withinLimits, setPoint, setPointRule, modeWritten, modeOf, controlWritten, newSetPointBit, atOnceBit}
 use Rattle.rules.specs.Sound.{storeInPlace, takenInPlace, causeInPlace, driveSound}
 use Rattle.theorems.proofs.Booleans.{either, clash, implied, implies, not-false}
@@ -89,13 +91,13 @@ fault-stays SwitchedOn c h = clash false h refl
 fault-stays OperationEnabled c h = clash false h refl
 fault-stays QuickStopActive c h = clash false h refl
 fault-stays FaultReactionActive c h = refl
-fault-stays Fault none h = refl
-fault-stays Fault faultReset h = refl
-fault-stays Fault disableVoltage h = refl
-fault-stays Fault quickStop h = refl
-fault-stays Fault shutdown h = refl
-fault-stays Fault switchOn h = refl
-fault-stays Fault enable h = refl
+fault-stays Fault None h = refl
+fault-stays Fault FaultReset h = refl
+fault-stays Fault DisableVoltage h = refl
+fault-stays Fault QuickStop h = refl
+fault-stays Fault Shutdown h = refl
+fault-stays Fault SwitchOn h = refl
+fault-stays Fault Enable h = refl
 
 pub next-cause : (v : Drive) (c : Command) → causeInPlace v ≡ true → v .cause ≡ true → isFaulty (next (v .cause) (v .state) c) ≡ true
 unfolding causeInPlace

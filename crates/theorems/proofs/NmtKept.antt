@@ -25,7 +25,8 @@ use Rattle.rules_dictionary.proofs.Members.{words-read, identifier-in, count-in
 use Rattle.rules_dictionary.proofs.Rows.{length-store, length-stored, read-same, read-apart, field-stored}
 use Rattle.rules_dictionary.proofs.Packing.{apart, within, same-or-apart, found-in}
 use Rattle.rules_dictionary.proofs.Defaults.{defaults-in-range}
-use Rattle.drive.specs.DriveStates.{next, disableVoltage}
+use Rattle.drive.specs.declared.Command.the-variants.{DisableVoltage}
+use Rattle.drive.specs.DriveStates.{next}
 use Rattle.drive.specs.SetPoints.{enters}
 use Rattle.rules_services.specs.Effects.{Effect, becomes, sends, withDrive, withHeld, withPacing, withNmt, withHeartbeat, isOperational, isPreOperational}
 use Rattle.rules_services.specs.PdoTraffic.{works, typeOf, noneHeld}
@@ -111,10 +112,10 @@ pub disabled-lawful : (s : State) (d : List ℕ) → Lawful s d → Lawful (volt
 unfolding voltageDisabled enters driveSound
 disabled-lawful s d law =
     let v = s .axis .drive in
-    let q = next (v .cause) (v .state) disableVoltage in
+    let q = next (v .cause) (v .state) DisableVoltage in
     drive-lawful s d (enters q v) law (emptied-mode _)
     (enters-sound q v d (and-right (storeInPlace v) (takenInPlace v d) (and-left _ (causeInPlace v) (law .drive)))
-    (next-cause v disableVoltage (and-right (storeInPlace v && takenInPlace v d) (causeInPlace v) (law .drive))))
+    (next-cause v DisableVoltage (and-right (storeInPlace v && takenInPlace v d) (causeInPlace v) (law .drive))))
 
 -- ---- ticks
 

@@ -28,7 +28,9 @@ use Rattle.rules_dictionary.specs.Plans.{mapped, pdoData, joined, readyOf, read
 use Rattle.rules_dictionary.specs.Values.{Write, write, field, read, store, stored, unpacked}
 use Rattle.rules_dictionary.proofs.Tests.{and-left, and-right, and-both, In, here, there}
 use Rattle.rules_dictionary.proofs.Rows.{part-bytes, all-take, store-bytes, stored-bytes, length-store, length-stored}
-use Rattle.drive.specs.DriveStates.{Command, none, faultReset as resetCommand, disableVoltage, quickStop, shutdown, switchOn, enable, isFault, isFaultReset, command, next, resets, fromPowered, fromQuickStop}
+use Rattle.drive.specs.declared.Command.{Command}
+use Rattle.drive.specs.declared.Command.the-variants.{None, FaultReset, DisableVoltage, QuickStop, Shutdown, SwitchOn, Enable}
+use Rattle.drive.specs.DriveStates.{isFault, isFaultReset, command, next, resets, fromPowered, fromQuickStop}
 use Rattle.drive.specs.SetPoints.{enters, emptied, withState, setPointRule, modeWritten, controlWritten, withMode, modeOf}
 use Rattle.rules_services.specs.Effects.{Frame, frame, Effect, becomes, sends, writes, syncs, isStopped, isOperational, isPreOperational, withNmt, withDrive, withHeartbeat, withHeld, andThen}
 use Rattle.rules_services.specs.Emergency.{emergency, faultGone, pdoTooShort, pdoTooLong, valueRefused, syncLength}
@@ -52,33 +54,33 @@ use Rattle.theorems.proofs.Sent.{laid-out, all-append, ofBytes, padded-
 -- ---- one fault reset at the most: after it, and outside Fault, there is none
 
 powered : (present stopped : DriveState) (c : Command) → isFault present ≡ false → isFault stopped ≡ false → isFault (fromPowered present stopped c) ≡ false
-powered present stopped none h k = h
-powered present stopped resetCommand h k = h
-powered present stopped disableVoltage h k = refl
-powered present stopped quickStop h k = k
-powered present stopped shutdown h k = refl
-powered present stopped switchOn h k = refl
-powered present stopped enable h k = refl
+powered present stopped None h k = h
+powered present stopped FaultReset h k = h
+powered present stopped DisableVoltage h k = refl
+powered present stopped QuickStop h k = k
+powered present stopped Shutdown h k = refl
+powered present stopped SwitchOn h k = refl
+powered present stopped Enable h k = refl
 
 stopping : (c : Command) → isFault (fromQuickStop c) ≡ false
-stopping none = refl
-stopping resetCommand = refl
-stopping disableVoltage = refl
-stopping quickStop = refl
-stopping shutdown = refl
-stopping switchOn = refl
-stopping enable = refl
+stopping None = refl
+stopping FaultReset = refl
+stopping DisableVoltage = refl
+stopping QuickStop = refl
+stopping Shutdown = refl
+stopping SwitchOn = refl
+stopping Enable = refl
 
 not-fault-next : (cause : Bool) (s : DriveState) (c : Command) → isFault s ≡ false → isFault (next cause s c) ≡ false
 unfolding next
 not-fault-next cause NotReady c h = refl
-not-fault-next cause SwitchOnDisabled none h = refl
-not-fault-next cause SwitchOnDisabled resetCommand h = refl
-not-fault-next cause SwitchOnDisabled disableVoltage h = refl
-not-fault-next cause SwitchOnDisabled quickStop h = refl
-not-fault-next cause SwitchOnDisabled shutdown h = refl
-not-fault-next cause SwitchOnDisabled switchOn h = refl
-not-fault-next cause SwitchOnDisabled enable h = refl
+not-fault-next cause SwitchOnDisabled None h = refl
+not-fault-next cause SwitchOnDisabled FaultReset h = refl
+not-fault-next cause SwitchOnDisabled DisableVoltage h = refl
+not-fault-next cause SwitchOnDisabled QuickStop h = refl
+not-fault-next cause SwitchOnDisabled Shutdown h = refl
+not-fault-next cause SwitchOnDisabled SwitchOn h = refl
+not-fault-next cause SwitchOnDisabled Enable h = refl
 not-fault-next cause ReadyToSwitchOn c h = powered ReadyToSwitchOn SwitchOnDisabled c refl refl
 not-fault-next cause SwitchedOn c h = powered SwitchedOn SwitchOnDisabled c refl refl
 not-fault-next cause OperationEnabled c h = powered OperationEnabled QuickStopActive c refl refl
@@ -96,14 +98,14 @@ reset-leaves cause SwitchedOn c h = clash false h refl
 reset-leaves cause OperationEnabled c h = clash false h refl
 reset-leaves cause QuickStopActive c h = clash false h refl
 reset-leaves cause FaultReactionActive c h = refl
-reset-leaves cause Fault none h = clash false h refl
-reset-leaves true Fault resetCommand h = clash false h refl
-reset-leaves false Fault resetCommand h = refl
-reset-leaves cause Fault disableVoltage h = clash false h refl
-reset-leaves cause Fault quickStop h = clash false h refl
-reset-leaves cause Fault shutdown h = clash false h refl
-reset-leaves cause Fault switchOn h = clash false h refl
-reset-leaves cause Fault enable h = clash false h refl
+reset-leaves cause Fault None h = clash false h refl
+reset-leaves true Fault FaultReset h = clash false h refl
+reset-leaves false Fault FaultReset h = refl
+reset-leaves cause Fault DisableVoltage h = clash false h refl
+reset-leaves cause Fault QuickStop h = clash false h refl
+reset-leaves cause Fault Shutdown h = clash false h refl
+reset-leaves cause Fault SwitchOn h = clash false h refl
+reset-leaves cause Fault Enable h = clash false h refl
 
 pub control-state : (d : List ℕ) (old : ℕ) (v : Drive) → controlWritten d old v .drive .state ≡ next (v .cause) (v .state) (command old (read d controlWord))
 unfolding controlWritten enters

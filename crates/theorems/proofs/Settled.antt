@@ -24,7 +24,7 @@ use Rattle.rules_dictionary.proofs.Tests.{In}
 use Rattle.rules_dictionary.proofs.Packing.{apart, same-or-apart, found-in, within}
 use Rattle.rules_dictionary.proofs.Rows.{read-apart, read-same, length-store}
 use Rattle.drive.specs.DriveStates.{stateWord, isEnabled}
-use Rattle.drive.specs.StatusWord.{status, enabledBits, ackInMode, reachedInMode, positionReached, velocityReached, standsStill, flag}
+use Rattle.drive.specs.StatusWord.{status, enabledBits, ackInMode, reachedInMode, positionReached, velocityReached, standsStill, flag, slow, near}
 use Rattle.rules.specs.Outcome.{settled, statusOf}
 use Rattle.rules.specs.Sound.{inRange}
 use Rattle.theorems.proofs.Booleans.{clash}
@@ -72,13 +72,13 @@ pub record SameMotion (d d′ : List ℕ) : Type 0 where
 
 module _ (d d′ : List ℕ) (h : SameMotion d d′) where
   ack-same : (m : Mode) (v : Drive) → ackInMode m v d′ ≡ ackInMode m v d
-  unfolding ackInMode
+  unfolding ackInMode slow
   ack-same NoMode v = refl
   ack-same ProfilePosition v = refl
   ack-same ProfileVelocity v = rw (h .speed, h .threshold)
 
   position-same : (s : Store) → positionReached s d′ ≡ positionReached s d
-  unfolding positionReached
+  unfolding positionReached near
   position-same Empty = refl
   position-same (Rested t) = refl
   position-same (Moving a) = rw (h .window, h .place)

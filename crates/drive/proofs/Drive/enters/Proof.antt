@@ -1,0 +1,19 @@
+-- `drive::Drive::enters` meets its contract. Assumes nothing.
+use mathlib.Core.Path.{_∙_, ap}
+use borrow.Author.Needs.{needs}
+use Rattle.drive.specs.SetPoints.{emptied, enters}
+use Rattle.drive.proofs.Drive.enters.Statement.{statement}
+use Rattle.drive.proofs.Drive.enters.Tie as tie
+
+with-state-requires : tie.Need-with-state-requires
+with-state-requires c κs = search needs
+
+emptied-requires : tie.Need-emptied-requires
+emptied-requires c κs = search needs
+
+returns : tie.Need-returns
+unfolding enters
+returns c = c .emptied .ensures ∙ ap emptied (c .before .with-state .ensures)
+
+pub enters-spec : {M : Type 1} → statement M
+enters-spec = tie.close (tie.spec with-state-requires emptied-requires returns)

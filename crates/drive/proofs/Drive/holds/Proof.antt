@@ -1,0 +1,19 @@
+-- `drive::Drive::holds` meets its contract. Assumes nothing.
+use mathlib.Core.Path.{_∙_, ap}
+use mathlib.Core.Bool.{true, false}
+use borrow.Author.Needs.{needs}
+use Rattle.drive.specs.SetPoints.{withMarks}
+use Rattle.drive.proofs.Drive.holds.Statement.{statement}
+use Rattle.drive.proofs.Drive.holds.Tie as tie
+
+with-store-requires : tie.Need-with-store-requires
+with-store-requires c κs = search needs
+
+with-marks-requires : tie.Need-with-marks-requires
+with-marks-requires c κs = search needs
+
+returns : tie.Need-returns
+returns c = c .with-marks .ensures ∙ ap (withMarks true false) (c .before .with-store .ensures)
+
+pub holds-spec : {M : Type 1} → statement M
+holds-spec = tie.close (tie.spec with-store-requires with-marks-requires returns)

@@ -1,0 +1,61 @@
+-- `drive::Drive::set_point_rule` meets its contract. Assumes nothing.
+use mathlib.Core.Path.{_∙_, sym}
+use borrow.Author.Tests.{not-true, not-false}
+use borrow.Author.Needs.{needs}
+use Rattle.drive.proofs.Tempting.{held-bit-takes-nothing}
+use Rattle.drive.proofs.Ways.{rule-falls, rule-offers, rule-idle}
+use Rattle.drive.proofs.Drive.set_point_rule.Statement.{statement}
+use Rattle.drive.proofs.Drive.set_point_rule.Tie as tie
+
+has-requires : tie.Need-has-requires
+has-requires c κs = search needs
+
+with-marks-requires : tie.Need-with-marks-requires
+with-marks-requires c κs = search needs
+
+returns : tie.Need-returns
+returns c =
+    let a = c .before .before .before .before .args in
+    c .with-marks .ensures ∙ rule-falls (a .d .now) (a .old) (a .word) (a .self) (sym (c .before .before .has .ensures) ∙ not-true _ (c .before .if1 .taken))
+
+has-requires-2 : tie.Need-has-requires-2
+has-requires-2 c κs = search needs
+
+returns-2 : tie.Need-returns-2
+returns-2 c =
+    let a = c .before .before .before .before .before .args in
+    sym
+    (held-bit-takes-nothing (a .d .now) (a .old) (a .word) (a .self) (sym (c .before .has2 .ensures) ∙ c .if2 .taken)
+    (sym (c .before .before .before .has .ensures) ∙ not-false _ (c .before .before .if1 .left)))
+
+positions-requires : tie.Need-positions-requires
+positions-requires c κs = search needs
+
+offered-requires : tie.Need-offered-requires
+offered-requires c κs = search needs
+
+returns-3 : tie.Need-returns-3
+returns-3 c =
+    let a = c .before .before .before .before .before .before .before .before .args in
+    c .offered .ensures
+    ∙ rule-offers (a .d .now) (a .old) (a .word) (a .self) (sym (c .before .before .before .before .before .before .has .ensures) ∙ not-false _ (c .before .before .before .before .before .if1 .left)) (sym (c .before .before .before .before .has2 .ensures) ∙ c .before .before .before .if2 .left)
+    (sym (c .before .before .positions .ensures) ∙ c .before .if3 .taken)
+
+returns-4 : tie.Need-returns-4
+returns-4 c =
+    let a = c .before .before .before .before .before .before .before .args in
+    rule-idle (a .d .now) (a .old) (a .word) (a .self) (sym (c .before .before .before .before .before .has .ensures) ∙ not-false _ (c .before .before .before .before .if1 .left)) (sym (c .before .positions .ensures) ∙ c .if3 .left)
+
+pub set-point-rule-spec : {M : Type 1} → statement M
+set-point-rule-spec =
+    tie.close
+    (tie.spec
+    has-requires
+    with-marks-requires
+    returns
+    has-requires-2
+    returns-2
+    positions-requires
+    offered-requires
+    returns-3
+    returns-4)

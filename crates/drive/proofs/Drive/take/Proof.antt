@@ -1,0 +1,37 @@
+-- `drive::Drive::take` meets its contract. Assumes nothing.
+use mathlib.Core.Path.{_∙_, sym, ap}
+use mathlib.Core.Bool.{true, false}
+use borrow.Author.Needs.{needs}
+use Rattle.drive.specs.SetPoints.{withMarks, withStore}
+use Rattle.drive.proofs.Ways.{take-at-once, take-behind}
+use Rattle.drive.proofs.Drive.take.Statement.{statement}
+use Rattle.drive.proofs.Drive.take.Tie as tie
+
+has-requires : tie.Need-has-requires
+has-requires c κs = search needs
+
+holds-requires : tie.Need-holds-requires
+holds-requires c κs = search needs
+
+behind-requires : tie.Need-behind-requires
+behind-requires c κs = search needs
+
+holds-requires-2 : tie.Need-holds-requires-2
+holds-requires-2 c κs = search needs
+
+returns : tie.Need-returns
+returns c =
+    let a = c .before .before .before .args in
+    c .holds .ensures ∙ take-at-once (a .word) (a .p) (a .self) (sym (c .before .before .has .ensures) ∙ c .before .if1 .taken)
+
+returns-2 : tie.Need-returns-2
+returns-2 c =
+    let a = c .before .before .before .before .args in
+    c .holds2 .ensures
+    ∙ ap (λ s. withMarks true false (withStore s (a .self))) (c .before .behind .ensures)
+    ∙ take-behind (a .word) (a .p) (a .self) (sym (c .before .before .before .has .ensures) ∙ c .before .before .if1 .left)
+
+pub take-spec : {M : Type 1} → statement M
+take-spec =
+    tie.close
+    (tie.spec has-requires holds-requires behind-requires holds-requires-2 returns returns-2)

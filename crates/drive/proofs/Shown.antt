@@ -1,0 +1,57 @@
+-- What the parts of the status word come to, and the ways through its rules.
+-- Assumes nothing.
+use Prim.Native.Nat.{ℕ, _+_, _≤_}
+use mathlib.Core.Path.{_≡_, ap}
+use mathlib.Core.Bool.{Bool, true, false}
+use mathlib.Core.List.{List}
+use native.Mathlib.Omega.{arith}
+use lib.Dec.{leb}
+use lib.IntN.{natAbs, +ℤ-idr}
+use Rattle.rules_dictionary.specs.Numbers.{integer}
+use Rattle.drive.specs.declared.DriveState.{DriveState}
+use Rattle.drive.specs.declared.DriveState.the-variants.{NotReady, SwitchOnDisabled, ReadyToSwitchOn, SwitchedOn, OperationEnabled, QuickStopActive, FaultReactionActive, Fault}
+use Rattle.drive.specs.declared.Drive.{Drive}
+use Rattle.drive.specs.DriveStates.{isEnabled, stateWord}
+use Rattle.drive.specs.StatusWord.{shown, within, ackInMode, reachedInMode, enabledBits, status}
+
+-- the same window about the same integers
+pub within-same : (w w' a a' b b' : ℕ) → w ≡ w' → a ≡ a' → b ≡ b' → within w (integer a) (integer b) ≡ within w' (integer a') (integer b')
+within-same w w' a a' b b' ew ea eb = rw (ew, ea, eb)
+
+-- the magnitude is the distance from 0
+pub within-zero : (w a : ℕ) → within w (integer a) (integer 0) ≡ leb (natAbs (integer a)) w
+within-zero w a = ap (λ z. leb (natAbs z) w) (+ℤ-idr (integer a))
+
+-- ---- how large the parts are
+
+pub shown-most : (w : ℕ) (on : Bool) → shown w on ≤ w
+shown-most w true = omega arith
+shown-most w false = omega arith
+
+pub state-word-most : (s : DriveState) → stateWord s ≤ 0x40
+state-word-most NotReady = omega arith
+state-word-most SwitchOnDisabled = omega arith
+state-word-most ReadyToSwitchOn = omega arith
+state-word-most SwitchedOn = omega arith
+state-word-most OperationEnabled = omega arith
+state-word-most QuickStopActive = omega arith
+state-word-most FaultReactionActive = omega arith
+state-word-most Fault = omega arith
+
+module _ (remote voltage : Bool) (v : Drive) (d : List ℕ) where
+  pub enabled-most : enabledBits v d ≤ 0x1C00
+  unfolding enabledBits
+  enabled-most =
+      omega (arith, shown-most 0x1000 (ackInMode (v .mode) v d), shown-most 0x800 (v .limit), shown-most 0x400 (reachedInMode (v .mode) v d))
+
+  abbrev always : ℕ
+  always = stateWord (v .state) + shown 0x10 voltage + shown 0x200 remote
+
+  -- ---- the word of an enabled drive, and of any other
+  pub status-enabled : isEnabled (v .state) ≡ true → status remote voltage v d ≡ always + enabledBits v d
+  unfolding status
+  status-enabled e = rw e
+
+  pub status-other : isEnabled (v .state) ≡ false → status remote voltage v d ≡ always
+  unfolding status
+  status-other e = rw e (omega arith)

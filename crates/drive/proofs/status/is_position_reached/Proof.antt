@@ -1,0 +1,64 @@
+-- `drive::status::is_position_reached` meets its contract. Assumes nothing.
+use mathlib.Core.Path.{refl}
+use borrow.Author.Needs.{needs}
+use Rattle.drive.specs.StatusWord.{positionReached}
+use Rattle.drive.proofs.Ways.{found-to-be}
+use Rattle.drive.proofs.status.is_position_reached.Statement.{statement}
+use Rattle.drive.proofs.status.is_position_reached.Tie as tie
+
+enum-told : tie.Need-enum-told
+enum-told c = search needs
+
+enum-told-2 : tie.Need-enum-told-2
+enum-told-2 c = search needs
+
+enum-known-store : tie.Need-enum-known-store
+enum-known-store c = search needs
+
+is-near-requires : tie.Need-is-near-requires
+is-near-requires c κs = search needs
+
+enum-known-store-2 : tie.Need-enum-known-store-2
+enum-known-store-2 c = search needs
+
+is-near-requires-2 : tie.Need-is-near-requires-2
+is-near-requires-2 c κs = search needs
+
+returns : tie.Need-returns
+unfolding positionReached
+returns c =
+    let a = c .before .before .before .args in
+    found-to-be (λ s. positionReached s (a .d .now)) (c .enum-told .given .1) refl
+
+returns-2 : tie.Need-returns-2
+unfolding positionReached
+returns-2 c =
+    let a = c .before .before .before .args in
+    found-to-be (λ s. positionReached s (a .d .now)) (c .enum-told2 .given .1) refl
+
+returns-3 : tie.Need-returns-3
+unfolding positionReached
+returns-3 c =
+    let a = c .before .before .before .before .before .args in
+    found-to-be (λ s. positionReached s (a .d .now)) (c .before .before .store .given .1) (c .is-near .ensures)
+
+returns-4 : tie.Need-returns-4
+unfolding positionReached
+returns-4 c =
+    let a = c .before .before .before .before .before .args in
+    found-to-be (λ s. positionReached s (a .d .now)) (c .before .before .store2 .given .1) (c .is-near2 .ensures)
+
+pub is-position-reached-spec : {M : Type 1} → statement M
+is-position-reached-spec =
+    tie.close
+    (tie.spec
+    enum-told
+    enum-told-2
+    enum-known-store
+    is-near-requires
+    enum-known-store-2
+    is-near-requires-2
+    returns
+    returns-2
+    returns-3
+    returns-4)
