@@ -20,3 +20,4 @@ pub mod TakenBy
 pub mod Sent
 pub mod SentBy
 pub mod ShutOut
+pub mod Telling

@@ -345,3 +345,8 @@ abbrev pub ShutsOut : Type 0
 ShutsOut =
     (keepsExamples answer ≡ true) × (keepsExamples refusesEverything ≡ false) × (keepsExamples constantReply ≡ false) × (keepsExamples doesNothing ≡ false)
     × (keepsExamples sixFramesAlways ≡ false) × (keepsExamples idleAfterPowerUp ≡ false)
+
+-- opens every definition of this module, where a proof computes
+unfoldable pub open-promises : Unit {0}
+unfolding after byPdos byFrame mayChange
+open-promises = tt

@@ -1,0 +1,6 @@
+pub mod Naming
+pub mod Slotted
+pub mod Legality
+pub mod Joining
+pub mod Assembly
+pub mod Worked

@@ -1,0 +1,136 @@
+// The mapping of a PDO: a count and eight mapping words, beside the plan that is kept for it.
+use crate::words::move_of;
+use dictionary::read1;
+use dictionary::read4;
+use rules_dictionary::Move;
+use rules_dictionary::Plan;
+ghost use mathlib.Core.Path.{_≡_};
+ghost use mathlib.Core.Bool.{true, false, _&&_};
+ghost use Prim.Native.Nat.{_+_, _<_, _≤_};
+ghost use lib.Dec.{leb};
+ghost use lib.ListN.{length};
+ghost use Rattle.rules_dictionary.specs.Table.{mapCount, mappingPlace, mostMoves};
+ghost use Rattle.rules_dictionary.specs.Values.{read};
+ghost use Rattle.rules_dictionary.specs.Plans.{mapped, planFor};
+ghost use Rattle.rules.specs.Outcome.{sameMove, samePlan};
+ghost use Rattle.rules.specs.Sound.{mappingLegal};
+ghost use Rattle.plans.specs.Words.{wayOf};
+ghost use Rattle.plans.specs.Slots.{wordsFrom, slotSound, slotsSound, movesNamed};
+
+// Where a PDO's mapping stands: its count, and behind it the eight mapping words.
+fn mapping_place(p: usize) -> usize
+    requires { ⌜ p < 8 ⌝ }
+    ensures { λ r. ⌜ (r ≡ mappingPlace p) × (r < 300) ⌝ }
+{
+    if p < 4 {
+        return 44 + 33 * p;
+    }
+    200 + 33 * (p - 4)
+}
+
+// Whether two moves are the same.
+fn same_move(a: Move, b: Move) -> bool
+    ensures { λ r. ⌜ r ≡ sameMove a b ⌝ }
+{
+    a.place == b.place && a.size == b.size
+}
+
+// Whether a mapping word within the count names the move that is kept for it.
+fn mapped_sound(word: u32, kept: Move, transmit: bool) -> bool
+    ensures { λ r. ⌜ r ≡ slotSound (wayOf transmit) true word kept ⌝ }
+{
+    let named = move_of(word, transmit);
+    if named.size == 0 {
+        return false;
+    }
+    same_move(kept, named)
+}
+
+// Whether a mapping word past the count is legal, and its slot of the plan spare.
+fn spare_sound(word: u32, kept: Move, transmit: bool) -> bool
+    ensures { λ r. ⌜ r ≡ slotSound (wayOf transmit) false word kept ⌝ }
+{
+    let any = (word as u64) + (kept.place as u64) + (kept.size as u64);
+    if any == 0 {
+        return true;
+    }
+    if !same_move(kept, Move { place: 0, size: 0 }) {
+        return false;
+    }
+    let named = move_of(word, transmit);
+    named.size != 0
+}
+
+// Whether a mapping word goes with the move that is kept in its slot.
+fn slot_sound(word: u32, kept: Move, within: bool, transmit: bool) -> bool
+    ensures { λ r. ⌜ r ≡ slotSound (wayOf transmit) within word kept ⌝ }
+{
+    if within {
+        return mapped_sound(word, kept, transmit);
+    }
+    spare_sound(word, kept, transmit)
+}
+
+// Whether the eight mapping words from a place on go with the kept moves, and map eight bytes at the most.
+fn slots_sound(d: &[u8], first: usize, count: usize, moves: [Move; 8], transmit: bool) -> bool
+    requires { ⌜ (first + 32 ≤ length (now d)) × (first < 400) ⌝ }
+    ensures { λ r. ⌜ (r ≡ slotsSound (wayOf transmit) count 0 (wordsFrom 8 first (now (d .entry))) moves) × (length moves ≡ 8) ⌝ }
+{
+    let mut at = first;
+    let mut used: usize = 0;
+    let mut k: usize = 0;
+    while k < 8 {
+        let kept = moves[k];
+        if !slot_sound(read4(d, at), kept, k < count, transmit) {
+            return false;
+        }
+        used += kept.size as usize;
+        at += 4;
+        k += 1;
+    }
+    used <= 8
+}
+
+// Whether a PDO's mapping is legal, its count at most eight, and the kept plan the one that it gives.
+pub fn mapping_sound(d: &[u8], p: usize, plan: Plan) -> bool
+    requires { ⌜ (length (now d) ≡ 389) × (p < 8) ⌝ }
+    ensures { λ r. ⌜ r ≡ (leb (read (now (d .entry)) (mapCount p)) mostMoves && (mappingLegal (now (d .entry)) p && samePlan plan (planFor (mapped (now (d .entry)) p)))) ⌝ }
+{
+    let place = mapping_place(p);
+    let count = read1(d, place);
+    if 8 < count {
+        return false;
+    }
+    if plan.count != count {
+        return false;
+    }
+    let moves = plan.moves;
+    slots_sound(d, place + 1, count as usize, moves, 4 <= p)
+}
+
+// The moves that the first mapping words from a place on name, then spare slots.
+fn moves_of(d: &[u8], first: usize, count: usize, transmit: bool) -> [Move; 8]
+    requires { ⌜ (first + 32 ≤ length (now d)) × ((first < 400) × (count ≤ 8)) ⌝ }
+    ensures { λ r. ⌜ r ≡ movesNamed (wayOf transmit) count first (now (d .entry)) ⌝ }
+{
+    let mut moves = [Move { place: 0, size: 0 }; 8];
+    let mut at = first;
+    let mut k: usize = 0;
+    while k < count {
+        moves[k] = move_of(read4(d, at), transmit);
+        at += 4;
+        k += 1;
+    }
+    moves
+}
+
+// The plan that a PDO's legal mapping gives.
+pub fn plan_of(d: &[u8], p: usize) -> Plan
+    requires { ⌜ (length (now d) ≡ 389) × ((p < 8) × ((read (now d) (mapCount p) ≤ mostMoves) × (mappingLegal (now d) p ≡ true))) ⌝ }
+    ensures { λ r. ⌜ r ≡ planFor (mapped (now (d .entry)) p) ⌝ }
+{
+    let place = mapping_place(p);
+    let count = read1(d, place);
+    let moves = moves_of(d, place + 1, count as usize, 4 <= p);
+    Plan { count, moves }
+}

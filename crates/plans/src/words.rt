@@ -1,0 +1,82 @@
+// Mapping words: index, subindex and bit length of a mapped object.
+use rules_dictionary::Move;
+ghost use mathlib.Core.Path.{_≡_};
+ghost use Rattle.rules_dictionary.specs.Table.{receive, transmit};
+ghost use Rattle.plans.specs.Words.{wordMove, wayOf};
+
+// The move of the object that a mapping word of a receive PDO names; all zero where it names none.
+fn receive_move(word: u32) -> Move
+    ensures { λ r. ⌜ r ≡ wordMove receive word ⌝ }
+{
+    match word {
+        0x6040_00_10 => Move {
+            place: 334,
+            size: 2,
+        },
+        0x6060_00_08 => Move {
+            place: 338,
+            size: 1,
+        },
+        0x607A_00_20 => Move {
+            place: 356,
+            size: 4,
+        },
+        0x6081_00_20 => Move {
+            place: 369,
+            size: 4,
+        },
+        0x6083_00_20 => Move {
+            place: 373,
+            size: 4,
+        },
+        0x6084_00_20 => Move {
+            place: 377,
+            size: 4,
+        },
+        0x60FF_00_20 => Move {
+            place: 381,
+            size: 4,
+        },
+        _ => Move { place: 0, size: 0 },
+    }
+}
+
+// The move of the object that a mapping word of a transmit PDO names; all zero where it names none.
+fn transmit_move(word: u32) -> Move
+    ensures { λ r. ⌜ r ≡ wordMove transmit word ⌝ }
+{
+    match word {
+        0x1001_00_08 => Move { place: 4, size: 1 },
+        0x603F_00_10 => Move {
+            place: 332,
+            size: 2,
+        },
+        0x6041_00_10 => Move {
+            place: 336,
+            size: 2,
+        },
+        0x6061_00_08 => Move {
+            place: 339,
+            size: 1,
+        },
+        0x6064_00_20 => Move {
+            place: 340,
+            size: 4,
+        },
+        0x606C_00_20 => Move {
+            place: 348,
+            size: 4,
+        },
+        _ => Move { place: 0, size: 0 },
+    }
+}
+
+// The move of the object that a mapping word names in its PDO's direction; all zero where it names none.
+pub fn move_of(word: u32, transmit: bool) -> Move
+    ensures { λ r. ⌜ r ≡ wordMove (wayOf transmit) word ⌝ }
+{
+    if transmit {
+        return transmit_move(word);
+    }
+    receive_move(word)
+}
