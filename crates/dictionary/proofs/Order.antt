@@ -10,7 +10,7 @@ use mathlib.Core.Logic.{_⊎_, inl, inr, ⊎-elim}
 use borrow.Author.Tests.{ltb-true, eqb-true, le-leb, lt-leb}
 use lib.Dec.{eqb, ltb}
 use lib.ListN.{length, getD, length-map, List·getD-map}
-use Rattle.rules_dictionary.specs.Table.{Row, search, table, entries, deviceType}
+use Rattle.rules_dictionary.specs.Table.{Row, table, entries, deviceType}
 use Rattle.rules_dictionary.proofs.Tests.{and-left, and-right}
 use Rattle.rules_dictionary.proofs.Packing.{rowAt, counted, key}
 use Rattle.dictionary.specs.Lines.{Line, lineIn, lineOf, lastFrom, lastUpTo}

@@ -4,10 +4,8 @@
 use Prim.Native.Nat.{ℕ}
 use mathlib.Core.Path.{_≡_, refl}
 use mathlib.Core.Bool.{Bool, true, false}
-use mathlib.Core.List.{List, [], _∷_, _++_, map}
+use mathlib.Core.List.{List, [], _∷_, map}
 use lib.ListN.{replicate}
-use lib.IntN.{ℤ, pos, negsuc}
-use Rattle.rules_dictionary.specs.declared.Mode.{Mode}
 use Rattle.rules_dictionary.specs.declared.Mode.the-variants.{NoMode, ProfilePosition, ProfileVelocity}
 use Rattle.drive.specs.declared.DriveState.{DriveState}
 use Rattle.drive.specs.declared.DriveState.the-variants.{NotReady, SwitchOnDisabled, ReadyToSwitchOn, SwitchedOn, OperationEnabled, QuickStopActive, FaultReactionActive, Fault}
@@ -17,11 +15,11 @@ use Rattle.drive.specs.declared.SetPoint.{SetPoint}
 use Rattle.drive.specs.declared.Store.{Store}
 use Rattle.drive.specs.declared.Store.the-variants.{Empty, Rested, Moving, Queued}
 use Rattle.drive.specs.declared.Drive.{Drive}
-use Rattle.rules_dictionary.specs.Numbers.{bit, open-numbers}
+use Rattle.rules_dictionary.specs.Numbers.{open-numbers}
 use Rattle.rules_dictionary.specs.Table.{controlWord, mode, position, positionWindow, targetPosition, minimumPosition, maximumPosition, velocity, velocityWindow, velocityThreshold, targetVelocity, profileVelocity, profileAcceleration, profileDeceleration, dictionaryLength, open-table}
 use Rattle.rules_dictionary.specs.Values.{Write, write, stored, open-values}
 use Rattle.drive.specs.DriveStates.{command, next, resets, open-drive-states}
-use Rattle.drive.specs.SetPoints.{offered, controlWritten, modeWritten, setPointRule, enters, open-set-points}
+use Rattle.drive.specs.SetPoints.{offered, controlWritten, modeWritten, setPointRule, open-set-points}
 use Rattle.drive.specs.StatusWord.{status, open-status-word}
 
 -- ---- commands: "read at each write, also of the same value"

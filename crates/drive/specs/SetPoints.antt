@@ -4,7 +4,7 @@ use Prim.Native.Nat.{ℕ}
 use mathlib.Core.List.{List}
 use mathlib.Core.Bool.{Bool, true, false, cond, not, _&&_}
 use lib.Dec.{eqb}
-use lib.IntN.{ℤ, pos, _+ℤ_}
+use lib.IntN.{ℤ, _+ℤ_}
 use lib.Signed.{leZ}
 use mir.Syntax.{w32}
 use mir.Val.{ofZ}

@@ -2,7 +2,7 @@
 -- Assumes nothing.
 use Prim.Native.Nat.{ℕ, _+_, _^_}
 use mathlib.Core.List.{List}
-use mathlib.Core.Bool.{Bool, true, false, cond, not, _&&_, _||_}
+use mathlib.Core.Bool.{Bool, true, false, cond, _||_}
 use lib.Dec.{eqb, leb}
 use lib.IntN.{ℤ, natAbs, _-ℤ_}
 use Rattle.rules_dictionary.specs.declared.Mode.{Mode}

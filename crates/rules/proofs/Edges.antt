@@ -6,26 +6,25 @@ use mathlib.Core.Path.{_≡_, refl}
 use mathlib.Core.Bool.{Bool, true, false}
 use mathlib.Core.List.{List, [], _∷_, _++_, map}
 use lib.ListN.{replicate, length}
-use Rattle.state.specs.declared.NmtState.the-variants.{PreOperational, Operational, Stopped}
-use Rattle.rules_dictionary.specs.declared.Mode.the-variants.{NoMode, ProfilePosition}
-use Rattle.drive.specs.declared.DriveState.the-variants.{NotReady, SwitchOnDisabled, OperationEnabled, Fault}
-use Rattle.drive.specs.declared.Store.{Store}
-use Rattle.drive.specs.declared.Store.the-variants.{Empty, Rested}
+use Rattle.state.specs.declared.NmtState.the-variants.{PreOperational, Operational}
+use Rattle.rules_dictionary.specs.declared.Mode.the-variants.{ProfilePosition}
+use Rattle.drive.specs.declared.DriveState.the-variants.{OperationEnabled}
+use Rattle.drive.specs.declared.Store.the-variants.{Rested}
 use Rattle.drive.specs.declared.Drive.{Drive}
 use Rattle.rules_dictionary.specs.declared.PdoData.{PdoData}
 use Rattle.state.specs.declared.State.{State}
-use Rattle.rules_dictionary.specs.Table.{table, deviceType, positionWindow, transmissionType, mapEntry, identifier, statusWord, modeDisplay, mode, controlWord, heartbeatTime, position, errorRegister}
+use Rattle.rules_dictionary.specs.Table.{table, deviceType, positionWindow, transmissionType, mapEntry, identifier, statusWord, modeDisplay, mode, controlWord, heartbeatTime, position}
 use Rattle.rules_dictionary.specs.Values.{Write, write, store, stored}
 use Rattle.rules_dictionary.proofs.Defaults.{packedDefaults}
-use Rattle.drive.specs.SetPoints.{withState, withMode, withStore, withMarks, withCause}
-use Rattle.rules_services.specs.Effects.{Effect, Frame, frame, writes, becomes, withNode, withDrive, withHeld, withPacing, withNmt, withHeartbeat}
-use Rattle.rules_services.specs.PdoTraffic.{noData, noneHeld}
+use Rattle.drive.specs.SetPoints.{withStore, withMarks, withCause}
+use Rattle.rules_services.specs.Effects.{frame, writes, becomes, withNode, withDrive, withHeld, withPacing, withNmt, withHeartbeat}
+use Rattle.rules_services.specs.PdoTraffic.{noData}
 use Rattle.rules_services.specs.Nmt.{freshState, noCounts, noneDue}
 use Rattle.rules.specs.Outcome.{End, ended, encoded, sentInto}
 use Rattle.rules.specs.Sound.{sound}
 use Rattle.rules.specs.Calls.{Call, powerUpCall, frameCall, eventCall, answer, refusalNumber}
-use Rattle.rules.specs.Scripts.{Line, line, fromNothing, nothing, zeros, blank, open-rules}
-use Rattle.rules.specs.Examples.{example1, example3, example7, request, reply, emergency, nmt, control, write1, write2, write4, look, fourPdos, open-examples}
+use Rattle.rules.specs.Scripts.{line, fromNothing, nothing, open-rules}
+use Rattle.rules.specs.Examples.{example1, example7, request, emergency, nmt, write1, write2, fourPdos, open-examples}
 
 -- ---- refusals
 

@@ -2,12 +2,11 @@
 -- What the node-ID cannot touch is computed once, with it unknown; the rest is one computed test over all of them.
 -- Assumes nothing.
 use Prim.Native.Nat.{ℕ, suc}
-use mathlib.Core.Path.{_≡_, refl, ap}
+use mathlib.Core.Path.{_≡_, refl}
 use mathlib.Core.Bool.{Bool, true, _&&_}
 use mathlib.Core.List.{List, append-nil}
 use lib.ListN.{length}
 use Rattle.state.specs.declared.State.{State}
-use Rattle.rules_dictionary.specs.Numbers.{open-numbers}
 use Rattle.rules_dictionary.specs.TheNode.{lastNode, isNodeId}
 use Rattle.rules_dictionary.specs.Table.{table, dictionaryLength}
 use Rattle.rules_dictionary.proofs.Tests.{and-left, and-right, allBelow, on-nodes}

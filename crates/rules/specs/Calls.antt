@@ -1,9 +1,9 @@
 -- Document 01, 'Calls and refusals': power-up, one frame, or one event; the refusals, lowest number first; the answer.
 -- Assumes nothing.
 use Prim.Native.Nat.{ℕ, _+_}
-use mathlib.Core.List.{List, [], _∷_}
-use mathlib.Core.Bool.{Bool, true, false, cond, not, _&&_, _||_}
-use lib.Dec.{eqb, leb, ltb}
+use mathlib.Core.List.{List}
+use mathlib.Core.Bool.{true, false, cond, not, _&&_}
+use lib.Dec.{eqb, leb}
 use lib.ListN.{length}
 use Rattle.state.specs.declared.State.{State}
 use Rattle.state.specs.declared.Refusal.{Refusal}

@@ -1,7 +1,7 @@
 -- What follows from an effect at the call's end: 6041h and 6061h, plans and ready frames worked afresh, the transmit PDOs, and
 -- the bytes of the output.
 -- Assumes nothing.
-use Prim.Native.Nat.{ℕ, _+_, _*_}
+use Prim.Native.Nat.{ℕ, _+_}
 use mathlib.Core.List.{List, [], _∷_, _++_, map}
 use mathlib.Core.Bool.{Bool, true, false, cond, not, _&&_, _||_}
 use lib.Dec.{eqb}

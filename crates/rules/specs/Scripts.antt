@@ -15,7 +15,7 @@ use Rattle.rules_dictionary.specs.Plans.{open-plans}
 use Rattle.drive.specs.DriveStates.{open-drive-states}
 use Rattle.drive.specs.SetPoints.{open-set-points}
 use Rattle.drive.specs.StatusWord.{open-status-word}
-use Rattle.rules_services.specs.Effects.{Frame, frame, open-effects}
+use Rattle.rules_services.specs.Effects.{Frame, open-effects}
 use Rattle.rules_services.specs.Emergency.{open-emergency}
 use Rattle.rules_services.specs.Written.{open-written}
 use Rattle.rules_services.specs.Sdo.{open-sdo}

@@ -2,16 +2,16 @@
 -- Assumes nothing.
 use Prim.Native.Nat.{ℕ, zero, suc, _+_, _≤_, _/_}
 use native.Mathlib.Omega.{arith}
-use mathlib.Core.Path.{_≡_, refl, sym, _∙_, ap}
-use mathlib.Core.Bool.{Bool, true, false, not, _&&_}
+use mathlib.Core.Path.{_≡_, refl, _∙_, ap}
+use mathlib.Core.Bool.{Bool, true, not, _&&_}
 use mathlib.Core.List.{List, [], _∷_, _++_, append-assoc, append-nil}
-use borrow.Author.Tests.{eqb-true, leb-true}
-use lib.Dec.{eqb, leb}
-use lib.ListN.{length, take, drop, length-append, length-drop, drop-of-length-le}
-use lib.Seq.{sets, sets-eq, take-at, drop-append-add, drop-drop, drop-length}
+use borrow.Author.Tests.{eqb-true}
+use lib.Dec.{eqb}
+use lib.ListN.{length, drop, length-append, length-drop, drop-of-length-le}
+use lib.Seq.{sets, sets-eq, take-at, drop-append-add, drop-drop}
 use Rattle.rules_dictionary.specs.Numbers.{bytes, all}
 use Rattle.rules_dictionary.specs.TheNode.{lastNode, isNodeId}
-use Rattle.rules_dictionary.specs.Table.{Row, table, sizeOf, dictionaryLength, isConstant}
+use Rattle.rules_dictionary.specs.Table.{Row, table, sizeOf, dictionaryLength}
 use Rattle.rules_dictionary.specs.Values.{store, stored, toDefaults, defaultOf}
 use Rattle.rules_dictionary.specs.Legal.{isBelow, isAbove, badChoice}
 use Rattle.rules_dictionary.proofs.Tests.{and-left, and-right, allBelow, on-nodes, In, all-in}

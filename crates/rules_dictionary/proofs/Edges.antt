@@ -1,17 +1,16 @@
 -- The edges of 'The dictionary' and of the values that SDO takes, by computation: the last legal value and the first that is not,
 -- each abort code, each default word. They are what a wrong range, place, code or default breaks.
 -- Assumes nothing.
-use Prim.Native.Nat.{ℕ, _+_}
+use Prim.Native.Nat.{ℕ}
 use mathlib.Core.Path.{_≡_, refl}
-use mathlib.Core.Bool.{Bool, true, false}
 use mathlib.Core.List.{List, [], _∷_, map}
 use lib.ListN.{getD}
 use Rattle.rules_dictionary.specs.declared.Plan.{Plan}
 use Rattle.rules_dictionary.specs.declared.PdoData.{PdoData}
-use Rattle.rules_dictionary.specs.Numbers.{value, bytes, integer, open-numbers}
-use Rattle.rules_dictionary.specs.Table.{Row, table, lookup, found, noObject, noSubindex, positionWindow, profileAcceleration, mode, transmissionType, identifier, mapCount, mapEntry, mappingWord, targetPosition, velocity, position, modeDisplay, controlWord, statusWord, emergencyIdentifier, mapSlots, pdos, open-table}
-use Rattle.rules_dictionary.specs.Values.{read, store, stored, write, defaultOf, toDefaults, open-values}
-use Rattle.rules_dictionary.specs.Aborts.{Verdict, good, bad, abortCode, belowRange, aboveRange, badValue, notMappable, overLength, noObject as absent, noSubindex as absentSub, open-aborts}
+use Rattle.rules_dictionary.specs.Numbers.{value, bytes, open-numbers}
+use Rattle.rules_dictionary.specs.Table.{Row, table, lookup, found, noObject, noSubindex, positionWindow, profileAcceleration, mode, transmissionType, identifier, mapCount, mapEntry, mappingWord, targetPosition, velocity, position, modeDisplay, controlWord, statusWord, emergencyIdentifier, pdos, open-table}
+use Rattle.rules_dictionary.specs.Values.{read, store, stored, write, defaultOf, open-values}
+use Rattle.rules_dictionary.specs.Aborts.{Verdict, good, bad, belowRange, aboveRange, badValue, notMappable, overLength, noObject as absent, noSubindex as absentSub, open-aborts}
 use Rattle.rules_dictionary.specs.Legal.{valueVerdict, mapWords, open-legal}
 use Rattle.rules_dictionary.specs.Plans.{plansOf, planFor, readyOf, pdoData, open-plans}
 use Rattle.rules_dictionary.proofs.Defaults.{packedDefaults}

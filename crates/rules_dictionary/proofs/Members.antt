@@ -1,18 +1,17 @@
 -- Which rows stand in the table, and that values unpacked in order are those read row by row.
 -- Assumes nothing.
-use Prim.Native.Nat.{ℕ, zero, suc, _+_, _≤_}
-use native.Mathlib.Omega.{arith}
-use mathlib.Core.Path.{_≡_, refl, sym, _∙_, ap, ap₂, subst}
+use Prim.Native.Nat.{ℕ, _+_}
+use mathlib.Core.Path.{_≡_, refl, sym, _∙_, ap, ap₂}
 use mathlib.Core.Logic.{_⊎_, inl, inr}
-use mathlib.Core.Bool.{Bool, true, false, _&&_}
+use mathlib.Core.Bool.{Bool, true}
 use mathlib.Core.List.{List, [], _∷_, _++_, map, flatMap}
 use borrow.Author.Tests.{eqb-true}
 use lib.Dec.{eqb}
 use lib.ListN.{take, drop}
 use lib.Seq.{drop-drop}
 use Rattle.rules_dictionary.specs.Numbers.{value, all}
-use Rattle.rules_dictionary.specs.Table.{Row, table, nodeRows, driveRows, sizeOf, pdos, receivePdos, transmitPdos, communicationRows, mappingRows, identifier, transmissionType, mapCount, mapEntry, mapSlots, lookup, search, open-table}
-use Rattle.rules_dictionary.specs.Values.{Write, write, read, unpacked}
+use Rattle.rules_dictionary.specs.Table.{Row, table, nodeRows, driveRows, sizeOf, pdos, receivePdos, transmitPdos, communicationRows, mappingRows, identifier, transmissionType, mapCount, mapEntry, mapSlots}
+use Rattle.rules_dictionary.specs.Values.{write, read, unpacked}
 use Rattle.rules_dictionary.specs.Legal.{mapWords}
 use Rattle.rules_dictionary.proofs.Tests.{and-left, and-right, In, here, there, all-in}
 use Rattle.rules_dictionary.proofs.Defaults.{packedFrom, table-packed}

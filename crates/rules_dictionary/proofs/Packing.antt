@@ -1,7 +1,7 @@
 -- The table's rules, each by one computed test over its rows, and the laws that follow.
 -- Assumes nothing.
-use Prim.Native.Nat.{ℕ, zero, suc, _+_, _*_, _<_, _≤_}
-use mathlib.Core.Path.{_≡_, refl, sym, _∙_, ap, subst}
+use Prim.Native.Nat.{ℕ, suc, _+_, _*_, _<_, _≤_}
+use mathlib.Core.Path.{_≡_, refl, _∙_, subst}
 use mathlib.Core.Bool.{Bool, true, false, _&&_, _||_, or-comm}
 use mathlib.Core.Logic.{_⊎_, inl, inr}
 use mathlib.Core.List.{List, [], _∷_}
@@ -11,7 +11,7 @@ use borrow.Author.Tests.{ltb-true, leb-true, eqb-true}
 use lib.Dec.{eqb, leb, ltb}
 use lib.ListN.{length, getD}
 use Rattle.rules_dictionary.specs.Numbers.{all}
-use Rattle.rules_dictionary.specs.Table.{Row, deviceType, table, sizeOf, dictionaryLength, entries, same, lookup, search, Found, found, noObject, noSubindex}
+use Rattle.rules_dictionary.specs.Table.{Row, deviceType, table, sizeOf, dictionaryLength, entries, lookup, search, found}
 use Rattle.rules_dictionary.proofs.Tests.{and-left, and-right, allBelow, below, In, here, there, all-in}
 
 -- ---- by number

@@ -4,18 +4,17 @@ use Prim.Native.Nat.{ℕ, zero, suc, _+_, _*_, _-_, _/_, _%_, _^_, _<_, _≤_}
 use native.Mathlib.Omega.{arith}
 use native.Mathlib.Nat.{pow-suc}
 use mathlib.Core.Path.{_≡_, refl, sym, _∙_, ap, subst}
-use mathlib.Core.Logic.{_⊎_, inl, inr}
-use mathlib.Core.Bool.{Bool, true, false, _&&_, _||_}
-use mathlib.Core.List.{List, [], _∷_, _++_, append-assoc}
+use mathlib.Core.Bool.{Bool, true, false, _||_}
+use mathlib.Core.List.{List, [], _∷_, append-assoc}
 use borrow.Author.Tests.{leb-true, lt-ltb, ltb-true}
-use lib.Dec.{leb, ltb}
-use lib.ListN.{length, take, drop, set, getD, length-take, length-drop}
+use lib.Dec.{leb}
+use lib.ListN.{length, take, drop, set, length-drop}
 use lib.Seq.{sets, length-sets, sets-eq, drop-set-lt, drop-set-add, take-set-le, take-at, drop-at, length-take-le}
 use Rattle.rules_dictionary.specs.Numbers.{value, bytes, part, all, isByte, areBytes}
-use Rattle.rules_dictionary.specs.Table.{Row, table, sizeOf, dictionaryLength}
+use Rattle.rules_dictionary.specs.Table.{Row, sizeOf}
 use Rattle.rules_dictionary.specs.Values.{Write, field, read, store, stored}
-use Rattle.rules_dictionary.proofs.Tests.{and-left, and-right, and-both, In}
-use Rattle.rules_dictionary.proofs.Packing.{apart, within, same-or-apart}
+use Rattle.rules_dictionary.proofs.Tests.{and-left, and-right, and-both}
+use Rattle.rules_dictionary.proofs.Packing.{apart}
 use Rattle.rules_dictionary.proofs.Defaults.{length-bytes}
 
 -- ---- values and their bytes

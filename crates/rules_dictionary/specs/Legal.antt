@@ -2,15 +2,15 @@
 -- Assumes nothing.
 use Prim.Native.Nat.{ℕ, _*_}
 use mathlib.Core.List.{List, [], _∷_, map}
-use mathlib.Core.Bool.{Bool, true, false, cond, not, _&&_, _||_, Bool·beq}
+use mathlib.Core.Bool.{Bool, true, false, not, _&&_, _||_, Bool·beq}
 use lib.Dec.{eqb, leb, ltb}
 use lib.ListN.{take, drop, getD}
 use Rattle.rules_dictionary.specs.declared.Mode.{Mode}
 use Rattle.rules_dictionary.specs.declared.Mode.the-variants.{NoMode, ProfilePosition, ProfileVelocity}
-use Rattle.rules_dictionary.specs.Numbers.{bit, bits, between, any, all, sum}
+use Rattle.rules_dictionary.specs.Numbers.{bit, bits, between, any, sum}
 use Rattle.rules_dictionary.specs.Table.{Row, Role, plain, modeOfOperation, pdoIdentifier, pdoType, mappingCount, mappingEntry, Mappable, unmappable, toReceive, toTransmit, Direction, receive, transmit, directionOf, pdos, identifier, mapEntry, mapSlots, wordIndex, wordSubindex, wordLength, sizeOf, Found, found, noObject as missing, noSubindex as missingSubindex, lookup}
 use Rattle.rules_dictionary.specs.Values.{read, unpacked}
-use Rattle.rules_dictionary.specs.Aborts.{Verdict, good, bad, isGood, test, firstOf, noObject, noSubindex, belowRange, aboveRange, badValue, notMappable, overLength}
+use Rattle.rules_dictionary.specs.Aborts.{Verdict, good, bad, test, firstOf, noObject, noSubindex, belowRange, aboveRange, badValue, notMappable, overLength}
 
 -- ---- modes: "Mode must be 0, 1 or 3"
 

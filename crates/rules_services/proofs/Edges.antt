@@ -3,34 +3,31 @@
 -- Assumes nothing.
 use Prim.Native.Nat.{ℕ}
 use mathlib.Core.Path.{_≡_, refl}
-use mathlib.Core.Bool.{Bool, true, false}
+use mathlib.Core.Bool.{true, false}
 use mathlib.Core.List.{List, [], _∷_, _++_, map}
-use lib.ListN.{length, replicate, getD}
+use lib.ListN.{length}
 use Rattle.state.specs.declared.NmtState.{NmtState}
 use Rattle.state.specs.declared.NmtState.the-variants.{PreOperational, Operational, Stopped}
-use Rattle.rules_dictionary.specs.declared.Mode.the-variants.{NoMode, ProfilePosition}
 use Rattle.drive.specs.declared.DriveState.{DriveState}
 use Rattle.drive.specs.declared.DriveState.the-variants.{NotReady, SwitchOnDisabled, ReadyToSwitchOn, OperationEnabled, FaultReactionActive, Fault}
-use Rattle.drive.specs.declared.Store.the-variants.{Empty, Rested, Moving, Queued}
-use Rattle.rules_dictionary.specs.declared.PdoData.{PdoData}
 use Rattle.state.specs.declared.State.{State}
 use Rattle.rules_dictionary.specs.Numbers.{bytes, value, part, open-numbers}
-use Rattle.rules_dictionary.specs.Table.{table, errorRegister, errorCode, controlWord, heartbeatTime, mode, targetPosition, position, velocity, transmissionType, profileAcceleration, mapEntry, mapCount, mappingWord, identifier, open-table}
-use Rattle.rules_dictionary.specs.Values.{Write, write, store, stored, read, open-values}
-use Rattle.rules_dictionary.specs.Aborts.{Abort, abortCode, unknownCommand, noObject, noSubindex, noWriting, tooLong, tooShort, wrongTime, belowRange, aboveRange, badValue, open-aborts}
+use Rattle.rules_dictionary.specs.Table.{table, errorRegister, errorCode, controlWord, heartbeatTime, targetPosition, position, velocity, transmissionType, mapEntry, mapCount, mappingWord, identifier, open-table}
+use Rattle.rules_dictionary.specs.Values.{write, store, stored, read, open-values}
+use Rattle.rules_dictionary.specs.Aborts.{abortCode, unknownCommand, noObject, noSubindex, noWriting, tooLong, tooShort, wrongTime, belowRange, aboveRange, badValue, open-aborts}
 use Rattle.rules_dictionary.specs.Legal.{open-legal}
 use Rattle.rules_dictionary.specs.Plans.{open-plans}
 use Rattle.rules_dictionary.proofs.Defaults.{packedDefaults}
 use Rattle.drive.specs.DriveStates.{open-drive-states}
-use Rattle.drive.specs.SetPoints.{withState, withCause, withStore, open-set-points}
+use Rattle.drive.specs.SetPoints.{withState, withCause, open-set-points}
 use Rattle.drive.specs.StatusWord.{open-status-word}
 use Rattle.rules_services.specs.Effects.{Effect, Frame, frame, becomes, withNmt, withDrive, withHeartbeat, withHeld, open-effects}
 use Rattle.rules_services.specs.Emergency.{emergency, open-emergency}
 use Rattle.rules_services.specs.Written.{open-written}
 use Rattle.rules_services.specs.Sdo.{sdo, open-sdo}
-use Rattle.rules_services.specs.PdoTraffic.{received, sync, pace, paceOf, works, noData, noneHeld, open-pdo-traffic}
+use Rattle.rules_services.specs.PdoTraffic.{received, sync, pace, paceOf, works, noData, open-pdo-traffic}
 use Rattle.rules_services.specs.Nmt.{freshState, nmt, tick, open-nmt}
-use Rattle.rules_services.specs.Events.{Told, event, badEvent, fault, voltage, eventOf, isInPlace, happens, started, quickStopDone, reactionDone, setPointReached, causeGone, feedback, open-events}
+use Rattle.rules_services.specs.Events.{event, badEvent, fault, voltage, eventOf, isInPlace, happens, started, quickStopDone, reactionDone, setPointReached, causeGone, feedback, open-events}
 
 -- ---- node 5
 

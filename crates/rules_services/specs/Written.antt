@@ -2,8 +2,8 @@
 -- then 6040h"; 'Drive states': a fault reset; 'NMT, emergency, time': "writing 1017h .. restarts the count".
 -- Assumes nothing.
 use Prim.Native.Nat.{ℕ}
-use mathlib.Core.List.{List, [], _∷_, map}
-use mathlib.Core.Bool.{Bool, true, false, cond}
+use mathlib.Core.List.{List, [], _∷_}
+use mathlib.Core.Bool.{Bool, cond}
 use Rattle.state.specs.declared.State.{State}
 use Rattle.rules_dictionary.specs.Numbers.{any}
 use Rattle.rules_dictionary.specs.Table.{Row, same, controlWord, mode, errorRegister, heartbeatTime}

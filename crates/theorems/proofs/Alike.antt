@@ -1,24 +1,23 @@
 -- Two dictionaries that agree on the rows of the PDOs have the same mappings, plans, working PDOs and legal values.
 -- Assumes nothing.
 use Prim.Native.Nat.{ℕ}
-use mathlib.Core.Path.{_≡_, refl, sym, _∙_, ap, ap₂, subst}
-use mathlib.Core.Logic.{_⊎_, inl, inr}
-use mathlib.Core.Bool.{Bool, true, false, cond, _&&_, _||_}
-use mathlib.Core.List.{List, [], _∷_, map}
+use mathlib.Core.Path.{_≡_, refl, sym, _∙_, ap, ap₂}
+use mathlib.Core.Bool.{Bool, true, false, _&&_}
+use mathlib.Core.List.{List, [], _∷_}
 use lib.ListN.{take, drop}
 use Rattle.rules_dictionary.specs.declared.PdoData.{PdoData}
 use Rattle.state.specs.declared.NmtState.{NmtState}
-use Rattle.rules_dictionary.specs.Numbers.{all, value}
-use Rattle.rules_dictionary.specs.Table.{Row, Role, plain, modeOfOperation, pdoIdentifier, pdoType, mappingCount, mappingEntry, table, sizeOf, pdos, receivePdos, transmitPdos, identifier, transmissionType, mapCount, mapEntry, mapSlots, wordIndex, wordSubindex, Found, found, noObject, noSubindex, lookup}
-use Rattle.rules_dictionary.specs.Values.{Write, read, unpacked}
+use Rattle.rules_dictionary.specs.Numbers.{value}
+use Rattle.rules_dictionary.specs.Table.{Row, Role, plain, modeOfOperation, pdoIdentifier, pdoType, mappingCount, mappingEntry, table, sizeOf, pdos, identifier, transmissionType, mapCount, mapEntry, mapSlots, wordIndex, wordSubindex, Found, found, noObject, noSubindex, lookup}
+use Rattle.rules_dictionary.specs.Values.{read, unpacked}
 use Rattle.rules_dictionary.specs.Aborts.{isGood}
 use Rattle.rules_dictionary.specs.Legal.{identifiers, mapWords, valueVerdict, otherBadValue, mappingVerdict}
 use Rattle.rules_dictionary.specs.Plans.{andThen, targets, mapped}
 use Rattle.rules_dictionary.proofs.Tests.{In, here, there, none-in}
 use Rattle.rules_dictionary.proofs.Packing.{found-in}
-use Rattle.rules_dictionary.proofs.Members.{in-left, words-read, identifier-in, type-in, count-in, entry-in}
-use Rattle.rules_services.specs.PdoTraffic.{works, typeOf, areLegal, isHeld}
-use Rattle.rules.specs.Sound.{heldSound, pairwise}
+use Rattle.rules_dictionary.proofs.Members.{words-read, identifier-in, type-in, count-in, entry-in}
+use Rattle.rules_services.specs.PdoTraffic.{works, typeOf, areLegal}
+use Rattle.rules.specs.Sound.{heldSound}
 use Rattle.theorems.proofs.Dictionary.{map-same, pdo-of, byCount}
 
 -- the row is of a PDO

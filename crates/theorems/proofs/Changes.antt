@@ -1,50 +1,49 @@
 -- What a call may change: every write of every service is of a row that the call may change, and a byte of no such row stays.
 -- Assumes nothing.
-use Prim.Native.Nat.{ℕ, zero, suc, _+_, _<_, _≤_}
+use Prim.Native.Nat.{ℕ, suc, _+_, _<_, _≤_}
 use native.Mathlib.Omega.{arith}
-use mathlib.Core.Path.{_≡_, refl, sym, _∙_, ap, ap₂, subst}
+use mathlib.Core.Path.{_≡_, refl, sym, _∙_, ap, subst}
 use mathlib.Core.Logic.{_⊎_, inl, inr}
-use mathlib.Core.Bool.{Bool, true, false, cond, not, _&&_, _||_, or-true, false≢true}
-use mathlib.Core.List.{List, [], _∷_, _++_, map, append-nil}
-use borrow.Author.Tests.{eq-eqb, eqb-true, leb-true, leb-false, ltb-false}
+use mathlib.Core.Bool.{Bool, true, false, cond, not, _&&_, _||_, or-true}
+use mathlib.Core.List.{List, [], _∷_, _++_, append-nil}
+use borrow.Author.Tests.{eqb-true, leb-false, ltb-false}
 use lib.Dec.{eqb, leb, ltb}
 use lib.ListN.{length, getD, set, take}
 use lib.Seq.{sets, getD-set-other}
 use Rattle.state.specs.declared.State.{State}
 use Rattle.state.specs.declared.Refusal.{Refusal}
 use Rattle.state.specs.declared.NmtState.the-variants.{PreOperational, Operational}
-use Rattle.state.specs.declared.Refusal.the-variants.{DictionaryLength, OutputLength, NodeId, NotSound, BadFrame, BadEvent, OutOfPlace}
-use Rattle.rules_dictionary.specs.Numbers.{all, any, areBytes, filter, bytes}
+use Rattle.state.specs.declared.Refusal.the-variants.{DictionaryLength, OutputLength, NodeId, BadFrame, BadEvent, OutOfPlace}
+use Rattle.rules_dictionary.specs.Numbers.{any, filter, bytes}
 use Rattle.rules_dictionary.specs.TheNode.{isNodeId}
-use Rattle.rules_dictionary.specs.Table.{Row, table, same, sizeOf, dictionaryLength, statusWord, modeDisplay, controlWord, errorRegister, errorCode, position, velocity, heartbeatTime, pdos, receivePdos, transmitPdos, Found, found, noObject, noSubindex, lookup, open-table}
+use Rattle.rules_dictionary.specs.Table.{Row, table, same, sizeOf, dictionaryLength, statusWord, modeDisplay, controlWord, errorRegister, heartbeatTime, receivePdos, transmitPdos, Found, found, noObject, noSubindex, lookup, open-table}
 use Rattle.rules_dictionary.specs.Values.{Write, write, read, store, stored, unpacked, toDefaults, defaultOf}
 use Rattle.rules_dictionary.specs.Aborts.{Verdict, good, bad}
 use Rattle.rules_dictionary.specs.Legal.{isSynchronous}
 use Rattle.rules_dictionary.specs.Plans.{mapped, pdoData}
-use Rattle.rules_dictionary.proofs.Tests.{and-left, and-right, and-both, In, here, there, none-in}
+use Rattle.rules_dictionary.proofs.Tests.{In, here, there, none-in}
 use Rattle.rules_dictionary.proofs.Members.{in-left, in-right, in-append}
 use Rattle.rules_dictionary.proofs.Defaults.{length-bytes}
-use Rattle.rules_dictionary.proofs.Rows.{length-stored}
 use Rattle.drive.specs.declared.Controlled.{Controlled}
 use Rattle.drive.specs.SetPoints.{controlWritten}
 use Rattle.rules_services.specs.Effects.{Effect, becomes, sends, syncs, andThen, isStopped, isOperational, isPreOperational, withDrive, withHeld, withNmt, withHeartbeat}
 use Rattle.rules_services.specs.Emergency.{emergency, pdoTooShort, pdoTooLong, valueRefused, syncLength}
 use Rattle.rules_services.specs.Written.{wrote, countRestarted, modeActed, faultReset, controlActed, applied}
 use Rattle.rules_services.specs.Sdo.{Command, download, upload, clientAbort, unknown, commandOf, commandByte, askedIndex, askedSubindex, askedValue, downloadVerdict, decided as sdoDecided, toRow, toObject, asked, sdo, abort, requestBase, requestLength}
-use Rattle.rules_services.specs.PdoTraffic.{works, typeOf, mappedLength, areLegal, heldOrApplied, received, listens, receivedBy, noData, isHeld, release, releaseAll, sync, syncBase}
-use Rattle.rules_services.specs.Nmt.{nmt, nmtIdentifier, nmtLength, everyNode, commanded, commandOf as nmtCommandOf, Command as NmtCommand, start, stop, enterPreOperational, resetNode, resetCommunication, unknown as unknownNmt, powerUp, tick as ticked, left, voltageDisabled, isReset, heartbeat}
+use Rattle.rules_services.specs.PdoTraffic.{typeOf, mappedLength, areLegal, heldOrApplied, received, listens, receivedBy, noData, isHeld, release, releaseAll, sync, syncBase}
+use Rattle.rules_services.specs.Nmt.{nmt, nmtIdentifier, nmtLength, everyNode, commanded, commandOf as nmtCommandOf, Command as NmtCommand, start, stop, enterPreOperational, resetNode, resetCommunication, unknown as unknownNmt, powerUp, tick as ticked, left, isReset, heartbeat}
 use Rattle.rules_services.specs.Events.{Told, event, badEvent, eventOf, Event, started, quickStopDone, reactionDone, setPointReached, tick, causeGone, fault, feedback, voltage, isInPlace, happens, faulted}
 use Rattle.rules.specs.Outcome.{ended, settled, statusOf, mostData}
 use Rattle.rules.specs.Sound.{sound}
 use Rattle.rules.specs.Calls.{Call, powerUpCall, frameCall, eventCall, Decision, refuses, does as performs, framed, eventDecision, decision, decided, refused, accepted, answered, answer, outputLength, lastIdentifier}
-use Rattle.theorems.specs.Promises.{Step, Stand, does, octets, Run, reached, bySdo, byPdos, orReset, byNmt, byEvent, byTold, byFrame, mayChange, covers, ChangesNoOther}
-use Rattle.theorems.proofs.Booleans.{either, clash, or-false-left, or-false-right, or-both-false, any-false-in}
+use Rattle.theorems.specs.Promises.{reached, bySdo, byPdos, orReset, byNmt, byEvent, byTold, byFrame, mayChange, covers, ChangesNoOther}
+use Rattle.theorems.proofs.Booleans.{clash, or-false-left, or-false-right, or-both-false, any-false-in}
 use Rattle.theorems.proofs.Alike.{isPdo, mapped-in, mapped-alike}
 use Rattle.theorems.proofs.Dictionary.{DictionaryOk}
 use Rattle.theorems.proofs.Mapped.{unpacked-rows, received-row, receive-mapped}
 use Rattle.theorems.proofs.Lawful.{Lawful, sound-lawful}
-use Rattle.theorems.proofs.Writes.{no-pdo-alike, one-row, stored-append}
-use Rattle.theorems.proofs.NmtKept.{in-cons, filter-in, filtered}
+use Rattle.theorems.proofs.Writes.{no-pdo-alike, one-row}
+use Rattle.theorems.proofs.NmtKept.{in-cons, filter-in}
 use Rattle.rules_dictionary.proofs.Packing.{found-in}
 use Rattle.theorems.proofs.Runs.{run-holds, passed}
 use Rattle.theorems.proofs.Settled.{status-in, display-in}

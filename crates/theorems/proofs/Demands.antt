@@ -1,11 +1,11 @@
 -- The statements of specs/Promises.antt that follow from the invariant and from what a call may change.
 -- Assumes nothing.
-use Prim.Native.Nat.{ℕ, zero, suc, _+_, _/_, _^_, _<_, _≤_}
+use Prim.Native.Nat.{ℕ, _+_, _/_, _^_, _<_, _≤_}
 use native.Mathlib.Omega.{arith}
 use mathlib.Core.Path.{_≡_, refl, sym, _∙_, ap, ap₂, subst}
 use mathlib.Core.Logic.{_⊎_, inl, inr}
 use mathlib.Core.Bool.{Bool, true, false, cond, not, _&&_, _||_, Bool·beq}
-use mathlib.Core.List.{List, [], _∷_, _++_, map, append-nil, append-assoc}
+use mathlib.Core.List.{List, [], _∷_, _++_, map, append-assoc}
 use borrow.Author.Tests.{eq-eqb, eqb-true, ne-eqb, leb-true, lt-ltb, le-leb}
 use lib.Dec.{eqb, leb, ltb}
 use lib.ListN.{length, getD, take}
@@ -13,14 +13,13 @@ use Rattle.rules_dictionary.specs.declared.PdoData.{PdoData}
 use Rattle.state.specs.declared.NmtState.{NmtState}
 use Rattle.state.specs.declared.NmtState.the-variants.{PreOperational, Operational, Stopped}
 use Rattle.state.specs.declared.State.{State}
-use Rattle.state.specs.declared.Refusal.{Refusal}
-use Rattle.state.specs.declared.Refusal.the-variants.{Accepted, DictionaryLength, OutputLength, NodeId, NotSound, BadFrame, BadEvent, OutOfPlace}
-use Rattle.rules_dictionary.specs.Numbers.{value, bytes, part, areBytes, bit, between}
-use Rattle.rules_dictionary.specs.Table.{Row, table, sizeOf, dictionaryLength, statusWord, mapCount, mapEntry, mapSlots, mappingRows, identifier, eachWay, pdos, receivePdos, transmitPdos, directionOf, Found, found, lookup, open-table}
+use Rattle.state.specs.declared.Refusal.the-variants.{Accepted, DictionaryLength, OutputLength, NotSound, BadFrame}
+use Rattle.rules_dictionary.specs.Numbers.{value, bytes, areBytes, bit, between}
+use Rattle.rules_dictionary.specs.Table.{Row, dictionaryLength, statusWord, mapCount, mapEntry, mapSlots, mappingRows, identifier, eachWay, pdos, receivePdos, transmitPdos, directionOf, Found, found, lookup, open-table}
 use Rattle.rules_dictionary.specs.Values.{field, read, unpacked}
-use Rattle.rules_dictionary.specs.Aborts.{Abort, abortCode, Verdict, good, bad}
-use Rattle.rules_dictionary.specs.Legal.{mapWords, isValid, frameIdentifier, reservedBits, transmits, transmitBit, firstIdentifier, lastIdentifier as lastPdoIdentifier, badIdentifier, identifiers}
-use Rattle.rules_dictionary.specs.Plans.{mapped, targets, planFor, readyFor, plansOf, readyOf, joined, pdoData}
+use Rattle.rules_dictionary.specs.Aborts.{Abort, abortCode, Verdict, bad}
+use Rattle.rules_dictionary.specs.Legal.{isValid, frameIdentifier, reservedBits, transmits, transmitBit, firstIdentifier, lastIdentifier as lastPdoIdentifier, identifiers}
+use Rattle.rules_dictionary.specs.Plans.{mapped, targets, readyFor, plansOf, readyOf, joined, pdoData}
 use Rattle.rules_dictionary.proofs.Tests.{and-left, and-right, and-both, In, here, there, each-in, none-in}
 use Rattle.rules_dictionary.proofs.Packing.{within}
 use Rattle.rules_dictionary.proofs.Members.{in-map, in-left, words-read}
@@ -28,19 +27,19 @@ use Rattle.rules_dictionary.proofs.Rows.{bytes-value, part-bytes, read-fits}
 use Rattle.rules_services.proofs.Tempting.{short-frame-dropped}
 use Rattle.rules_services.specs.Effects.{Frame, frame, Effect, becomes, sends, isStopped, isOperational}
 use Rattle.rules_services.specs.Emergency.{emergency, pdoTooShort, pdoTooLong, valueRefused}
-use Rattle.rules_services.specs.Sdo.{Command, download, upload, clientAbort, unknown, commandOf, commandByte, askedIndex, askedSubindex, downloadVerdict, decided as sdoDecided, toRow, toObject, asked, sdo, abort, aborted as abortByte, dataSize, reply, requestBase, requestLength, replyBase}
-use Rattle.rules_services.specs.PdoTraffic.{works, mappedLength, areLegal, heldOrApplied, received, listens, receivedBy, sync, syncBase, noData}
+use Rattle.rules_services.specs.Sdo.{Command, download, commandOf, commandByte, askedIndex, askedSubindex, downloadVerdict, decided as sdoDecided, toRow, toObject, asked, sdo, abort, aborted as abortByte, dataSize, reply, requestBase, requestLength, replyBase}
+use Rattle.rules_services.specs.PdoTraffic.{works, mappedLength, areLegal, heldOrApplied, received, listens, receivedBy, syncBase, noData}
 use Rattle.rules_services.specs.Nmt.{nmt, nmtIdentifier}
-use Rattle.rules.specs.Outcome.{End, ended, sentInto, mostData, transmitters}
+use Rattle.rules.specs.Outcome.{ended, sentInto, mostData, transmitters}
 use Rattle.rules.specs.Sound.{sound}
-use Rattle.rules.specs.Calls.{Call, powerUpCall, frameCall, eventCall, Decision, refuses, does as performs, framed, decision, decided, refused, accepted, answered, answer, outputLength, lastIdentifier}
-use Rattle.theorems.specs.Promises.{Step, Stand, does, left, octets, Run, reached, FreshAt, NothingStale, ReadyFrameStays, RefusedMeansNothing, RefusedWriteChangesNothing, DroppedFrameChangesNothing, ShortFrameChangesNothing, NoOldMapping, SameStatusWord, uploadStatus}
-use Rattle.theorems.proofs.Booleans.{either, clash, or-false-left, or-false-right, and-then-false, not-false}
+use Rattle.rules.specs.Calls.{frameCall, Decision, refuses, does as performs, framed, decision, decided, refused, accepted, answered, answer, outputLength, lastIdentifier}
+use Rattle.theorems.specs.Promises.{Stand, does, reached, FreshAt, NothingStale, ReadyFrameStays, RefusedMeansNothing, RefusedWriteChangesNothing, DroppedFrameChangesNothing, ShortFrameChangesNothing, NoOldMapping, SameStatusWord, uploadStatus}
+use Rattle.theorems.proofs.Booleans.{clash, or-false-right, and-then-false}
 use Rattle.theorems.proofs.Identifiers.{Fits, fits, badAlone}
-use Rattle.theorems.proofs.Dictionary.{DictionaryOk, from-test, map-same}
+use Rattle.theorems.proofs.Dictionary.{DictionaryOk, map-same}
 use Rattle.theorems.proofs.Settled.{status-in}
 use Rattle.theorems.proofs.NmtKept.{in-cons}
-use Rattle.theorems.proofs.Lawful.{Lawful, sound-lawful, transmitter-in, transmitter-at}
+use Rattle.theorems.proofs.Lawful.{sound-lawful, transmitter-in}
 use Rattle.theorems.proofs.Runs.{Holds, run-holds, step-holds, passed}
 use Rattle.theorems.proofs.Mapped.{mapped-short}
 use Rattle.theorems.proofs.Quiet.{status-made, mode-made, said, field-length}

@@ -1,6 +1,6 @@
 -- The dictionary stays sound when a row is written with a value that it may hold.
 -- Assumes nothing.
-use Prim.Native.Nat.{ℕ, zero, suc, _+_, _^_, _<_, _≤_}
+use Prim.Native.Nat.{ℕ, zero, suc, _^_, _<_}
 use native.Mathlib.Omega.{arith}
 use mathlib.Core.Path.{_≡_, refl, sym, _∙_, ap, ap₂, subst}
 use mathlib.Core.Logic.{_⊎_, inl, inr}
@@ -8,16 +8,16 @@ use mathlib.Core.Bool.{Bool, true, false, not, _&&_, _||_}
 use mathlib.Core.List.{List, [], _∷_, map}
 use borrow.Author.Tests.{eqb-true, eq-eqb, ltb-true}
 use lib.Dec.{eqb, ltb}
-use lib.ListN.{length, take, getD}
-use Rattle.rules_dictionary.specs.Numbers.{all, areBytes}
+use lib.ListN.{length, getD}
+use Rattle.rules_dictionary.specs.Numbers.{all}
 use Rattle.rules_dictionary.specs.Table.{Row, Role, plain, modeOfOperation, pdoIdentifier, pdoType, mappingCount, mappingEntry, table, sizeOf, dictionaryLength, isConstant, pdos, identifier, mapCount, mapEntry, mapSlots}
-use Rattle.rules_dictionary.specs.Values.{Write, write, read, store, stored, defaultOf, unpacked}
-use Rattle.rules_dictionary.specs.Aborts.{isGood, good, firstOf}
+use Rattle.rules_dictionary.specs.Values.{Write, write, read, store, defaultOf, unpacked}
+use Rattle.rules_dictionary.specs.Aborts.{isGood, firstOf}
 use Rattle.rules_dictionary.specs.Legal.{entryVerdict, countVerdict, mapWords, identifiers, badIdentifier}
 use Rattle.rules_dictionary.proofs.Tests.{and-left, and-right, and-both, In, here, there, all-in}
 use Rattle.rules_dictionary.proofs.Packing.{apart, within, same-or-apart}
 use Rattle.rules_dictionary.proofs.Rows.{read-apart, read-same}
-use Rattle.rules_dictionary.proofs.Members.{all-of, in-map, unpacked-table, words-read, identifier-in, count-in, entry-in}
+use Rattle.rules_dictionary.proofs.Members.{all-of, unpacked-table, words-read, identifier-in, count-in, entry-in}
 use Rattle.rules.specs.Sound.{constantsAsListed, inRange, valuesInRange, mappingLegal, mappingsLegal, identifiersLegal, dictionarySound}
 use Rattle.theorems.proofs.Booleans.{either, clash, not-false, false-not, implied, implies}
 use Rattle.theorems.proofs.Identifiers.{of-pdo, identifiers-stay}

@@ -1,11 +1,9 @@
 -- The drive stays sound through every command, mode and event: the store, both marks and the cause stay in their place.
 -- Assumes nothing.
 use Prim.Native.Nat.{ℕ}
-use mathlib.Core.Path.{_≡_, refl, sym, _∙_, ap, subst}
-use mathlib.Core.Logic.{_⊎_, inl, inr}
+use mathlib.Core.Path.{_≡_, refl, sym, _∙_, ap}
 use mathlib.Core.Bool.{Bool, true, false, cond, not, _&&_, _||_, or-true}
 use mathlib.Core.List.{List}
-use Rattle.rules_dictionary.specs.declared.Mode.{Mode}
 use Rattle.drive.specs.declared.DriveState.{DriveState}
 use Rattle.drive.specs.declared.DriveState.the-variants.{NotReady, SwitchOnDisabled, ReadyToSwitchOn, SwitchedOn, OperationEnabled, QuickStopActive, FaultReactionActive, Fault}
 use Rattle.drive.specs.declared.Store.{Store}
@@ -17,10 +15,10 @@ use Rattle.rules_dictionary.specs.Values.{read}
 use Rattle.rules_dictionary.proofs.Tests.{and-left, and-right, and-both}
 use Rattle.drive.specs.declared.Command.{Command}
 use Rattle.drive.specs.declared.Command.the-variants.{None, FaultReset, DisableVoltage, QuickStop, Shutdown, SwitchOn, Enable}
-use Rattle.drive.specs.DriveStates.{isNotReady, isQuickStop, isReaction, isFault, isFaulty, command, next}
-use Rattle.drive.specs.SetPoints.{positions, emptied, enters, withState, withMode, withStore, withMarks, withCause, isEmpty, isMoving, isQueued, reached, behind, take, offered, target, withinLimits, setPoint, setPointRule, modeWritten, modeOf, controlWritten, newSetPointBit, atOnceBit}
+use Rattle.drive.specs.DriveStates.{isFaulty, command, next}
+use Rattle.drive.specs.SetPoints.{positions, emptied, enters, withState, withMode, withStore, withMarks, isEmpty, isMoving, isQueued, reached, take, offered, target, withinLimits, setPoint, setPointRule, modeWritten, modeOf, controlWritten, newSetPointBit, atOnceBit}
 use Rattle.rules.specs.Sound.{storeInPlace, takenInPlace, causeInPlace, driveSound}
-use Rattle.theorems.proofs.Booleans.{either, clash, implied, implies, not-false}
+use Rattle.theorems.proofs.Booleans.{clash, implied, implies}
 
 -- ---- emptied: the store and both marks are in place; the taken mark at most goes
 

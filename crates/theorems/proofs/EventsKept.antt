@@ -1,36 +1,34 @@
 -- Events leave a lawful state.
 -- Assumes nothing.
-use Prim.Native.Nat.{ℕ, zero, suc, _+_, _*_, _^_, _<_, _≤_}
+use Prim.Native.Nat.{ℕ, zero, suc, _*_, _^_, _<_}
 use native.Mathlib.Omega.{arith}
 use native.Mathlib.Nat.{pow-suc}
-use mathlib.Core.Path.{_≡_, refl, sym, _∙_, ap, subst}
-use mathlib.Core.Logic.{_⊎_, inl, inr}
-use mathlib.Core.Bool.{Bool, true, false, cond, not, _&&_, _||_}
+use mathlib.Core.Path.{_≡_, refl, _∙_, ap}
+use mathlib.Core.Bool.{Bool, true, false, cond, _&&_, _||_}
 use mathlib.Core.List.{List, [], _∷_}
 use borrow.Author.Tests.{ltb-true}
 use lib.Bits.{bitOr, or-lt}
-use lib.Dec.{ltb}
-use lib.ListN.{length, take, drop, getD}
+use lib.ListN.{take}
 use Rattle.drive.specs.declared.DriveState.{DriveState}
 use Rattle.drive.specs.declared.DriveState.the-variants.{NotReady, SwitchOnDisabled, ReadyToSwitchOn, SwitchedOn, OperationEnabled, QuickStopActive, FaultReactionActive, Fault}
 use Rattle.drive.specs.declared.Drive.{Drive}
 use Rattle.state.specs.declared.State.{State}
-use Rattle.rules_dictionary.specs.Numbers.{all, value, part, isByte, areBytes}
-use Rattle.rules_dictionary.specs.Table.{Row, plain, whole, size, table, sizeOf, dictionaryLength, isConstant, errorCode, errorRegister, position, velocity, mode, controlWord, heartbeatTime, open-table}
-use Rattle.rules_dictionary.specs.Values.{Write, write, read, store, stored}
+use Rattle.rules_dictionary.specs.Numbers.{value, isByte, areBytes}
+use Rattle.rules_dictionary.specs.Table.{Row, plain, whole, table, sizeOf, isConstant, errorCode, errorRegister, position, velocity, mode, controlWord, heartbeatTime, open-table}
+use Rattle.rules_dictionary.specs.Values.{read, store, stored}
 use Rattle.rules_dictionary.proofs.Tests.{and-left, and-right, and-both, In}
 use Rattle.rules_dictionary.proofs.Packing.{apart, found-in, within}
 use Rattle.rules_dictionary.proofs.Rows.{read-fits}
-use Rattle.drive.specs.DriveStates.{isNotReady, isQuickStop, isReaction, isFault, isFaulty}
-use Rattle.drive.specs.SetPoints.{enters, withStore, withCause, reached, isMoving}
-use Rattle.rules_services.specs.Effects.{Effect, becomes, withDrive, withVoltage}
+use Rattle.drive.specs.DriveStates.{isNotReady, isQuickStop, isFaulty}
+use Rattle.drive.specs.SetPoints.{enters, withStore, withCause, reached}
+use Rattle.rules_services.specs.Effects.{withDrive}
 use Rattle.rules_services.specs.Events.{Event, started, quickStopDone, reactionDone, setPointReached, tick, causeGone, fault, feedback, voltage, isInPlace, faulted, happens, genericError}
-use Rattle.rules.specs.Sound.{inRange, driveSound, storeInPlace, takenInPlace, causeInPlace}
-use Rattle.theorems.proofs.Booleans.{either, clash, implied, implies}
+use Rattle.rules.specs.Sound.{driveSound, storeInPlace, takenInPlace, causeInPlace}
+use Rattle.theorems.proofs.Booleans.{clash, implied}
 use Rattle.theorems.proofs.Alike.{isPdo}
 use Rattle.theorems.proofs.Settled.{drive-may, whole-range}
 use Rattle.theorems.proofs.Lawful.{Lawful}
-use Rattle.theorems.proofs.DriveKept.{enters-sound, enters-store, enters-cause, emptied-mode, emptied-state, emptied-taken, reached-sound}
+use Rattle.theorems.proofs.DriveKept.{enters-sound, enters-store, emptied-mode, emptied-state, emptied-taken, reached-sound}
 use Rattle.theorems.proofs.Writes.{store-lawful}
 use Rattle.theorems.proofs.NmtKept.{LawfulAfter, drive-lawful, tick-lawful}
 

@@ -4,15 +4,15 @@ use Prim.Native.Nat.{ℕ}
 use mathlib.Core.Path.{_≡_, refl, sym, _∙_, ap, subst}
 use mathlib.Core.Logic.{_⊎_, inl, inr}
 use mathlib.Core.Bool.{Bool, true, false, not, _&&_, _||_, Bool·beq}
-use mathlib.Core.List.{List, [], _∷_, map}
-use borrow.Author.Tests.{eqb-true, eq-eqb}
+use mathlib.Core.List.{map}
+use borrow.Author.Tests.{eq-eqb}
 use lib.Dec.{eqb}
 use lib.ListN.{getD}
 use Rattle.rules_dictionary.specs.Numbers.{bit, between, any}
 use Rattle.rules_dictionary.specs.Table.{pdos, directionOf}
 use Rattle.rules_dictionary.specs.Legal.{badIdentifier, clashes, isValid, frameIdentifier, reservedBits, transmits, transmitBit, firstIdentifier, lastIdentifier}
 use Rattle.rules_dictionary.proofs.Tests.{In, each-in, and-left, and-right, and-both}
-use Rattle.theorems.proofs.Booleans.{either, clash, or-false-left, or-false-right, or-both-false, and-false-if, and-then-false, not-false, any-false-in, any-false-of, eqb-comm}
+use Rattle.theorems.proofs.Booleans.{clash, or-false-left, or-false-right, or-both-false, and-false-if, and-then-false, not-false, any-false-in, any-false-of, eqb-comm}
 
 -- the eight PDOs are 0 to 7 in order
 pub of-pdo {ℓ} : {A : Type ℓ} (f : ℕ → A) (z : A) {p : ℕ} → In p pdos → getD (map f pdos) p z ≡ f p

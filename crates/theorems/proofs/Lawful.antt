@@ -1,37 +1,31 @@
 -- What a service owes: its effect is lawful. Then the call ends sound, whatever the service was.
 -- Assumes nothing.
-use Prim.Native.Nat.{ℕ, zero, suc, _+_, _<_, _≤_}
+use Prim.Native.Nat.{ℕ, zero, suc, _+_, _<_}
 use native.Mathlib.Omega.{arith}
 use mathlib.Core.Path.{_≡_, refl, sym, _∙_, ap, ap₂, subst}
-use mathlib.Core.Logic.{_⊎_, inl, inr}
 use mathlib.Core.Bool.{Bool, true, false, cond, not, _&&_, _||_, or-true, false≢true}
 use mathlib.Core.List.{List, [], _∷_, map}
-use borrow.Author.Tests.{eq-eqb, eqb-true, eqb-false, lt-ltb, ltb-true, leb-true}
-use lib.Dec.{eqb, ltb, leb}
+use borrow.Author.Tests.{eq-eqb, eqb-true, eqb-false, lt-ltb, ltb-true}
+use lib.Dec.{eqb, ltb}
 use lib.ListN.{length, getD}
-use Rattle.rules_dictionary.specs.declared.Move.{Move}
 use Rattle.rules_dictionary.specs.declared.Plan.{Plan}
 use Rattle.rules_dictionary.specs.declared.PdoData.{PdoData}
-use Rattle.drive.specs.declared.Drive.{Drive}
 use Rattle.state.specs.declared.NmtState.{NmtState}
 use Rattle.state.specs.declared.State.{State}
-use Rattle.rules_dictionary.specs.Numbers.{all, between}
 use Rattle.rules_dictionary.specs.TheNode.{isNodeId}
-use Rattle.rules_dictionary.specs.Table.{Row, table, dictionaryLength, eachWay, pdos, receivePdos, transmitPdos, mode, modeDisplay, statusWord, controlWord, heartbeatTime}
+use Rattle.rules_dictionary.specs.Table.{Row, table, dictionaryLength, eachWay, pdos, receivePdos, transmitPdos, mode, modeDisplay, controlWord, heartbeatTime}
 use Rattle.rules_dictionary.specs.Values.{read, stored}
 use Rattle.rules_dictionary.specs.Legal.{modeNumber, isCyclic}
 use Rattle.rules_dictionary.specs.Plans.{plansOf, readyOf}
 use Rattle.rules_dictionary.proofs.Tests.{and-left, and-right, and-both, In, here, there, each-in}
-use Rattle.rules_dictionary.proofs.Rows.{length-stored}
 use Rattle.rules_dictionary.proofs.Members.{in-left, in-right}
 use Rattle.rules_services.specs.Effects.{Effect, isStopped}
-use Rattle.rules_services.specs.PdoTraffic.{Pace, pace, paceOf, cyclic, acyclic, eventDriven, works, typeOf, noData}
-use Rattle.rules.specs.Outcome.{End, ended, settled, statusOf, paceFor, transmitters, sameBy, sameMove, samePlan, sameData, enters, changes}
-use Rattle.rules.specs.Sound.{sound, dictionarySound, statusAsMade, modeAsMade, plansFresh, readyFresh, driveSound, storeInPlace, takenInPlace, causeInPlace, heartbeatSound, waitingSound, countSound, dueSound, heldSound, pairwise}
-use Rattle.theorems.proofs.Booleans.{either, clash}
+use Rattle.rules_services.specs.PdoTraffic.{Pace, pace, paceOf, cyclic, acyclic, eventDriven, works, typeOf}
+use Rattle.rules.specs.Outcome.{ended, settled, statusOf, paceFor, transmitters, sameBy, sameMove, samePlan, sameData, enters, changes}
+use Rattle.rules.specs.Sound.{sound, dictionarySound, statusAsMade, modeAsMade, plansFresh, readyFresh, driveSound, takenInPlace, heartbeatSound, waitingSound, countSound, dueSound, heldSound, pairwise}
 use Rattle.theorems.proofs.Dictionary.{DictionaryOk, to-test, from-test}
 use Rattle.theorems.proofs.Alike.{isPdo, held-alike, works-alike, type-alike}
-use Rattle.theorems.proofs.Settled.{settled-apart, settled-length, settled-motion, settled-pdo, settled-status, settled-display, settled-ok, status-same}
+use Rattle.theorems.proofs.Settled.{settled-apart, settled-motion, settled-pdo, settled-status, settled-display, settled-ok, status-same}
 
 -- THE OBLIGATION of a service: the state's own parts after it are sound with the dictionary as it has written it. (6041h, 6061h, plans,
 -- ready frames and due marks are not its own: they are made at the call's end.)

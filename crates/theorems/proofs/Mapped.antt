@@ -1,18 +1,18 @@
 -- What a legal mapping maps: rows of its direction, eight bytes at the most, each written by a value that SDO would take.
 -- Assumes nothing.
-use Prim.Native.Nat.{ℕ, zero, suc, _+_, _*_, _-_, _^_, _<_, _≤_}
+use Prim.Native.Nat.{ℕ, zero, suc, _*_, _-_, _^_, _<_, _≤_}
 use native.Mathlib.Omega.{arith}
-use mathlib.Core.Path.{_≡_, refl, sym, _∙_, ap, ap₂, subst}
+use mathlib.Core.Path.{_≡_, refl, sym, _∙_, ap, subst}
 use mathlib.Core.Logic.{_⊎_, inl, inr}
-use mathlib.Core.Bool.{Bool, true, false, cond, not, _&&_, _||_, Bool·not-not}
+use mathlib.Core.Bool.{Bool, true, false, not, _&&_, _||_}
 use mathlib.Core.List.{List, [], _∷_, map}
 use borrow.Author.Tests.{eqb-true, ltb-true, ltb-false}
 use lib.Dec.{eqb, ltb}
 use lib.ListN.{length, take, drop}
-use Rattle.rules_dictionary.specs.Numbers.{all, any, sum, value}
-use Rattle.rules_dictionary.specs.Table.{Row, Access, table, sizeOf, isConstant, Mappable, unmappable, toReceive, toTransmit, Direction, receive, transmit, directionOf, pdos, receivePdos, transmitPdos, mapCount, mapEntry, mapSlots, wordIndex, wordSubindex, wordLength, Found, found, noObject, noSubindex, lookup, search, open-table}
+use Rattle.rules_dictionary.specs.Numbers.{all, sum, value}
+use Rattle.rules_dictionary.specs.Table.{Row, table, sizeOf, isConstant, Direction, receive, directionOf, pdos, receivePdos, transmitPdos, mapCount, mapEntry, mapSlots, wordIndex, wordSubindex, wordLength, Found, found, noObject, noSubindex, lookup, open-table}
 use Rattle.rules_dictionary.specs.Values.{Write, write, read, store, stored, unpacked}
-use Rattle.rules_dictionary.specs.Aborts.{Verdict, good, bad, isGood, test, firstOf, open-aborts}
+use Rattle.rules_dictionary.specs.Aborts.{Verdict, good, bad, isGood}
 use Rattle.rules_dictionary.specs.Legal.{suits, targetVerdict, entryVerdict, countVerdict, mapWords, mostBits, valueVerdict, isAbove}
 use Rattle.rules_dictionary.specs.Plans.{andThen, targets, mapped}
 use Rattle.rules_dictionary.proofs.Tests.{and-left, and-right, and-both, In, here, there, none-in, all-in, each-in}
@@ -20,13 +20,12 @@ use Rattle.rules_dictionary.proofs.Members.{all-of, in-left}
 use Rattle.rules_dictionary.proofs.Rows.{length-store}
 use Rattle.rules_services.specs.PdoTraffic.{mappedLength, areLegal}
 use Rattle.rules_dictionary.specs.Table.{dictionaryLength}
-use Rattle.rules.specs.Sound.{inRange}
-use Rattle.theorems.proofs.Booleans.{either, clash, implied, or-false-left, or-false-right, not-false, false-not}
-use Rattle.theorems.proofs.Dictionary.{DictionaryOk, MayHold, store-ok, entries-good}
+use Rattle.theorems.proofs.Booleans.{clash, implied, or-false-left, or-false-right, not-false}
+use Rattle.theorems.proofs.Dictionary.{DictionaryOk, store-ok, entries-good}
 use Rattle.theorems.proofs.Alike.{isPdo, mapped-in}
 use Rattle.theorems.proofs.Settled.{drive-may}
 use Rattle.theorems.proofs.NmtKept.{in-cons}
-use Rattle.theorems.proofs.SdoKept.{good-passes, GoodValue, good-value, good-range}
+use Rattle.theorems.proofs.SdoKept.{good-passes, good-value, good-range}
 
 -- ---- a legal word is zero, or names a row of its direction by its length
 

@@ -1,15 +1,14 @@
 -- NMT commands and ticks leave a lawful state.
 -- Assumes nothing.
-use Prim.Native.Nat.{ℕ, suc, _+_, _^_, _<_, _≤_}
+use Prim.Native.Nat.{ℕ, suc, _+_, _^_, _<_}
 use native.Mathlib.Omega.{arith}
 use mathlib.Core.Path.{_≡_, refl, sym, _∙_, ap, ap₂, subst}
 use mathlib.Core.Logic.{_⊎_, inl, inr}
-use mathlib.Core.Bool.{Bool, true, false, cond, not, _&&_, _||_, or-true}
-use mathlib.Core.List.{List, [], _∷_, _++_, map, append-nil}
-use borrow.Author.Tests.{eq-eqb, eqb-true, leb-true, ltb-true, lt-ltb}
+use mathlib.Core.Bool.{Bool, true, false, cond, not, _&&_, or-true}
+use mathlib.Core.List.{List, [], _∷_, map, append-nil}
+use borrow.Author.Tests.{eqb-true, leb-true, ltb-true}
 use lib.Dec.{eqb, ltb, leb}
 use lib.ListN.{length, getD}
-use Rattle.rules_dictionary.specs.declared.PdoData.{PdoData}
 use Rattle.drive.specs.declared.Drive.{Drive}
 use Rattle.state.specs.declared.NmtState.{NmtState}
 use Rattle.state.specs.declared.NmtState.the-variants.{PreOperational, Operational, Stopped}
@@ -17,7 +16,7 @@ use Rattle.state.specs.declared.State.{State}
 use Rattle.rules_dictionary.specs.Numbers.{all, filter, value}
 use Rattle.rules_dictionary.specs.TheNode.{lastNode, isNodeId}
 use Rattle.rules_dictionary.specs.Table.{Row, table, same, sizeOf, dictionaryLength, isConstant, pdos, receivePdos, transmitPdos, eachWay, mode, controlWord, heartbeatTime, identifier, mapCount, mapEntry, mapSlots, open-table}
-use Rattle.rules_dictionary.specs.Values.{Write, write, read, store, stored, defaultOf, toDefaults}
+use Rattle.rules_dictionary.specs.Values.{read, store, stored, defaultOf, toDefaults}
 use Rattle.rules_dictionary.specs.Aborts.{isGood, open-aborts}
 use Rattle.rules_dictionary.specs.Legal.{isCyclic, modeNumber, entryVerdict, countVerdict, mapWords, identifiers, badIdentifier, open-legal}
 use Rattle.rules_dictionary.proofs.Tests.{and-left, and-right, and-both, In, here, there, each-in, all-in, allBelow, on-nodes, none-in}
@@ -28,14 +27,14 @@ use Rattle.rules_dictionary.proofs.Defaults.{defaults-in-range}
 use Rattle.drive.specs.declared.Command.the-variants.{DisableVoltage}
 use Rattle.drive.specs.DriveStates.{next}
 use Rattle.drive.specs.SetPoints.{enters}
-use Rattle.rules_services.specs.Effects.{Effect, becomes, sends, withDrive, withHeld, withPacing, withNmt, withHeartbeat, isOperational, isPreOperational}
+use Rattle.rules_services.specs.Effects.{Effect, becomes, sends, withDrive, withNmt, withHeartbeat, isOperational, isPreOperational}
 use Rattle.rules_services.specs.PdoTraffic.{works, typeOf, noneHeld}
 use Rattle.rules_services.specs.Nmt.{left, voltageDisabled, isReset, commanded, Command, start, stop, enterPreOperational, resetNode, resetCommunication, unknown, noCounts, tick, heartbeat, powerUp, freshState}
 use Rattle.rules.specs.Outcome.{transmitters}
 use Rattle.rules.specs.Sound.{sound, inRange, driveSound, storeInPlace, takenInPlace, causeInPlace, heartbeatSound, waitingSound, countSound, dueSound, heldSound, pairwise}
 use Rattle.theorems.proofs.Booleans.{either, clash, not-false}
 use Rattle.theorems.proofs.Dictionary.{DictionaryOk, map-same}
-use Rattle.theorems.proofs.Lawful.{Lawful, pairwise-map, pairwise-at, transmitter-in, transmitter-at, clauses, sound-lawful}
+use Rattle.theorems.proofs.Lawful.{Lawful, pairwise-map, pairwise-at, transmitter-at, clauses, sound-lawful}
 use Rattle.theorems.proofs.DriveKept.{enters-sound, next-cause, emptied-mode}
 use Rattle.theorems.proofs.Writes.{idle, idle-held}
 

@@ -3,10 +3,10 @@
 use Prim.Native.Nat.{ℕ, zero, suc, _+_, _-_, _<_, _≤_}
 use native.Mathlib.Omega.{arith}
 use mathlib.Core.Path.{_≡_, refl, sym, _∙_, ap, ap₂, subst}
-use mathlib.Core.Logic.{_⊎_, inl, inr}
-use mathlib.Core.Bool.{Bool, true, false, cond, not, _&&_, _||_}
-use mathlib.Core.List.{List, [], _∷_, _++_}
-use borrow.Author.Tests.{eqb-true, ltb-true, ltb-false, le-ltb, lt-ltb}
+use mathlib.Core.Logic.{inr}
+use mathlib.Core.Bool.{Bool, true, false, cond, not, _&&_}
+use mathlib.Core.List.{List, [], _∷_}
+use borrow.Author.Tests.{ltb-false}
 use lib.Dec.{eqb, ltb}
 use lib.ListN.{length, getD, take, drop, set}
 use lib.Seq.{length-take-le, take-take, take-nil}
@@ -15,24 +15,24 @@ use Rattle.rules_dictionary.specs.declared.PdoData.{PdoData}
 use Rattle.state.specs.declared.NmtState.{NmtState}
 use Rattle.state.specs.declared.State.{State}
 use Rattle.rules_dictionary.specs.Numbers.{value, padded}
-use Rattle.rules_dictionary.specs.Table.{Row, table, sizeOf, dictionaryLength, pdos, receivePdos, transmitPdos}
-use Rattle.rules_dictionary.specs.Values.{Write, write, read, stored, unpacked}
+use Rattle.rules_dictionary.specs.Table.{Row, sizeOf, receivePdos, transmitPdos}
+use Rattle.rules_dictionary.specs.Values.{Write, write, stored, unpacked}
 use Rattle.rules_dictionary.specs.Legal.{isSynchronous}
 use Rattle.rules_dictionary.specs.Plans.{mapped, pdoData}
 use Rattle.rules_dictionary.proofs.Tests.{and-left, and-right, and-both, In, here, there, each-in}
 use Rattle.rules_dictionary.proofs.Members.{in-left}
-use Rattle.rules_services.specs.Effects.{Effect, becomes, sends, syncs, andThen, withHeld, isStopped, isOperational}
+use Rattle.rules_services.specs.Effects.{becomes, sends, syncs, andThen, withHeld, isStopped, isOperational}
 use Rattle.rules_services.specs.Emergency.{emergency, pdoTooShort, pdoTooLong, valueRefused, syncLength}
 use Rattle.rules_services.specs.Written.{applied}
 use Rattle.rules_services.specs.PdoTraffic.{works, typeOf, mappedLength, areLegal, heldOrApplied, received, listens, receivedBy, noData, isHeld, release, releaseAll, sync}
 use Rattle.rules.specs.Outcome.{sameData}
 use Rattle.rules.specs.Sound.{heldSound, pairwise}
-use Rattle.theorems.proofs.Booleans.{either, clash}
+use Rattle.theorems.proofs.Booleans.{clash}
 use Rattle.theorems.proofs.Dictionary.{DictionaryOk}
 use Rattle.theorems.proofs.Lawful.{Lawful, data-refl, pairwise-at}
 use Rattle.theorems.proofs.Writes.{stored-append, applied-lawful}
 use Rattle.theorems.proofs.NmtKept.{LawfulAfter}
-use Rattle.theorems.proofs.Mapped.{mapped-short, MayWrite, received-may, writes-ok}
+use Rattle.theorems.proofs.Mapped.{mapped-short, received-may, writes-ok}
 
 -- ---- values of a frame, stored and acted on
 

@@ -1,8 +1,8 @@
 -- A call that keeps the state and writes nothing leaves the dictionary byte for byte, and sends what it sends itself and no more.
 -- Assumes nothing.
-use Prim.Native.Nat.{ℕ, _+_, _<_, _≤_}
+use Prim.Native.Nat.{ℕ, _+_, _≤_}
 use native.Mathlib.Omega.{arith}
-use mathlib.Core.Path.{_≡_, refl, sym, _∙_, ap, ap₂, subst}
+use mathlib.Core.Path.{_≡_, refl, sym, _∙_, ap}
 use mathlib.Core.Bool.{Bool, true, false, cond, not, _&&_, _||_, and-not-self}
 use mathlib.Core.List.{List, [], _∷_, _++_, append-nil, append-assoc}
 use borrow.Author.Tests.{eqb-true}
@@ -12,18 +12,18 @@ use lib.Seq.{sets, sets-eq, length-take-le, drop-drop}
 use Rattle.rules_dictionary.specs.declared.PdoData.{PdoData}
 use Rattle.state.specs.declared.State.{State}
 use Rattle.rules_dictionary.specs.Numbers.{value, bytes, part, areBytes}
-use Rattle.rules_dictionary.specs.Table.{Row, table, sizeOf, dictionaryLength, statusWord, modeDisplay, mode, eachWay}
+use Rattle.rules_dictionary.specs.Table.{Row, sizeOf, statusWord, modeDisplay, mode, eachWay}
 use Rattle.rules_dictionary.specs.Values.{field, read, store, stored}
 use Rattle.rules_dictionary.specs.Legal.{isCyclic, modeNumber}
 use Rattle.rules_dictionary.specs.Plans.{readyOf}
 use Rattle.rules_dictionary.proofs.Tests.{and-left, and-right, In}
 use Rattle.rules_dictionary.proofs.Packing.{within}
 use Rattle.rules_dictionary.proofs.Rows.{bytes-value, part-bytes}
-use Rattle.rules_services.specs.Effects.{Frame, Effect, becomes, sends, isOperational}
+use Rattle.rules_services.specs.Effects.{Frame, becomes, sends, isOperational}
 use Rattle.rules_services.specs.PdoTraffic.{Pace, pace, paceOf, cyclic, acyclic, eventDriven, works, typeOf, noData}
-use Rattle.rules.specs.Outcome.{End, ended, settled, statusOf, paceFor, transmissions, transmitters, enters, changes, sameData}
+use Rattle.rules.specs.Outcome.{ended, settled, statusOf, paceFor, transmissions, transmitters, enters, changes}
 use Rattle.rules.specs.Sound.{sound, statusAsMade, modeAsMade}
-use Rattle.theorems.specs.Promises.{Stand, SoundAt}
+use Rattle.theorems.specs.Promises.{Stand}
 use Rattle.theorems.proofs.Settled.{status-in, display-in}
 use Rattle.theorems.proofs.Lawful.{clauses, data-refl}
 use Rattle.theorems.proofs.Runs.{Holds}

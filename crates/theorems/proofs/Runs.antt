@@ -3,10 +3,9 @@
 use Prim.Native.Nat.{ℕ, zero, suc, _+_, _^_, _<_, _≤_}
 use native.Mathlib.Omega.{arith}
 use mathlib.Core.Path.{_≡_, refl, sym, _∙_, ap, subst}
-use mathlib.Core.Logic.{_⊎_, inl, inr}
 use mathlib.Core.Bool.{Bool, true, false, cond, not, _&&_, _||_}
-use mathlib.Core.List.{List, [], _∷_, append-nil}
-use borrow.Author.Tests.{eq-eqb, eqb-true, le-leb, leb-true, ltb-true}
+use mathlib.Core.List.{List, [], _∷_}
+use borrow.Author.Tests.{eq-eqb, eqb-true, le-leb, ltb-true}
 use lib.Dec.{eqb, leb}
 use lib.ListN.{length, getD, drop}
 use Rattle.state.specs.declared.State.{State}
@@ -17,18 +16,18 @@ use Rattle.rules_dictionary.specs.TheNode.{isNodeId}
 use Rattle.rules_dictionary.specs.Table.{dictionaryLength, receivePdos}
 use Rattle.rules_dictionary.specs.Values.{stored}
 use Rattle.rules_dictionary.specs.Plans.{plansOf, readyOf}
-use Rattle.rules_dictionary.proofs.Tests.{and-left, and-right, and-both, In}
+use Rattle.rules_dictionary.proofs.Tests.{and-left, and-right}
 use Rattle.rules_dictionary.proofs.Rows.{stored-bytes, store-bytes, length-stored, all-drop}
 use Rattle.rules_services.specs.Effects.{Effect, becomes, isStopped}
 use Rattle.rules_services.specs.Sdo.{sdo, requestBase, requestLength}
 use Rattle.rules_services.specs.PdoTraffic.{sync, syncBase, receivedBy}
 use Rattle.rules_services.specs.Nmt.{nmt, nmtIdentifier, nmtLength, everyNode, commanded, commandOf, powerUp}
 use Rattle.rules_services.specs.Events.{Event, Told, event, badEvent, eventOf, isInPlace, happens, started, quickStopDone, reactionDone, setPointReached, tick, causeGone, fault, feedback, voltage, provided}
-use Rattle.rules.specs.Outcome.{End, ended, settled, mostData}
+use Rattle.rules.specs.Outcome.{ended, settled, mostData}
 use Rattle.rules.specs.Sound.{sound}
 use Rattle.rules.specs.Calls.{Call, powerUpCall, frameCall, eventCall, Decision, refuses, does as performs, framed, eventDecision, decision, decided, refused, accepted, answered, answer, Outcome, outputLength, lastIdentifier}
-use Rattle.theorems.specs.Promises.{Step, Stand, does, left, after, octets, allOctets, Run, reached, SoundAt, SoundAlways, NeverUnsound}
-use Rattle.theorems.proofs.Booleans.{either, clash}
+use Rattle.theorems.specs.Promises.{Step, Stand, left, after, octets, allOctets, Run, reached, SoundAt, SoundAlways, NeverUnsound}
+use Rattle.theorems.proofs.Booleans.{clash}
 use Rattle.theorems.proofs.Settled.{settled-length}
 use Rattle.theorems.proofs.Lawful.{Lawful, sound-lawful, ended-sound}
 use Rattle.theorems.proofs.NmtKept.{LawfulAfter, fresh-lawful, command-lawful}

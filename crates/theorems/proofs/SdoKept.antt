@@ -1,32 +1,32 @@
 -- SDO leaves a lawful state: what its tests let through is what a row may hold, at a time when it may.
 -- Assumes nothing.
-use Prim.Native.Nat.{ℕ, _+_, _^_, _<_}
-use mathlib.Core.Path.{_≡_, refl, sym, _∙_, ap, subst}
+use Prim.Native.Nat.{ℕ, _^_, _<_}
+use mathlib.Core.Path.{_≡_, refl, sym, _∙_, ap}
 use mathlib.Core.Logic.{_⊎_, inl, inr}
-use mathlib.Core.Bool.{Bool, true, false, cond, not, _&&_, _||_, Bool·not-not}
-use mathlib.Core.List.{List, [], _∷_, _++_}
+use mathlib.Core.Bool.{Bool, true, false, not, _||_, Bool·not-not}
+use mathlib.Core.List.{List, [], _∷_}
 use borrow.Author.Tests.{eqb-true}
-use lib.Dec.{eqb, ltb}
-use lib.ListN.{length, drop}
+use lib.Dec.{eqb}
+use lib.ListN.{drop}
 use Rattle.state.specs.declared.NmtState.{NmtState}
 use Rattle.state.specs.declared.NmtState.the-variants.{PreOperational, Operational, Stopped}
 use Rattle.state.specs.declared.State.{State}
 use Rattle.rules_dictionary.specs.Numbers.{areBytes}
 use Rattle.rules_dictionary.specs.Table.{Row, Role, plain, modeOfOperation, pdoIdentifier, pdoType, mappingCount, mappingEntry, Access, constant, nodeWritten, writable, table, sizeOf, isConstant, isWritable, identifier, mapCount, Found, found, noObject, noSubindex, lookup}
-use Rattle.rules_dictionary.specs.Values.{Write, write, read, store, stored}
-use Rattle.rules_dictionary.specs.Aborts.{Abort, Verdict, good, bad, isGood, Test, firstOf}
-use Rattle.rules_dictionary.specs.Legal.{valueVerdict, otherBadValue, mappingVerdict, badChoice, badIdentifier, identifiers, entryVerdict, countVerdict, mapWords, isValid, isBelow, isAbove}
-use Rattle.rules_dictionary.proofs.Tests.{and-left, and-right, and-both, In, here, there}
+use Rattle.rules_dictionary.specs.Values.{write, read, stored}
+use Rattle.rules_dictionary.specs.Aborts.{Verdict, good, bad, isGood, Test, firstOf}
+use Rattle.rules_dictionary.specs.Legal.{valueVerdict, otherBadValue, mappingVerdict, badChoice, isValid, isBelow, isAbove}
+use Rattle.rules_dictionary.proofs.Tests.{and-both, In}
 use Rattle.rules_dictionary.proofs.Packing.{found-in}
 use Rattle.rules_dictionary.proofs.Rows.{all-drop}
-use Rattle.rules_services.specs.Effects.{Effect, isPreOperational, isOperational}
+use Rattle.rules_services.specs.Effects.{isPreOperational, isOperational}
 use Rattle.rules_services.specs.Sdo.{Command, download, upload, clientAbort, unknown, commandOf, commandByte, askedIndex, askedSubindex, askedValue, isWrongTime, downloadVerdict, decided, toRow, toObject, asked, sdo, abort, dataPlace}
 use Rattle.rules.specs.Sound.{inRange}
-use Rattle.theorems.proofs.Booleans.{either, clash, or-false-left, or-false-right, not-false, false-not}
-use Rattle.theorems.proofs.Dictionary.{DictionaryOk, MayHold, store-ok}
+use Rattle.theorems.proofs.Booleans.{clash, or-false-left, or-false-right, false-not}
+use Rattle.theorems.proofs.Dictionary.{MayHold, store-ok}
 use Rattle.theorems.proofs.Alike.{isPdo}
 use Rattle.theorems.proofs.Lawful.{Lawful}
-use Rattle.theorems.proofs.Writes.{InTable, NoPdo, Quiet, one-row, applied-lawful}
+use Rattle.theorems.proofs.Writes.{NoPdo, one-row, applied-lawful}
 use Rattle.theorems.proofs.NmtKept.{LawfulAfter}
 use Rattle.theorems.proofs.EventsKept.{value-take}
 

@@ -1,35 +1,28 @@
 -- What is sent: a reply, emergencies, a boot-up or heartbeat, never more than two of these, and then the transmit PDOs; all of bytes.
 -- Assumes nothing.
-use Prim.Native.Nat.{ℕ, zero, suc, _+_, _*_, _/_, _%_, _^_, _<_, _≤_}
+use Prim.Native.Nat.{ℕ, zero, suc, _+_, _*_, _/_, _%_, _<_, _≤_}
 use native.Mathlib.Omega.{arith}
-use mathlib.Core.Path.{_≡_, refl, sym, _∙_, ap, ap₂, subst}
-use mathlib.Core.Logic.{_⊎_, inl, inr}
-use mathlib.Core.Bool.{Bool, true, false, cond, not, _&&_, _||_}
-use mathlib.Core.List.{List, [], _∷_, _++_, map, append-nil, append-assoc}
-use borrow.Author.Tests.{eq-eqb, eqb-true, le-leb, lt-ltb, leb-true}
-use lib.Dec.{eqb, leb, ltb}
-use lib.ListN.{length, getD, take, drop, set, length-append, length-take, length-drop}
-use lib.Seq.{drop-drop, length-take-le}
-use Rattle.rules_dictionary.specs.declared.PdoData.{PdoData}
-use Rattle.drive.specs.declared.DriveState.{DriveState}
-use Rattle.drive.specs.declared.Drive.{Drive}
-use Rattle.drive.specs.declared.Controlled.{Controlled}
+use mathlib.Core.Path.{_≡_, refl, sym, _∙_, ap}
+use mathlib.Core.Bool.{Bool, true, false, cond, _&&_}
+use mathlib.Core.List.{List, [], _∷_, _++_, append-nil, append-assoc}
+use borrow.Author.Tests.{eq-eqb, le-leb, lt-ltb, leb-true}
+use lib.Dec.{leb}
+use lib.ListN.{length, drop, length-append, length-take}
+use lib.Seq.{drop-drop}
 use Rattle.state.specs.declared.State.{State}
-use Rattle.rules_dictionary.specs.Numbers.{all, areBytes, isByte, bytes, part, padded, filter}
-use Rattle.rules_dictionary.specs.Table.{Row, table, dictionaryLength, controlWord, mode, heartbeatTime, errorRegister, eachWay}
-use Rattle.rules_dictionary.specs.Values.{Write, read, store, stored}
-use Rattle.rules_dictionary.proofs.Tests.{and-left, and-right, and-both, In, here, there}
+use Rattle.rules_dictionary.specs.Numbers.{all, areBytes, isByte, bytes, part, padded}
+use Rattle.rules_dictionary.specs.Table.{dictionaryLength, errorRegister}
+use Rattle.rules_dictionary.specs.Values.{read}
+use Rattle.rules_dictionary.proofs.Tests.{and-left, and-right, and-both}
 use Rattle.rules_dictionary.proofs.Packing.{within}
 use Rattle.rules_dictionary.proofs.Defaults.{length-bytes}
-use Rattle.rules_dictionary.proofs.Rows.{bytes-are, part-bytes, read-fits, store-bytes, stored-bytes, length-store, length-stored}
-use Rattle.rules_services.specs.Effects.{Frame, frame, Effect, becomes, sends, withDrive, withHeartbeat, isStopped}
-use Rattle.rules_services.specs.Emergency.{emergency, emergencyBase, faultGone}
-use Rattle.rules_services.specs.Written.{wrote, countRestarted, modeActed, faultReset, controlActed, applied}
+use Rattle.rules_dictionary.proofs.Rows.{bytes-are, part-bytes, read-fits}
+use Rattle.rules_services.specs.Effects.{Frame, frame, isStopped}
+use Rattle.rules_services.specs.Emergency.{emergency, emergencyBase}
 use Rattle.rules_services.specs.Sdo.{replyBase, reply}
 use Rattle.rules_services.specs.Nmt.{heartbeatBase}
 use Rattle.theorems.specs.Promises.{isOn, ElevenBytes, laid}
 use Rattle.rules.specs.Outcome.{encoded, sentInto, frameSize, mostData}
-use Rattle.theorems.proofs.Booleans.{either, clash}
 use Rattle.theorems.proofs.Writes.{register-in}
 
 -- ---- eleven bytes

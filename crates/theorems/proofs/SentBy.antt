@@ -1,51 +1,50 @@
 -- What each service sends, and the frames of a call.
 -- Assumes nothing.
-use Prim.Native.Nat.{ℕ, zero, suc, _+_, _*_, _^_, _<_, _≤_}
+use Prim.Native.Nat.{ℕ, suc, _+_, _<_, _≤_}
 use native.Mathlib.Omega.{arith}
 use mathlib.Core.Path.{_≡_, refl, sym, _∙_, ap, ap₂, subst}
 use mathlib.Core.Logic.{_⊎_, inl, inr}
 use mathlib.Core.Bool.{Bool, true, false, cond, not, _&&_, _||_}
 use mathlib.Core.List.{List, [], _∷_, _++_, map, append-nil, append-assoc}
-use borrow.Author.Tests.{eqb-true, le-leb}
+use borrow.Author.Tests.{le-leb}
 use lib.Dec.{eqb, leb, ltb}
-use lib.ListN.{length, getD, take, drop, set, length-append, length-take}
+use lib.ListN.{length, getD, take, set, length-append, length-take}
 use Rattle.rules_dictionary.specs.declared.PdoData.{PdoData}
-use Rattle.rules_dictionary.specs.declared.Mode.{Mode}
 use Rattle.drive.specs.declared.DriveState.{DriveState}
 use Rattle.drive.specs.declared.DriveState.the-variants.{NotReady, SwitchOnDisabled, ReadyToSwitchOn, SwitchedOn, OperationEnabled, QuickStopActive, FaultReactionActive, Fault}
 use Rattle.drive.specs.declared.Drive.{Drive}
 use Rattle.drive.specs.declared.Controlled.{Controlled}
 use Rattle.state.specs.declared.NmtState.{NmtState}
 use Rattle.state.specs.declared.NmtState.the-variants.{PreOperational, Operational, Stopped}
-use Rattle.state.specs.declared.Refusal.the-variants.{DictionaryLength, OutputLength, NodeId, NotSound, BadFrame, BadEvent, OutOfPlace}
+use Rattle.state.specs.declared.Refusal.the-variants.{DictionaryLength, OutputLength, NodeId, NotSound, BadFrame, OutOfPlace}
 use Rattle.rules_dictionary.specs.TheNode.{isNodeId}
 use Rattle.state.specs.declared.State.{State}
 use Rattle.rules_dictionary.specs.Numbers.{all, areBytes, isByte, padded, bytes, filter}
-use Rattle.rules_dictionary.specs.Table.{Row, sizeOf, mostMoves, identifier, transmitPdos, ValueType, u8, u16, u32, i8, i32, dictionaryLength, controlWord, mode, heartbeatTime, errorRegister, errorCode, eachWay, receivePdos, Found as Found′, found, noObject, noSubindex, lookup}
+use Rattle.rules_dictionary.specs.Table.{Row, sizeOf, mostMoves, identifier, ValueType, u8, u16, u32, i8, i32, dictionaryLength, controlWord, mode, heartbeatTime, errorRegister, errorCode, eachWay, receivePdos, Found as Found′, found, noObject, noSubindex, lookup}
 use Rattle.rules_dictionary.specs.Aborts.{Abort, abortCode, Verdict, good, bad, unknownCommand, noObject as absent, noSubindex as absentSub}
 use Rattle.rules_dictionary.specs.Legal.{isSynchronous, frameIdentifier}
 use Rattle.rules_dictionary.specs.Plans.{mapped, pdoData, joined, readyOf, readyFor}
 use Rattle.rules_dictionary.specs.Values.{Write, write, field, read, store, stored, unpacked}
-use Rattle.rules_dictionary.proofs.Tests.{and-left, and-right, and-both, In, here, there}
+use Rattle.rules_dictionary.proofs.Tests.{and-both, In, here, there}
 use Rattle.rules_dictionary.proofs.Rows.{part-bytes, all-take, store-bytes, stored-bytes, length-store, length-stored}
 use Rattle.drive.specs.declared.Command.{Command}
 use Rattle.drive.specs.declared.Command.the-variants.{None, FaultReset, DisableVoltage, QuickStop, Shutdown, SwitchOn, Enable}
-use Rattle.drive.specs.DriveStates.{isFault, isFaultReset, command, next, resets, fromPowered, fromQuickStop}
-use Rattle.drive.specs.SetPoints.{enters, emptied, withState, setPointRule, modeWritten, controlWritten, withMode, modeOf}
+use Rattle.drive.specs.DriveStates.{isFault, command, next, resets, fromPowered, fromQuickStop}
+use Rattle.drive.specs.SetPoints.{enters, emptied, withState, modeWritten, controlWritten, withMode, modeOf}
 use Rattle.rules_services.specs.Effects.{Frame, frame, Effect, becomes, sends, writes, syncs, isStopped, isOperational, isPreOperational, withNmt, withDrive, withHeartbeat, withHeld, andThen}
 use Rattle.rules_services.specs.Emergency.{emergency, faultGone, pdoTooShort, pdoTooLong, valueRefused, syncLength}
 use Rattle.rules_services.specs.Sdo.{Command as SdoCommand, download, upload, clientAbort, unknown, askedIndex, askedSubindex, askedValue, downloadVerdict, decided as sdoDecided, toRow, toObject, asked, abort, reply, aborted as abortByte, downloaded, uploaded}
-use Rattle.rules_services.specs.PdoTraffic.{works, typeOf, mappedLength, areLegal, heldOrApplied, received, listens, receivedBy, noData, isHeld, release, releaseAll, sync}
+use Rattle.rules_services.specs.PdoTraffic.{typeOf, mappedLength, areLegal, heldOrApplied, received, listens, receivedBy, noData, isHeld, release, releaseAll, sync}
 use Rattle.rules_services.specs.Written.{wrote, countRestarted, modeActed, faultReset, controlActed, applied}
 use Rattle.rules_services.specs.Sdo.{commandOf as sdoCommandOf, commandByte, sdo, requestBase, requestLength}
 use Rattle.rules_services.specs.PdoTraffic.{syncBase, Pace, transmitted}
 use Rattle.rules_services.specs.Nmt.{nmt, nmtIdentifier, nmtLength, everyNode, commanded, commandOf as nmtCommandOf, Command as NmtCommand, start, stop, enterPreOperational, resetNode, resetCommunication, unknown as unknownNmt, powerUp, freshState, tick as ticked, left, voltageDisabled, heartbeat, stateByte}
 use Rattle.rules_services.specs.Events.{Told, event, badEvent, eventOf, Event, started, quickStopDone, reactionDone, setPointReached, tick, causeGone, fault, feedback, voltage, isInPlace, happens, faulted}
-use Rattle.rules.specs.Outcome.{ended, settled, paceFor, transmissions, transmitters, sentInto, mostData}
+use Rattle.rules.specs.Outcome.{ended, settled, paceFor, transmissions, transmitters, mostData}
 use Rattle.rules.specs.Sound.{sound}
 use Rattle.rules.specs.Calls.{Call, powerUpCall, frameCall, eventCall, Decision, refuses, does as performs, framed, eventDecision, decision, decided, refused, accepted, answered, answer, outputLength, lastIdentifier}
-use Rattle.theorems.specs.Promises.{Step, Stand, does, octets, Run, reached, Ordered, laid, FramesOf, AtMostSixInOrder, OutputOfBytes}
-use Rattle.theorems.proofs.Booleans.{either, clash}
+use Rattle.theorems.specs.Promises.{Stand, octets, reached, Ordered, laid, FramesOf, AtMostSixInOrder, OutputOfBytes}
+use Rattle.theorems.proofs.Booleans.{clash}
 use Rattle.theorems.proofs.DriveKept.{emptied-state, rule-same}
 use Rattle.theorems.proofs.Runs.{run-holds, ended-bytes}
 use Rattle.theorems.proofs.Demands.{ready-at}

@@ -1,7 +1,7 @@
 -- The nodes that demand 2 shuts out do not keep the ten examples.
 -- Assumes nothing.
 use mathlib.Core.Path.{_≡_, refl}
-use mathlib.Core.Bool.{true, false}
+use mathlib.Core.Bool.{true}
 use Rattle.rules.specs.Scripts.{fromNothing, open-rules}
 use Rattle.rules.specs.Examples.{open-examples}
 use Rattle.rules.specs.Calls.{answer}

@@ -1,29 +1,25 @@
 -- Set-points are taken at the edge of bit 4 and nowhere else.
 -- Assumes nothing.
-use Prim.Native.Nat.{ℕ, zero, suc, _+_, _^_, _<_, _≤_}
+use Prim.Native.Nat.{ℕ, _+_, _^_, _<_, _≤_}
 use native.Mathlib.Omega.{arith}
-use mathlib.Core.Path.{_≡_, refl, sym, _∙_, ap, ap₂, subst}
+use mathlib.Core.Path.{_≡_, refl, sym, _∙_, ap, subst}
 use mathlib.Core.Logic.{_⊎_, inl, inr}
 use mathlib.Core.Bool.{Bool, true, false, cond, not, _&&_, _||_}
 use mathlib.Core.List.{List, [], _∷_, _++_, append-nil}
-use borrow.Author.Tests.{eqb-true, ltb-false}
-use lib.Dec.{eqb, leb, ltb}
-use lib.ListN.{length, getD, take, drop, set}
+use lib.ListN.{length, take, drop}
 use lib.Seq.{drop-drop}
-use Rattle.rules_dictionary.specs.declared.PdoData.{PdoData}
 use Rattle.drive.specs.declared.DriveState.{DriveState}
 use Rattle.drive.specs.declared.SetPoint.{SetPoint}
 use Rattle.drive.specs.declared.Store.{Store}
 use Rattle.drive.specs.declared.Store.the-variants.{Empty, Rested, Moving, Queued}
 use Rattle.drive.specs.declared.Drive.{Drive}
-use Rattle.drive.specs.declared.Controlled.{Controlled}
 use Rattle.state.specs.declared.State.{State}
 use Rattle.rules_dictionary.specs.Numbers.{all, bit}
 use Rattle.rules_dictionary.specs.Table.{Row, table, same, sizeOf, dictionaryLength, controlWord, mode, heartbeatTime}
-use Rattle.rules_dictionary.specs.Values.{Write, write, read, store, stored}
+use Rattle.rules_dictionary.specs.Values.{Write, read, store, stored}
 use Rattle.rules_dictionary.proofs.Packing.{apart, within, same-or-apart}
-use Rattle.rules_dictionary.proofs.Rows.{length-store, length-stored, read-same, read-apart}
-use Rattle.rules_dictionary.proofs.Tests.{and-left, and-right, and-both, In, here, there}
+use Rattle.rules_dictionary.proofs.Rows.{length-store, read-same, read-apart}
+use Rattle.rules_dictionary.proofs.Tests.{and-left, and-right, In, here, there}
 use Rattle.drive.specs.DriveStates.{command, next}
 use Rattle.drive.specs.SetPoints.{positions, emptied, enters, withState, withStore, withMarks, behind, isQueued, target, withinLimits, setPoint, offered, setPointRule, modeWritten, controlWritten, reached, newSetPointBit, atOnceBit}
 use Rattle.drive.specs.SetPoints as SetPoints
@@ -31,7 +27,7 @@ use Rattle.drive.proofs.Tempting.{held-bit-takes-nothing}
 use Rattle.rules_services.specs.Effects.{Effect, becomes, withDrive, withHeartbeat}
 use Rattle.rules_services.specs.Written.{wrote, countRestarted, modeActed, faultReset, controlActed, applied}
 use Rattle.theorems.specs.Promises.{points, OneEdgeTakesOne}
-use Rattle.theorems.proofs.Booleans.{either, clash, not-false, implied}
+use Rattle.theorems.proofs.Booleans.{not-false, implied}
 use Rattle.theorems.proofs.Writes.{control-in}
 
 -- ---- a store later on: it holds the last ones of the set-points before

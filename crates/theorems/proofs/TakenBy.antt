@@ -1,26 +1,24 @@
 -- No service takes a set-point while bit 4 stays 1.
 -- Assumes nothing.
-use Prim.Native.Nat.{ℕ, suc, _+_, _^_, _<_, _≤_}
+use Prim.Native.Nat.{ℕ, suc, _+_, _^_, _<_}
 use native.Mathlib.Omega.{arith}
-use mathlib.Core.Path.{_≡_, refl, sym, _∙_, ap, subst}
+use mathlib.Core.Path.{_≡_, refl, _∙_, ap}
 use mathlib.Core.Logic.{_⊎_, inl, inr}
 use mathlib.Core.Bool.{Bool, true, false, cond, not, _&&_, _||_}
 use mathlib.Core.List.{List, [], _∷_, _++_}
-use borrow.Author.Tests.{eqb-true, ltb-false}
+use borrow.Author.Tests.{eqb-true}
 use lib.Dec.{eqb, leb, ltb}
-use lib.ListN.{length, getD, take, drop, set}
+use lib.ListN.{length, getD, take, set}
 use lib.Seq.{take-take}
 use Rattle.rules_dictionary.specs.declared.PdoData.{PdoData}
-use Rattle.drive.specs.declared.Store.{Store}
-use Rattle.drive.specs.declared.Store.the-variants.{Empty, Rested, Moving, Queued}
 use Rattle.drive.specs.declared.DriveState.the-variants.{SwitchOnDisabled, FaultReactionActive, Fault}
-use Rattle.state.specs.declared.NmtState.the-variants.{PreOperational, Operational, Stopped}
+use Rattle.state.specs.declared.NmtState.the-variants.{PreOperational, Operational}
 use Rattle.state.specs.declared.State.{State}
 use Rattle.state.specs.declared.Refusal.{Refusal}
 use Rattle.state.specs.declared.Refusal.the-variants.{DictionaryLength, OutputLength, NodeId, NotSound, BadFrame, BadEvent, OutOfPlace}
-use Rattle.rules_dictionary.specs.Numbers.{all, areBytes, bit, filter}
+use Rattle.rules_dictionary.specs.Numbers.{areBytes, bit}
 use Rattle.rules_dictionary.specs.TheNode.{isNodeId}
-use Rattle.rules_dictionary.specs.Table.{Row, table, same, sizeOf, dictionaryLength, controlWord, heartbeatTime, errorRegister, receivePdos, Found, found, noObject, noSubindex, lookup}
+use Rattle.rules_dictionary.specs.Table.{Row, table, same, sizeOf, dictionaryLength, controlWord, heartbeatTime, receivePdos, Found, found, noObject, noSubindex, lookup}
 use Rattle.rules_dictionary.specs.Values.{Write, write, read, stored, unpacked}
 use Rattle.rules_dictionary.specs.Aborts.{Verdict, good, bad}
 use Rattle.rules_dictionary.specs.Legal.{isSynchronous}
@@ -28,30 +26,26 @@ use Rattle.rules_dictionary.specs.Plans.{mapped, pdoData}
 use Rattle.rules_dictionary.proofs.Tests.{and-left, and-right, and-both, In, here, there, none-in}
 use Rattle.rules_dictionary.proofs.Members.{in-append}
 use Rattle.rules_dictionary.proofs.Packing.{found-in}
-use Rattle.rules_dictionary.proofs.Rows.{length-stored}
-use Rattle.drive.specs.DriveStates.{next, isFaulty}
+use Rattle.drive.specs.DriveStates.{isFaulty}
 use Rattle.drive.specs.SetPoints.{newSetPointBit, controlWritten}
 use Rattle.drive.specs.declared.Controlled.{Controlled}
 use Rattle.rules_services.specs.Effects.{Effect, becomes, sends, syncs, andThen, isStopped, isOperational, isPreOperational, withDrive, withHeld, withNmt, withHeartbeat}
 use Rattle.rules_services.specs.Emergency.{emergency, pdoTooShort, pdoTooLong, valueRefused, syncLength}
 use Rattle.rules_services.specs.Written.{wrote, countRestarted, modeActed, faultReset, controlActed, applied}
 use Rattle.rules_services.specs.Sdo.{Command, download, upload, clientAbort, unknown, commandOf, commandByte, askedIndex, askedSubindex, askedValue, downloadVerdict, decided as sdoDecided, toRow, toObject, asked, sdo, abort, requestBase, requestLength}
-use Rattle.rules_services.specs.PdoTraffic.{works, typeOf, mappedLength, areLegal, heldOrApplied, received, listens, receivedBy, noData, isHeld, release, releaseAll, sync, syncBase}
+use Rattle.rules_services.specs.PdoTraffic.{typeOf, mappedLength, areLegal, heldOrApplied, received, listens, receivedBy, noData, isHeld, release, releaseAll, sync, syncBase}
 use Rattle.rules_services.specs.Nmt.{nmt, nmtIdentifier, nmtLength, everyNode, commanded, commandOf as nmtCommandOf, Command as NmtCommand, start, stop, enterPreOperational, resetNode, resetCommunication, unknown as unknownNmt, powerUp, freshState, tick as ticked, left, voltageDisabled, heartbeat}
 use Rattle.rules_services.specs.Events.{Told, event, badEvent, eventOf, Event, started, quickStopDone, reactionDone, setPointReached, tick, causeGone, fault, feedback, voltage, isInPlace, happens, faulted}
 use Rattle.rules.specs.Outcome.{ended, mostData}
 use Rattle.rules.specs.Sound.{sound}
 use Rattle.rules.specs.Calls.{Call, powerUpCall, frameCall, eventCall, Decision, refuses, does as performs, framed, eventDecision, decision, decided, refused, accepted, answered, answer, outputLength, lastIdentifier}
-use Rattle.theorems.specs.Promises.{Step, Stand, does, after, octets, allOctets, Run, reached, points, writesOf, keepsBitFour, HoldsBitFour, HeldBitTakesNothing}
+use Rattle.theorems.specs.Promises.{Step, Stand, does, after, octets, allOctets, reached, writesOf, keepsBitFour, HoldsBitFour, HeldBitTakesNothing}
 use Rattle.theorems.specs.Promises as Promises
-use Rattle.theorems.proofs.Booleans.{either, clash}
 use Rattle.theorems.proofs.Lawful.{Lawful, sound-lawful}
-use Rattle.theorems.proofs.Writes.{one-row, control-in, register-in}
-use Rattle.theorems.proofs.NmtKept.{LawfulAfter, in-cons}
+use Rattle.theorems.proofs.Writes.{one-row, register-in}
 use Rattle.theorems.proofs.SdoKept.{may, good-value}
 use Rattle.theorems.proofs.Mapped.{MayWrite, received-may, range-fits}
-use Rattle.theorems.proofs.PdoKept.{unpacked-same, held-at, held-legal, held-lawful, none-sound, release-lawful}
-use Rattle.theorems.proofs.Runs.{run-holds, passed}
+use Rattle.theorems.proofs.PdoKept.{unpacked-same, held-at, held-legal, release-lawful}
 use Rattle.theorems.proofs.Taken.{Later, later-self, later-empty, later-reached, later-trans, later-enters, keeps, Fitting, LaterBy, bit-stays, applied-later}
 
 abbrev keepsOne : Write → Bool

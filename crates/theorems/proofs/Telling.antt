@@ -3,23 +3,23 @@
 -- Assumes nothing.
 use Prim.Native.Nat.{ℕ, zero, suc, _+_, _*_}
 use mathlib.Core.Path.{_≡_, refl}
-use mathlib.Core.Bool.{Bool, true, false, not, _&&_, _||_}
+use mathlib.Core.Bool.{Bool, true, not, _&&_, _||_}
 use mathlib.Core.List.{List, [], _∷_, _++_, map}
-use lib.Dec.{eqb, leb, ltb}
+use lib.Dec.{eqb, ltb}
 use lib.ListN.{length, getD}
 use Rattle.rules_dictionary.specs.declared.PdoData.{PdoData}
 use Rattle.rules_dictionary.specs.Numbers.{all, any, areBytes}
-use Rattle.rules_dictionary.specs.Table.{statusWord, errorCode, mode, eachWay, dictionaryLength}
+use Rattle.rules_dictionary.specs.Table.{statusWord, eachWay, dictionaryLength}
 use Rattle.rules_dictionary.specs.Values.{read}
 use Rattle.rules_dictionary.specs.Plans.{mapped, plansOf, joined, pdoData}
-use Rattle.rules_services.specs.Effects.{Frame, frame, isOperational}
+use Rattle.rules_services.specs.Effects.{frame}
 use Rattle.rules_services.specs.PdoTraffic.{listens, mappedLength, noData}
-use Rattle.rules.specs.Outcome.{statusOf, sameBy, samePlan, sameData, encoded, frameSize, transmitters}
+use Rattle.rules.specs.Outcome.{statusOf, sameBy, samePlan, sameData, encoded, frameSize}
 use Rattle.rules.specs.Sound.{sound}
 use Rattle.rules.specs.Calls.{Call, powerUpCall, frameCall, eventCall, Outcome, refusalNumber}
 use Rattle.rules.specs.Scripts.{blank, nothing, zeros, open-rules}
 use Rattle.rules.specs.Examples.{request, nmt}
-use Rattle.theorems.specs.Promises.{Step, Stand, does, left, after, mayChange, byFrame, byPdos, covers, points, open-promises}
+use Rattle.theorems.specs.Promises.{Step, Stand, does, after, mayChange, covers, points, open-promises}
 
 -- ---- the calls of the runs
 

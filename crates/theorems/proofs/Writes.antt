@@ -1,36 +1,35 @@
 -- Writes keep a state lawful: each row one that may hold its value, and what is then acted on.
 -- Assumes nothing.
-use Prim.Native.Nat.{ℕ, zero, suc, _+_, _^_, _<_, _≤_}
+use Prim.Native.Nat.{ℕ, _+_, _<_}
 use native.Mathlib.Omega.{arith}
 use mathlib.Core.Path.{_≡_, refl, sym, _∙_, ap, ap₂, subst}
 use mathlib.Core.Logic.{_⊎_, inl, inr}
 use mathlib.Core.Bool.{Bool, true, false, cond, not, _&&_, _||_, Bool·not-not}
-use mathlib.Core.List.{List, [], _∷_, _++_, map, append-nil}
-use borrow.Author.Tests.{eq-eqb, eqb-true, eqb-false}
+use mathlib.Core.List.{List, [], _∷_, _++_, append-nil}
+use borrow.Author.Tests.{eq-eqb, eqb-true}
 use lib.Dec.{eqb}
-use lib.ListN.{length, getD}
-use Rattle.rules_dictionary.specs.declared.Mode.{Mode}
+use lib.ListN.{getD}
 use Rattle.rules_dictionary.specs.declared.Mode.the-variants.{NoMode, ProfilePosition, ProfileVelocity}
 use Rattle.rules_dictionary.specs.declared.PdoData.{PdoData}
 use Rattle.drive.specs.declared.Drive.{Drive}
 use Rattle.state.specs.declared.NmtState.{NmtState}
 use Rattle.state.specs.declared.State.{State}
-use Rattle.rules_dictionary.specs.Numbers.{all, any, value}
+use Rattle.rules_dictionary.specs.Numbers.{value}
 use Rattle.rules_dictionary.specs.TheNode.{isNodeId}
-use Rattle.rules_dictionary.specs.Table.{Row, table, same, sizeOf, dictionaryLength, isConstant, pdos, receivePdos, transmitPdos, eachWay, controlWord, mode, heartbeatTime, errorRegister, open-table}
+use Rattle.rules_dictionary.specs.Table.{Row, table, same, receivePdos, transmitPdos, eachWay, controlWord, mode, heartbeatTime, errorRegister, open-table}
 use Rattle.rules_dictionary.specs.Values.{Write, write, read, store, stored}
 use Rattle.rules_dictionary.specs.Legal.{modeNumber, isMode, isCyclic, isBelow, isAbove}
-use Rattle.rules_dictionary.proofs.Tests.{and-left, and-right, and-both, In, here, there, all-in, none-in}
-use Rattle.rules_dictionary.proofs.Packing.{apart, within, same-or-apart, found-in}
+use Rattle.rules_dictionary.proofs.Tests.{and-left, and-right, and-both, In, here, there, none-in}
+use Rattle.rules_dictionary.proofs.Packing.{apart, same-or-apart, found-in}
 use Rattle.rules_dictionary.proofs.Rows.{read-apart, length-store, length-stored, field-stored}
-use Rattle.rules_dictionary.proofs.Members.{all-of, in-left, in-right}
+use Rattle.rules_dictionary.proofs.Members.{all-of, in-left}
 use Rattle.drive.specs.SetPoints.{modeOf, modeWritten, controlWritten}
 use Rattle.rules_services.specs.Effects.{Effect, becomes, withDrive, withHeartbeat, isOperational}
 use Rattle.rules_services.specs.PdoTraffic.{works, typeOf, isHeld}
 use Rattle.rules_services.specs.Written.{wrote, countRestarted, modeActed, faultReset, controlActed, applied}
 use Rattle.rules.specs.Outcome.{transmitters}
 use Rattle.rules.specs.Sound.{inRange, driveSound, storeInPlace, takenInPlace, causeInPlace, heartbeatSound, heldSound, pairwise}
-use Rattle.theorems.proofs.Booleans.{either, clash, any-false-in}
+use Rattle.theorems.proofs.Booleans.{clash, any-false-in}
 use Rattle.theorems.proofs.Dictionary.{DictionaryOk, MayHold, store-ok}
 use Rattle.theorems.proofs.Alike.{isPdo, held-alike, works-alike, type-alike}
 use Rattle.theorems.proofs.Settled.{drive-may, whole-range}

@@ -8,13 +8,10 @@ use mathlib.Core.Bool.{Bool, true, false, cond, not, _&&_, _||_}
 use mathlib.Core.List.{List, [], _∷_, _++_, map}
 use lib.Dec.{eqb, leb, ltb}
 use lib.ListN.{length, getD, drop}
-use Rattle.rules_dictionary.specs.declared.Plan.{Plan}
-use Rattle.rules_dictionary.specs.declared.PdoData.{PdoData}
 use Rattle.drive.specs.declared.SetPoint.{SetPoint}
 use Rattle.drive.specs.declared.Store.{Store}
 use Rattle.drive.specs.declared.Store.the-variants.{Empty, Rested, Moving, Queued}
 use Rattle.state.specs.declared.State.{State}
-use Rattle.state.specs.declared.Refusal.{Refusal}
 use Rattle.state.specs.declared.Refusal.the-variants.{Accepted, DictionaryLength, NotSound}
 use Rattle.rules_dictionary.specs.Numbers.{all, any, areBytes, filter, bit}
 use Rattle.rules_dictionary.specs.TheNode.{isNodeId}
@@ -25,7 +22,7 @@ use Rattle.rules_dictionary.specs.Plans.{mapped, planFor, readyFor, plansOf, re
 use Rattle.rules_dictionary.proofs.Tests.{In}
 use Rattle.drive.specs.SetPoints.{newSetPointBit, controlWritten}
 use Rattle.drive.specs.declared.Drive.{Drive}
-use Rattle.rules_services.specs.Effects.{Frame, frame, Effect, isStopped}
+use Rattle.rules_services.specs.Effects.{Frame, frame, isStopped}
 use Rattle.rules_services.specs.Emergency.{emergency, emergencyBase, pdoTooShort}
 use Rattle.rules_services.specs.Sdo.{Command, download, upload, clientAbort, unknown, commandOf, commandByte, askedIndex, askedSubindex, downloadVerdict, requestBase, replyBase}
 use Rattle.rules_services.specs.PdoTraffic.{listens, mappedLength, areLegal, transmitted, noData, syncBase}

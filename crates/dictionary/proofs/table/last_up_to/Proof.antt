@@ -1,8 +1,6 @@
 -- The invariant of the halving: the row at `low` is not above the key, unless it is the first; the row at `high` is, unless none is there.
 -- Assumes nothing.
 use Prim.Native.Nat.{_≤_, _<_, _+_, _-_, _/_}
-use mathlib.Core.Path.{_≡_}
-use lib.ListN.{getD}
 use Rattle.dictionary.proofs.Order.{key-at, last-line}
 use native.Mathlib.Omega.{arith}
 use borrow.Author.Needs.{needs}
