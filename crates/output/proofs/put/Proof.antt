@@ -1,0 +1,35 @@
+use Prim.Native.Nat.{_*_, _-_}
+use native.Mathlib.Omega.{arith}
+use borrow.Author.Needs.{needs}
+use lib.ListN.{length}
+use Rattle.rules.specs.Outcome.{frameSize}
+use Rattle.output.specs.Laying.{framed}
+use Rattle.output.proofs.Laws.{part-back}
+use Rattle.output.proofs.put.Statement.{statement}
+use Rattle.output.proofs.put.Tie as tie
+
+mul-place : tie.Need-mul-place
+mul-place c = search needs
+
+sub-lay : tie.Need-sub-lay
+sub-lay c = search needs
+
+part-lay-start : tie.Need-part-lay-start
+part-lay-start c = search needs
+
+part-lay-end : tie.Need-part-lay-end
+part-lay-end c = search needs
+
+lay-requires : tie.Need-lay-requires
+lay-requires c κs = search needs
+
+same-length : tie.Need-same-length
+same-length c = search needs
+
+returns : tie.Need-returns
+returns c =
+    let a = c .before .before .before .before .before .args in
+    part-back (a .output .now) _ (framed (a .identifier) (a .content)) (a .n) (length (a .output .now) - frameSize * a .n) (omega arith) (c .before .before .lay .ensures)
+
+pub put-spec : {M : Type 1} → statement M
+put-spec = tie.close (tie.spec mul-place sub-lay part-lay-start part-lay-end lay-requires same-length returns)

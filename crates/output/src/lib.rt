@@ -1,0 +1,45 @@
+// The output of a call: frames laid into it one after another. Proved against specs/Laying.antt; proofs/Laws.antt ties that to the
+// output of document 01.
+
+use rules_dictionary::PdoData;
+ghost use mathlib.Core.Path.{_≡_};
+ghost use mathlib.Core.List.{_++_};
+ghost use Prim.Native.Nat.{_<_, _≤_};
+ghost use lib.ListN.{length, drop};
+ghost use Rattle.rules.specs.Outcome.{frameSize};
+ghost use Rattle.rules.specs.Calls.{outputLength};
+ghost use Rattle.output.specs.Laying.{mostFrames, framed, laidAt};
+
+// The bytes of a frame.
+const FRAME_SIZE: usize = 11;
+
+// Those before its data: identifier and length.
+const HEAD_SIZE: usize = 3;
+
+// Those of its data.
+const MOST_DATA: usize = 8;
+
+// A frame at the start of the bytes, which are the output from that frame on; those behind it stay.
+pub fn lay(output: &mut [u8], identifier: u16, content: PdoData)
+    requires { ⌜ frameSize ≤ length (now output) ⌝ }
+    ensures { λ r. ⌜ now (output .exit) ≡ framed identifier content ++ drop frameSize (now (output .entry)) ⌝ }
+{
+    output[0] = (identifier % 256) as u8;
+    output[1] = (identifier / 256 % 256) as u8;
+    output[2] = content.length;
+    let mut i: usize = 0;
+    while i < MOST_DATA {
+        let place = HEAD_SIZE + i;
+        output[place] = content.bytes[i];
+        i += 1;
+    }
+}
+
+// Frame n, counted from 0, into the output; every other byte stays.
+pub fn put(output: &mut [u8], n: usize, identifier: u16, content: PdoData)
+    requires { ⌜ (n < mostFrames) × (outputLength ≤ length (now output)) ⌝ }
+    ensures { λ r. ⌜ now (output .exit) ≡ laidAt n (framed identifier content) (now (output .entry)) ⌝ }
+{
+    let place = FRAME_SIZE * n;
+    lay(&mut output[place..], identifier, content);
+}
