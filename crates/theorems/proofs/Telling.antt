@@ -104,6 +104,11 @@ reset-keeps-others : keepsOthers (control 0x80) (ran faulted) ≡ true
 unfolding open-rules open-promises keepsOthers upTo ran step control faulted started
 reset-keeps-others = refl
 
+-- voltage on, which writes no row: 6041h alone follows
+voltage-keeps-others : keepsOthers (eventCall 9 (0x01 ∷ [])) (ran (started ∷ [])) ≡ true
+unfolding open-rules open-promises keepsOthers upTo ran step started
+voltage-keeps-others = refl
+
 -- ---- ReadyFrameStays: feedback, and transmit PDO 1 that maps 6041h alone
 readyAt : ℕ → Stand → PdoData
 readyAt t a = getD (a .state .axis .ready) t noData

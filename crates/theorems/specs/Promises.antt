@@ -81,6 +81,100 @@ pub record Run : Type 0 where
 abbrev pub reached : Run → Stand
 reached r = after (r .steps) (left (record { call = powerUpCall (r .node); output = r .output }) (r .found))
 
+-- ---- demand 1, "A refused call sends nothing and changes nothing.": of every state, dictionary and output, sound or not
+
+abbrev pub RefusedMeansNothing : Type 0
+RefusedMeansNothing = (k : Step) (a : Stand) → (does k a .refusal ≡ Accepted → ⊥) →
+    does k a ≡ record { refusal = does k a .refusal; frames = 0; state = a .state; dictionary = a .dictionary; output = k .output }
+
+-- "a refused write .. changes no object"
+abbrev pub RefusedWriteChangesNothing : Type 0
+RefusedWriteChangesNothing = (r : Run) (rq o : List ℕ) (x : Row) (c : Abort) → areBytes rq ≡ true → commandOf (commandByte rq) ≡ download →
+    lookup (askedIndex rq) (askedSubindex rq) ≡ found x → downloadVerdict rq (reached r .state .node .nmt) (reached r .dictionary) x ≡ bad c →
+    does (record { call = frameCall (requestBase + reached r .state .node .id) rq; output = o }) (reached r) .dictionary ≡ reached r .dictionary
+
+-- "or a dropped process frame changes no object": one that is too short, or that holds a value SDO would refuse
+abbrev pub DroppedFrameChangesNothing : Type 0
+DroppedFrameChangesNothing = (r : Run) (p i : ℕ) (bs o : List ℕ) → areBytes bs ≡ true → In p receivePdos → listens i (reached r .state .node .nmt) (reached r .dictionary) p ≡ true →
+    (length bs < mappedLength (mapped (reached r .dictionary) p)) ⊎ (areLegal (reached r .dictionary) (unpacked (mapped (reached r .dictionary) p) bs) ≡ false) →
+    does (record { call = frameCall i bs; output = o }) (reached r) .dictionary ≡ reached r .dictionary
+
+-- ---- demand 1 and 2, the frames: "eleven bytes a frame, one after another", "At most 6 frames. Order: SDO reply; emergencies in order of
+-- cause; boot-up or heartbeat; TPDOs rising", "Bytes past the frames reported stay"
+
+abbrev pub isOn : ℕ → Frame → Bool
+isOn i f = eqb (f .identifier) i
+
+-- a list of frames in the paper's order; `sending` says which transmit PDOs are sent
+pub record Ordered (a : Stand) (sent : List Frame) : Type 0 where
+  pub replies : List Frame
+  pub emergencies : List Frame
+  pub beats : List Frame
+  pub sending : ℕ → Bool
+  pub whole : sent ≡ replies ++ (emergencies ++ (beats ++
+      map (λ t. transmitted (a .dictionary) (eachWay + t) (getD (a .state .axis .ready) t noData)) (filter sending transmitters)))
+  pub onReply : all (isOn (replyBase + a .state .node .id)) replies ≡ true
+  pub onEmergency : all (isOn (emergencyBase + a .state .node .id)) emergencies ≡ true
+  pub onBeat : all (isOn (heartbeatBase + a .state .node .id)) beats ≡ true
+  pub few : length replies + (length emergencies + length beats) ≤ 2
+
+unfoldable pub laid : List Frame → List ℕ
+laid [] = []
+laid (f ∷ fs) = encoded f ++ laid fs
+
+-- the frames of an answer, whose output was o before
+pub record FramesOf (u : Outcome) (o : List ℕ) : Type 0 where
+  pub sent : List Frame
+  pub counted : u .frames ≡ length sent
+  pub most : length sent ≤ 6
+  pub inOrder : Ordered (record { state = u .state; dictionary = u .dictionary }) sent
+  pub output : u .output ≡ laid sent ++ drop (frameSize * length sent) o
+
+abbrev pub AtMostSixInOrder : Type 0
+AtMostSixInOrder = (r : Run) (k : Step) → octets (k .call) ≡ true → FramesOf (does k (reached r)) (k .output)
+
+abbrev pub ElevenBytes : Type 0
+ElevenBytes = (f : Frame) → length (encoded f) ≡ frameSize
+
+-- ---- "Shut out by demand 2: a node that refuses everything, one with a constant reply, one that does nothing, one that reports six frames
+-- always. One idle after power-up falls to 2 and 3.": the ten examples hold of the rules, and of none of these
+
+abbrev pub keepsExamples : Answers → Bool
+keepsExamples node = all (givenBy node) examples
+
+unfoldable pub refusesEverything : Answers
+refusesEverything c s d o = record { refusal = DictionaryLength; frames = 0; state = s; dictionary = d; output = o }
+
+unfoldable pub doesNothing : Answers
+doesNothing c s d o = record { refusal = Accepted; frames = 0; state = s; dictionary = d; output = o }
+
+unfoldable pub constantReply : Answers
+constantReply (frameCall i bs) s d o =
+    record {
+      refusal = Accepted;
+      frames = 1;
+      state = s;
+      dictionary = d;
+      output = sentInto o (frame (replyBase + s .node .id) (0x60 ∷ 0x40 ∷ 0x60 ∷ 0x00 ∷ 0x00 ∷ 0x00 ∷ 0x00 ∷ 0x00 ∷ []) ∷ []);
+    }
+constantReply (powerUpCall n) s d o = answer (powerUpCall n) s d o
+constantReply (eventCall k xs) s d o = answer (eventCall k xs) s d o
+
+unfoldable pub sixFramesAlways : Answers
+sixFramesAlways c s d o =
+    let u = answer c s d o in
+    record { refusal = u .refusal; frames = 6; state = u .state; dictionary = u .dictionary; output = u .output }
+
+unfoldable pub idleAfterPowerUp : Answers
+idleAfterPowerUp (powerUpCall n) s d o = answer (powerUpCall n) s d o
+idleAfterPowerUp (frameCall i bs) s d o = record { refusal = Accepted; frames = 0; state = s; dictionary = d; output = o }
+idleAfterPowerUp (eventCall k xs) s d o = record { refusal = Accepted; frames = 0; state = s; dictionary = d; output = o }
+
+abbrev pub ShutsOut : Type 0
+ShutsOut =
+    (keepsExamples answer ≡ true) × (keepsExamples refusesEverything ≡ false) × (keepsExamples constantReply ≡ false) × (keepsExamples doesNothing ≡ false)
+    × (keepsExamples sixFramesAlways ≡ false) × (keepsExamples idleAfterPowerUp ≡ false)
+
 -- ---- demand 3, "After each call the dictionary is the one demand 2's rules give": sound in every clause of document 01
 
 pub record SoundAt (a : Stand) : Type 0 where
@@ -186,61 +280,6 @@ ReadyFrameStays = (r : Run) (k : Step) (t : ℕ) → octets (k .call) ≡ true �
     ((x : Row) → In x (mapped (reached r .dictionary) (eachWay + t)) → field (does k (reached r) .dictionary) x ≡ field (reached r .dictionary) x) →
     getD (does k (reached r) .state .axis .ready) t noData ≡ getD (reached r .state .axis .ready) t noData
 
--- ---- demand 1, "A refused call sends nothing and changes nothing.": of every state, dictionary and output, sound or not
-
-abbrev pub RefusedMeansNothing : Type 0
-RefusedMeansNothing = (k : Step) (a : Stand) → (does k a .refusal ≡ Accepted → ⊥) →
-    does k a ≡ record { refusal = does k a .refusal; frames = 0; state = a .state; dictionary = a .dictionary; output = k .output }
-
--- "a refused write .. changes no object"
-abbrev pub RefusedWriteChangesNothing : Type 0
-RefusedWriteChangesNothing = (r : Run) (rq o : List ℕ) (x : Row) (c : Abort) → areBytes rq ≡ true → commandOf (commandByte rq) ≡ download →
-    lookup (askedIndex rq) (askedSubindex rq) ≡ found x → downloadVerdict rq (reached r .state .node .nmt) (reached r .dictionary) x ≡ bad c →
-    does (record { call = frameCall (requestBase + reached r .state .node .id) rq; output = o }) (reached r) .dictionary ≡ reached r .dictionary
-
--- "or a dropped process frame changes no object": one that is too short, or that holds a value SDO would refuse
-abbrev pub DroppedFrameChangesNothing : Type 0
-DroppedFrameChangesNothing = (r : Run) (p i : ℕ) (bs o : List ℕ) → areBytes bs ≡ true → In p receivePdos → listens i (reached r .state .node .nmt) (reached r .dictionary) p ≡ true →
-    (length bs < mappedLength (mapped (reached r .dictionary) p)) ⊎ (areLegal (reached r .dictionary) (unpacked (mapped (reached r .dictionary) p) bs) ≡ false) →
-    does (record { call = frameCall i bs; output = o }) (reached r) .dictionary ≡ reached r .dictionary
-
--- ---- demand 1 and 2, the frames: "eleven bytes a frame, one after another", "At most 6 frames. Order: SDO reply; emergencies in order of
--- cause; boot-up or heartbeat; TPDOs rising", "Bytes past the frames reported stay"
-
-abbrev pub isOn : ℕ → Frame → Bool
-isOn i f = eqb (f .identifier) i
-
--- a list of frames in the paper's order; `sending` says which transmit PDOs are sent
-pub record Ordered (a : Stand) (sent : List Frame) : Type 0 where
-  pub replies : List Frame
-  pub emergencies : List Frame
-  pub beats : List Frame
-  pub sending : ℕ → Bool
-  pub whole : sent ≡ replies ++ (emergencies ++ (beats ++
-      map (λ t. transmitted (a .dictionary) (eachWay + t) (getD (a .state .axis .ready) t noData)) (filter sending transmitters)))
-  pub onReply : all (isOn (replyBase + a .state .node .id)) replies ≡ true
-  pub onEmergency : all (isOn (emergencyBase + a .state .node .id)) emergencies ≡ true
-  pub onBeat : all (isOn (heartbeatBase + a .state .node .id)) beats ≡ true
-  pub few : length replies + (length emergencies + length beats) ≤ 2
-
-unfoldable pub laid : List Frame → List ℕ
-laid [] = []
-laid (f ∷ fs) = encoded f ++ laid fs
-
--- the frames of an answer, whose output was o before
-pub record FramesOf (u : Outcome) (o : List ℕ) : Type 0 where
-  pub sent : List Frame
-  pub counted : u .frames ≡ length sent
-  pub most : length sent ≤ 6
-  pub inOrder : Ordered (record { state = u .state; dictionary = u .dictionary }) sent
-  pub output : u .output ≡ laid sent ++ drop (frameSize * length sent) o
-
-abbrev pub AtMostSixInOrder : Type 0
-AtMostSixInOrder = (r : Run) (k : Step) → octets (k .call) ≡ true → FramesOf (does k (reached r)) (k .output)
-
-abbrev pub ElevenBytes : Type 0
-ElevenBytes = (f : Frame) → length (encoded f) ≡ frameSize
-
 -- ---- his complaints
 
 -- "A receive path that was never tested on a short frame read missing bytes as zero": a process frame shorter than its mapping changes no
@@ -303,45 +342,6 @@ abbrev pub OneEdgeTakesOne : Type 0
 OneEdgeTakesOne = (d : List ℕ) (old : ℕ) (v : Drive) →
     (n : ℕ) × (xs : List SetPoint) × (points (controlWritten d old v .drive .store) ≡ drop n (points (v .store)) ++ xs) × (length xs ≤ 1)
     × ((xs ≡ []) ⊎ ((bit newSetPointBit old ≡ false) × (bit newSetPointBit (read d controlWord) ≡ true)))
-
--- ---- "Shut out by demand 2: a node that refuses everything, one with a constant reply, one that does nothing, one that reports six frames
--- always. One idle after power-up falls to 2 and 3.": the ten examples hold of the rules, and of none of these
-
-abbrev pub keepsExamples : Answers → Bool
-keepsExamples node = all (givenBy node) examples
-
-unfoldable pub refusesEverything : Answers
-refusesEverything c s d o = record { refusal = DictionaryLength; frames = 0; state = s; dictionary = d; output = o }
-
-unfoldable pub doesNothing : Answers
-doesNothing c s d o = record { refusal = Accepted; frames = 0; state = s; dictionary = d; output = o }
-
-unfoldable pub constantReply : Answers
-constantReply (frameCall i bs) s d o =
-    record {
-      refusal = Accepted;
-      frames = 1;
-      state = s;
-      dictionary = d;
-      output = sentInto o (frame (replyBase + s .node .id) (0x60 ∷ 0x40 ∷ 0x60 ∷ 0x00 ∷ 0x00 ∷ 0x00 ∷ 0x00 ∷ 0x00 ∷ []) ∷ []);
-    }
-constantReply (powerUpCall n) s d o = answer (powerUpCall n) s d o
-constantReply (eventCall k xs) s d o = answer (eventCall k xs) s d o
-
-unfoldable pub sixFramesAlways : Answers
-sixFramesAlways c s d o =
-    let u = answer c s d o in
-    record { refusal = u .refusal; frames = 6; state = u .state; dictionary = u .dictionary; output = u .output }
-
-unfoldable pub idleAfterPowerUp : Answers
-idleAfterPowerUp (powerUpCall n) s d o = answer (powerUpCall n) s d o
-idleAfterPowerUp (frameCall i bs) s d o = record { refusal = Accepted; frames = 0; state = s; dictionary = d; output = o }
-idleAfterPowerUp (eventCall k xs) s d o = record { refusal = Accepted; frames = 0; state = s; dictionary = d; output = o }
-
-abbrev pub ShutsOut : Type 0
-ShutsOut =
-    (keepsExamples answer ≡ true) × (keepsExamples refusesEverything ≡ false) × (keepsExamples constantReply ≡ false) × (keepsExamples doesNothing ≡ false)
-    × (keepsExamples sixFramesAlways ≡ false) × (keepsExamples idleAfterPowerUp ≡ false)
 
 -- opens every definition of this module, where a proof computes
 unfoldable pub open-promises : Unit {0}
