@@ -1,18 +1,18 @@
--- Laws of frames in the output: the frame that `put` lays is the encoded one, and laid behind the frames sent so far it is one more
--- frame sent.
+-- Laws of frames in the output: the frame that `lay` lays is the encoded one; frames emitted, one after another.
 -- Assumes nothing.
 use Prim.Native.Nat.{ℕ, zero, suc, _+_, _-_, _*_, _/_, _%_, _<_, _≤_}
 use native.Mathlib.Numerals.{add-one}
 use native.Mathlib.Omega.{arith}
 use mathlib.Core.Path.{_≡_, refl, sym, _∙_, ap}
 use mathlib.Core.List.{List, [], _∷_, _++_, append-nil, append-assoc}
-use lib.ListN.{length, getD, set, take, drop, length-append, length-drop, drop-of-length-le}
+use lib.ListN.{length, getD, set, take, drop, length-append, length-drop, drop-of-length-le, take-append-drop}
 use lib.Seq.{sets, paste, paste-suc, take-all, length-take-le, drop-drop, take-append-add, drop-append-add}
 use Rattle.rules_dictionary.specs.declared.PdoData.{PdoData}
 use Rattle.rules_dictionary.specs.Numbers.{bytes, padded}
+use Rattle.rules_dictionary.specs.Plans.{pdoData}
 use Rattle.rules_services.specs.Effects.{Frame, frame}
 use Rattle.rules.specs.Outcome.{frameSize, mostData, encoded, sentInto}
-use Rattle.output.specs.Laying.{headSize, framed, laidAt}
+use Rattle.output.specs.Laying.{headSize, framed, laidAt, IsData, frameOf, emitted}
 
 -- ---- what the code leaves
 
@@ -57,42 +57,52 @@ pub length-encoded : (f : Frame) → length (encoded f) ≡ frameSize
 unfolding encoded bytes
 length-encoded f = ap (λ (k : ℕ). suc (suc (suc k))) (length-padded mostData (f .content))
 
-pub length-framed : (i : ℕ) (content : PdoData) → length (content .bytes) ≡ mostData → length (framed i content) ≡ frameSize
-unfolding framed bytes
-length-framed i content l = ap (λ (k : ℕ). suc (suc (suc k))) l
-
--- with zeros behind its length, the content is laid as the frame of its bytes
-pub framed-is-encoded : (i : ℕ) (content : PdoData) → length (content .bytes) ≡ mostData → content .length ≤ mostData →
-    content .bytes ≡ padded 0 mostData (take (content .length) (content .bytes)) →
-    framed i content ≡ encoded (frame i (take (content .length) (content .bytes)))
+-- data is laid as the frame of its bytes
+framed-is-encoded : (i : ℕ) (content : PdoData) → IsData content → framed i content ≡ encoded (frameOf i content)
 unfolding framed encoded
-framed-is-encoded i content l h z =
-    let n : length (take (content .length) (content .bytes)) ≡ content .length = length-take-le (content .length) (content .bytes) (omega arith) in
-    rw n (ap (λ (bs : List ℕ). bytes 2 i ++ content .length ∷ bs) z)
+framed-is-encoded i content h =
+    let l : length (content .bytes) ≡ mostData = ap length (h .zeros) ∙ length-padded mostData (take (content .length) (content .bytes)) in
+    let k = h .short in
+    let n : length (take (content .length) (content .bytes)) ≡ content .length = length-take-le (content .length) (content .bytes) (omega (arith, l, k)) in
+    rw n (ap (λ (bs : List ℕ). bytes 2 i ++ content .length ∷ bs) (h .zeros))
 
--- the length of the output stays under one frame
-pub length-laid : (n : ℕ) (e o : List ℕ) → length e ≡ frameSize → frameSize * (n + 1) ≤ length o → length (laidAt n e o) ≡ length o
-unfolding laidAt
-length-laid n e o l h = simp (length-append, length-take-le (frameSize * n) o (omega arith), l, length-drop) (omega arith)
+-- laid as frame n, that frame is emitted
+pub laid-is-emitted : (n i : ℕ) (content : PdoData) (o : List ℕ) → IsData content → laidAt n (framed i content) o ≡ emitted n (frameOf i content ∷ []) o
+unfolding laidAt emitted sentInto
+laid-is-emitted n i content o h =
+    let next : frameSize * n + frameSize ≡ frameSize * (n + 1) = omega arith in
+    rw (framed-is-encoded i content h, drop-drop, next)
 
--- laid behind a frame, that frame stays
-laid-behind : (n : ℕ) (g e o : List ℕ) → length g ≡ frameSize → laidAt (suc n) e (g ++ o) ≡ g ++ laidAt n e o
-unfolding laidAt
-laid-behind n g e o l =
-    let place : frameSize * suc n ≡ length g + frameSize * n = omega arith in
-    let next : frameSize * (suc n + 1) ≡ length g + frameSize * (n + 1) = omega arith in
-    rw (place, next, take-append-add, drop-append-add, append-assoc)
+-- frames sent, and then others behind them
+sent-then : (fs gs : List Frame) (o : List ℕ) →
+    take (frameSize * length fs) (sentInto o fs) ++ sentInto (drop (frameSize * length fs) (sentInto o fs)) gs ≡ sentInto o (fs ++ gs)
+unfolding sentInto
+sent-then [] gs o = refl
+sent-then (f ∷ fs) gs o =
+    let e = length-encoded f in
+    let place : frameSize * suc (length fs) ≡ length (encoded f) + frameSize * length fs = omega (arith, e) in
+    rw (place, take-append-add, drop-append-add, append-assoc) (ap (λ (l : List ℕ). encoded f ++ l) (sent-then fs gs (drop frameSize o)))
 
--- THE LAW: a frame laid behind those sent is one more frame sent
-pub sent-one-more : (fs : List Frame) (f : Frame) (o : List ℕ) → sentInto o (fs ++ (f ∷ [])) ≡ laidAt (length fs) (encoded f) (sentInto o fs)
-unfolding sentInto laidAt
-sent-one-more [] f o = refl
-sent-one-more (g ∷ fs) f o =
-    ap (λ (l : List ℕ). encoded g ++ l) (sent-one-more fs f (drop frameSize o))
-    ∙ sym (laid-behind (length fs) (encoded g) (encoded f) (sentInto (drop frameSize o) fs) (length-encoded g))
+-- THE LAWS of frames emitted: none; some and then others; into the whole output; its length stays
 
--- and under all that is sent
-pub length-sent : (fs : List Frame) (o : List ℕ) → frameSize * length fs ≤ length o → length (sentInto o fs) ≡ length o
+pub emitted-none : (n : ℕ) (o : List ℕ) → emitted n [] o ≡ o
+unfolding emitted sentInto
+emitted-none n o = take-append-drop (frameSize * n) o
+
+pub emitted-then : (n : ℕ) (fs gs : List Frame) (o : List ℕ) → frameSize * n ≤ length o →
+    emitted (n + length fs) gs (emitted n fs o) ≡ emitted n (fs ++ gs) o
+unfolding emitted
+emitted-then n fs gs o h =
+    let before = take (frameSize * n) o in
+    let l : length before ≡ frameSize * n = length-take-le (frameSize * n) o h in
+    let place : frameSize * (n + length fs) ≡ length before + frameSize * length fs = omega (arith, l) in
+    rw (place, take-append-add, drop-append-add, append-assoc) (ap (λ (b : List ℕ). before ++ b) (sent-then fs gs (drop (frameSize * n) o)))
+
+pub emitted-all : (fs : List Frame) (o : List ℕ) → emitted 0 fs o ≡ sentInto o fs
+unfolding emitted
+emitted-all fs o = refl
+
+length-sent : (fs : List Frame) (o : List ℕ) → frameSize * length fs ≤ length o → length (sentInto o fs) ≡ length o
 unfolding sentInto
 length-sent [] o h = refl
 length-sent (f ∷ fs) o h =
@@ -100,3 +110,26 @@ length-sent (f ∷ fs) o h =
     let r = length-sent fs (drop frameSize o) (omega arith) in
     let e = length-encoded f in
     rw length-append (omega arith)
+
+pub length-emitted : (n : ℕ) (fs : List Frame) (o : List ℕ) → frameSize * (n + length fs) ≤ length o → length (emitted n fs o) ≡ length o
+unfolding emitted
+length-emitted n fs o h =
+    let before : length (take (frameSize * n) o) ≡ frameSize * n = length-take-le (frameSize * n) o (omega arith) in
+    let behind : length (drop (frameSize * n) o) ≡ length o - frameSize * n = length-drop (frameSize * n) o in
+    let sent = length-sent fs (drop (frameSize * n) o) (omega (arith, behind)) in
+    rw length-append (omega (arith, before, behind, sent))
+
+-- THE LAWS of data: bytes with zeros behind them are data, and their frame carries the bytes
+
+take-padded : (n : ℕ) (bs : List ℕ) → length bs ≤ n → take (length bs) (padded 0 n bs) ≡ bs
+take-padded n [] h = refl
+take-padded zero (b ∷ bs) h = absurd (omega arith)
+take-padded (suc n) (b ∷ bs) h = ap (λ (l : List ℕ). b ∷ l) (take-padded n bs (omega arith))
+
+pub frame-of-data : (i : ℕ) (bs : List ℕ) → length bs ≤ mostData → frameOf i (pdoData bs) ≡ frame i bs
+unfolding pdoData
+frame-of-data i bs h = ap (frame i) (take-padded mostData bs h)
+
+pub is-data : (bs : List ℕ) → length bs ≤ mostData → IsData (pdoData bs)
+unfolding pdoData
+is-data bs h = record { short = h; zeros = ap (padded 0 mostData) (sym (take-padded mostData bs h)) }

@@ -1,11 +1,13 @@
 -- A frame laid into the output: its eleven bytes in their place, and every other byte kept.
 -- Assumes nothing.
-use Prim.Native.Nat.{ℕ, _+_, _*_}
+use Prim.Native.Nat.{ℕ, _+_, _*_, _≤_}
+use mathlib.Core.Path.{_≡_}
 use mathlib.Core.List.{List, _∷_, _++_}
 use lib.ListN.{take, drop}
 use Rattle.rules_dictionary.specs.declared.PdoData.{PdoData}
-use Rattle.rules_dictionary.specs.Numbers.{bytes}
-use Rattle.rules.specs.Outcome.{frameSize}
+use Rattle.rules_dictionary.specs.Numbers.{bytes, padded}
+use Rattle.rules_services.specs.Effects.{Frame, frame}
+use Rattle.rules.specs.Outcome.{frameSize, mostData, sentInto}
 
 -- "At most 6 frames" from a call
 abbrev pub mostFrames : ℕ
@@ -22,3 +24,16 @@ framed identifier content = bytes 2 identifier ++ content .length ∷ content .b
 -- the output with those bytes as frame n, counted from 0
 unfoldable pub laidAt : ℕ → List ℕ → List ℕ → List ℕ
 laidAt n frame output = take (frameSize * n) output ++ (frame ++ drop (frameSize * (n + 1)) output)
+
+-- data as a frame carries it: a length, and zeros behind that many bytes
+pub record IsData (content : PdoData) : Type 0 where
+  pub short : content .length ≤ mostData
+  pub zeros : content .bytes ≡ padded 0 mostData (take (content .length) (content .bytes))
+
+-- the frame of an identifier and data
+abbrev pub frameOf : ℕ → PdoData → Frame
+frameOf identifier content = frame identifier (take (content .length) (content .bytes))
+
+-- the output with those frames in it from frame n on, counted from 0
+unfoldable pub emitted : ℕ → List Frame → List ℕ → List ℕ
+emitted n frames output = take (frameSize * n) output ++ sentInto (drop (frameSize * n) output) frames

@@ -3,12 +3,12 @@
 
 use rules_dictionary::PdoData;
 ghost use mathlib.Core.Path.{_≡_};
-ghost use mathlib.Core.List.{_++_};
-ghost use Prim.Native.Nat.{_<_, _≤_};
+ghost use mathlib.Core.List.{[], _∷_, _++_};
+ghost use Prim.Native.Nat.{_+_, _<_, _≤_};
 ghost use lib.ListN.{length, drop};
 ghost use Rattle.rules.specs.Outcome.{frameSize};
 ghost use Rattle.rules.specs.Calls.{outputLength};
-ghost use Rattle.output.specs.Laying.{mostFrames, framed, laidAt};
+ghost use Rattle.output.specs.Laying.{mostFrames, framed, IsData, frameOf, emitted};
 
 // The bytes of a frame.
 const FRAME_SIZE: usize = 11;
@@ -35,11 +35,12 @@ pub fn lay(output: &mut [u8], identifier: u16, content: PdoData)
     }
 }
 
-// Frame n, counted from 0, into the output; every other byte stays.
-pub fn put(output: &mut [u8], n: usize, identifier: u16, content: PdoData)
-    requires { ⌜ (n < mostFrames) × (outputLength ≤ length (now output)) ⌝ }
-    ensures { λ r. ⌜ now (output .exit) ≡ laidAt n (framed identifier content) (now (output .entry)) ⌝ }
+// Frame n, counted from 0, into the output; every other byte stays. The number of frames then.
+pub fn send(output: &mut [u8], n: usize, identifier: u16, content: PdoData) -> usize
+    requires { ⌜ (n < mostFrames) × ((outputLength ≤ length (now output)) × IsData content) ⌝ }
+    ensures { λ r. ⌜ (r ≡ n + 1) × (now (output .exit) ≡ emitted n (frameOf identifier content ∷ []) (now (output .entry))) ⌝ }
 {
     let place = FRAME_SIZE * n;
     lay(&mut output[place..], identifier, content);
+    n + 1
 }

@@ -1,0 +1,27 @@
+-- `effects::acting::fault_reset` meets its contract. Assumes nothing.
+use Rattle.effects.proofs.Laws.{reset-left}
+use borrow.Author.Needs.{needs}
+use Rattle.effects.proofs.acting.fault_reset.Statement.{statement}
+use Rattle.effects.proofs.acting.fault_reset.Tie as tie
+
+write1-requires : tie.Need-write1-requires
+write1-requires c κs = search needs
+
+emergency-requires : tie.Need-emergency-requires
+emergency-requires c κs = search needs
+
+same-length : tie.Need-same-length
+same-length c = search needs
+
+same-length-2 : tie.Need-same-length-2
+same-length-2 c = search needs
+
+returns : tie.Need-returns
+returns c =
+    let w = c .before .before .before .before .before .before .before in
+    let a = w .before .before .before .before .args in
+    reset-left (a .s) (a .n) _ (a .d .now) (a .output .now) _ _ (w .write1 .ensures) (c .before .before .emergency .ensures)
+
+pub fault-reset-spec : {M : Type 1} → statement M
+fault-reset-spec =
+    tie.close (tie.spec write1-requires emergency-requires same-length same-length-2 returns)

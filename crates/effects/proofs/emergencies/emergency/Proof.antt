@@ -1,0 +1,55 @@
+-- `effects::emergencies::emergency` meets its contract. Assumes nothing.
+use mathlib.Core.Path.{sym, _∙_}
+use borrow.Author.Needs.{needs}
+use Rattle.effects.proofs.Laws.{silent, spoken, emergency-data}
+use Rattle.effects.proofs.emergencies.emergency.Statement.{statement}
+use Rattle.effects.proofs.emergencies.emergency.Tie as tie
+
+is-stopped-requires : tie.Need-is-stopped-requires
+is-stopped-requires c κs = search needs
+
+returns : tie.Need-returns
+returns c =
+    let a = c .before .before .before .before .before .args in
+    silent (a .code) (a .s) (a .d .now) (a .n) (a .output .now) (sym (c .before .is-stopped .ensures) ∙ c .if1 .taken)
+
+read1-requires : tie.Need-read1-requires
+read1-requires c κs = search needs
+
+emergency-data-requires : tie.Need-emergency-data-requires
+emergency-data-requires c κs = search needs
+
+cast-send : tie.Need-cast-send
+cast-send c = search needs
+
+add-send : tie.Need-add-send
+add-send c = search needs
+
+send-requires : tie.Need-send-requires
+send-requires c κs =
+    let b = c .before .before in
+    (search needs, (search needs, emergency-data _ _ _ (b .emergency-data .ensures)))
+
+same-length : tie.Need-same-length
+same-length c = search needs
+
+returns-2 : tie.Need-returns-2
+returns-2 c =
+    let b = c .before .before .before .before .before in
+    let h = b .before .before .before in
+    let a = h .before .before .before .before .args in
+    spoken (a .code) (a .s) (a .d .now) _ _ (a .n) _ (a .output .now) _ (sym (h .is-stopped .ensures) ∙ b .before .before .if1 .left) (b .before .read1 .ensures) (b .emergency-data .ensures) (c .before .before .send .ensures)
+
+pub emergency-spec : {M : Type 1} → statement M
+emergency-spec =
+    tie.close
+    (tie.spec
+    is-stopped-requires
+    returns
+    read1-requires
+    emergency-data-requires
+    cast-send
+    add-send
+    send-requires
+    same-length
+    returns-2)

@@ -1,0 +1,82 @@
+// The state with one part changed, and all else as it was.
+ghost use mathlib.Core.Path.{_≡_};
+ghost use Rattle.rules_services.specs.Effects.{withDrive, withHeld, withPacing, withNmt, withVoltage, withHeartbeat};
+use drive::Drive;
+use rules_dictionary::PdoData;
+use state::NmtState;
+use state::Node;
+use state::State;
+
+// That drive.
+pub fn with_drive(s: State, v: Drive) -> State
+    ensures { λ r. ⌜ r ≡ withDrive v s ⌝ }
+{
+    let node = s.node;
+    let mut axis = s.axis;
+    axis.drive = v;
+    State {
+        node: node,
+        axis: axis,
+    }
+}
+
+// Those held frames.
+pub fn with_held(s: State, held: [PdoData; 4]) -> State
+    ensures { λ r. ⌜ r ≡ withHeld held s ⌝ }
+{
+    let node = s.node;
+    let mut axis = s.axis;
+    axis.held = held;
+    State {
+        node: node,
+        axis: axis,
+    }
+}
+
+// Those SYNC counts and due marks.
+pub fn with_pacing(s: State, counts: [u8; 4], due: [bool; 4]) -> State
+    ensures { λ r. ⌜ r ≡ withPacing counts due s ⌝ }
+{
+    let node = s.node;
+    let mut axis = s.axis;
+    axis.counts = counts;
+    axis.due = due;
+    State {
+        node: node,
+        axis: axis,
+    }
+}
+
+// That NMT state.
+pub fn with_nmt(s: State, m: NmtState) -> State
+    ensures { λ r. ⌜ r ≡ withNmt m s ⌝ }
+{
+    let axis = s.axis;
+    State {
+        node: Node {
+            id: s.node.id,
+            nmt: m,
+            voltage: s.node.voltage,
+            heartbeat: s.node.heartbeat,
+        },
+        axis: axis,
+    }
+}
+
+// That voltage flag.
+pub fn with_voltage(s: State, on: bool) -> State
+    ensures { λ r. ⌜ r ≡ withVoltage on s ⌝ }
+{
+    let mut next = s;
+    next.node.voltage = on;
+    next
+}
+
+// That count of ticks since the last heartbeat.
+pub fn with_heartbeat(s: State, count: u16) -> State
+    ensures { λ r. ⌜ r ≡ withHeartbeat count s ⌝ }
+{
+    let mut next = s;
+    next.node.heartbeat = count;
+    next
+}
