@@ -1,41 +1,73 @@
 -- Laws of the defaults: bytes copied one by one, and the identifiers that count up from the node-ID.
 -- Assumes nothing.
-use Prim.Native.Nat.{ℕ, _+_, _<_}
+use Prim.Native.Nat.{ℕ, zero, suc, _+_, _<_, _≤_}
 use mathlib.Core.Path.{_≡_, refl, sym, _∙_, ap}
-use mathlib.Core.List.{List, [], _∷_, _++_}
+use mathlib.Core.List.{List, [], _∷_, _++_, append-nil}
+use native.Mathlib.Nat.{zero-add, add-zero, add-suc, suc-add}
 use native.Mathlib.Numerals.{add-one}
 use native.Mathlib.Omega.{arith}
-use lib.ListN.{length, getD, take, set}
-use lib.Seq.{sets, length-sets, take-suc, take-suc-set, take-all}
+use lib.ListN.{length, getD, drop, set, drop-of-length-le}
+use lib.Seq.{sets, paste, paste-suc, take-all, drop-cons}
 use Rattle.rules_dictionary.specs.Numbers.{bytes}
-use Rattle.rules_dictionary.specs.Table.{table, dictionaryLength}
-use Rattle.rules_dictionary.specs.Values.{stored, toDefaults}
+use Rattle.rules_dictionary.specs.Table.{table, errorCode, errorRegister, dictionaryLength}
+use Rattle.rules_dictionary.specs.Values.{store, stored, toDefaults}
 use Rattle.rules_dictionary.proofs.Defaults.{packedDefaults, all-defaults}
-use Rattle.dictionary.specs.Identifiers.{fourFrom}
+use Rattle.dictionary.specs.Identifiers.{fourFrom, nodeIdentifiers}
+use Rattle.dictionary.specs.Communication.{communicationObjects}
 
 -- one more byte copied
-pub copied : (s d : List ℕ) (i : ℕ) → i < length s → i < length d → take i d ≡ take i s → take (i + 1) (set d i (getD s i 0)) ≡ take (i + 1) s
-copied s d i hs hd e =
-    rw add-one (take-suc-set d i (getD s i 0) hd ∙ ap (λ (l : List ℕ). l ++ (getD s i 0 ∷ [])) e ∙ sym (take-suc s i 0 hs))
-
--- all copied
-pub copied-all : (s d : List ℕ) (n : ℕ) → length s ≡ n → length d ≡ n → take n d ≡ take n s → d ≡ s
-copied-all s d n hs hd e = sym (take-all n d (omega arith)) ∙ e ∙ take-all n s (omega arith)
+pub copied : (before d s : List ℕ) (i : ℕ) → d ≡ paste before 0 s i → i < length s → i < length before →
+    set d i (getD s i 0) ≡ paste before 0 s (i + 1)
+copied before d s i e hs hd =
+    ap (λ (l : List ℕ). set l i (getD s i 0)) e
+    ∙ ap (λ (k : ℕ). set (paste before 0 s i) k (getD s i 0)) (sym (zero-add i))
+    ∙ rw add-one (paste-suc before 0 s i 0 (omega arith) hs)
 
 pub length-defaults : length (packedDefaults 0 table) ≡ dictionaryLength
 unfolding packedDefaults table bytes
 length-defaults = refl
 
-pub length-four : (place first n : ℕ) (d : List ℕ) → length (fourFrom place first n d) ≡ length d
-unfolding fourFrom
-length-four place first n d = simp length-sets
+-- 1014h, then the identifiers of either direction
+pub by-direction : (n : ℕ) (d : List ℕ) →
+    fourFrom 177 0x40000180 n (fourFrom 21 0x200 n (sets d 9 (bytes 4 (0x80 + n)))) ≡ stored (toDefaults n nodeIdentifiers) d
+unfolding fourFrom stored store
+by-direction n d = refl
 
-node-bytes : (n : ℕ) →
-    fourFrom 177 0x40000180 n (fourFrom 21 0x200 n (sets (packedDefaults 0 table) 9 (bytes 4 (0x80 + n)))) ≡ packedDefaults n table
-unfolding fourFrom packedDefaults table bytes
+node-bytes : (n : ℕ) → stored (toDefaults n nodeIdentifiers) (packedDefaults 0 table) ≡ packedDefaults n table
+unfolding stored store packedDefaults table bytes
 node-bytes n = refl
 
--- THE LAW: with 1014h and the PDO identifiers for the node, the default bytes are the node's
+-- THE LAW: with the identifiers for the node, the default bytes are the node's
 pub for-node : (n : ℕ) (d : List ℕ) → length d ≡ dictionaryLength →
-    fourFrom 177 0x40000180 n (fourFrom 21 0x200 n (sets (packedDefaults 0 table) 9 (bytes 4 (0x80 + n)))) ≡ stored (toDefaults n table) d
-for-node n d h = node-bytes n ∙ sym (all-defaults n d h)
+    stored (toDefaults n nodeIdentifiers) (paste d 0 (packedDefaults 0 table) dictionaryLength) ≡ stored (toDefaults n table) d
+for-node n d h =
+    rw (take-all dictionaryLength (packedDefaults 0 table) (omega (arith, length-defaults)), drop-of-length-le d {i = dictionaryLength} (omega arith), append-nil)
+    (node-bytes n ∙ sym (all-defaults n d h))
+
+-- ---- the communication objects
+
+-- so many bytes from a place on, one by one
+abbrev spread : ℕ → ℕ → List ℕ → List ℕ
+spread i zero d = []
+spread i (suc k) d = getD d i 0 ∷ spread (suc i) k d
+
+spread-is : (d : List ℕ) (i k : ℕ) → i + k ≤ length d → spread i k d ++ drop (i + k) d ≡ drop i d
+spread-is d i zero h = rw add-zero
+spread-is d i (suc k) h = rw (drop-cons d i 0 (omega arith)) (ap (λ (l : List ℕ). getD d i 0 ∷ l) (rw (add-suc, ← suc-add) (spread-is d (suc i) k (omega arith))))
+
+-- the bytes that a call of 82h leaves, in the order of the code
+abbrev pub communicationBytes : ℕ → List ℕ → List ℕ
+communicationBytes n d =
+    stored (toDefaults n nodeIdentifiers)
+    (set (paste d 0 (packedDefaults 0 table) (errorCode .place)) (errorRegister .place) (getD d (errorRegister .place) 0))
+
+computed : (n : ℕ) (d : List ℕ) →
+    communicationBytes n d ≡ stored (toDefaults n communicationObjects) (spread 0 (errorCode .place) d ++ drop (errorCode .place) d)
+unfolding stored store packedDefaults table bytes communicationObjects
+computed n d = refl
+
+-- THE LAW: the default bytes in front of the drive's, with 1001h put back and the identifiers for the node
+pub communication-for-node : (n : ℕ) (d : List ℕ) → length d ≡ dictionaryLength →
+    communicationBytes n d ≡ stored (toDefaults n communicationObjects) d
+communication-for-node n d h =
+    computed n d ∙ ap (λ (l : List ℕ). stored (toDefaults n communicationObjects) l) (spread-is d 0 (errorCode .place) (omega arith))

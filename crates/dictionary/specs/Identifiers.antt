@@ -1,9 +1,10 @@
--- The default identifiers of the four PDOs of a direction.
+-- The default identifiers, which count up from the node-ID: of the four PDOs of a direction, and all of them.
 -- Assumes nothing.
 use Prim.Native.Nat.{ℕ, _+_}
-use mathlib.Core.List.{List}
+use mathlib.Core.List.{List, _∷_, map}
 use lib.Seq.{sets}
 use Rattle.rules_dictionary.specs.Numbers.{bytes}
+use Rattle.rules_dictionary.specs.Table.{Row, emergencyIdentifier, identifier, pdos}
 
 -- four values in steps of 100h, six bytes apart
 unfoldable pub fourFrom : ℕ → ℕ → ℕ → List ℕ → List ℕ
@@ -15,3 +16,7 @@ fourFrom place first n d =
     (bytes 4 (first + 0x200 + n)))
     (place + 18)
     (bytes 4 (first + 0x300 + n))
+
+-- the rows whose default counts up from the node-ID
+abbrev pub nodeIdentifiers : List Row
+nodeIdentifiers = emergencyIdentifier ∷ map identifier pdos

@@ -2,3 +2,4 @@ pub mod Sizes
 pub mod Entries
 pub mod Lines
 pub mod Identifiers
+pub mod Communication

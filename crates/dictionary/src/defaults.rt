@@ -3,10 +3,18 @@ use crate::values::write4;
 ghost use mathlib.Core.Path.{_≡_};
 ghost use Prim.Native.Nat.{_+_, _≤_};
 ghost use lib.ListN.{length};
+ghost use lib.Seq.{paste};
 ghost use Rattle.rules_dictionary.specs.Table.{table, dictionaryLength};
 ghost use Rattle.rules_dictionary.specs.Values.{stored, toDefaults};
 ghost use Rattle.rules_dictionary.proofs.Defaults.{packedDefaults};
-ghost use Rattle.dictionary.specs.Identifiers.{fourFrom};
+ghost use Rattle.dictionary.specs.Identifiers.{fourFrom, nodeIdentifiers};
+ghost use Rattle.dictionary.specs.Communication.{communicationObjects};
+
+// Where 1001h stands.
+const ERROR_REGISTER: usize = 4;
+
+// Where the drive's objects begin, behind the communication objects.
+const DRIVE_OBJECTS: usize = 332;
 
 // The default bytes, an object a line, without the node-ID.
 const DEFAULTS: [u8; 389] = *b"\
@@ -57,14 +65,14 @@ fn defaults() -> [u8; 389]
     DEFAULTS
 }
 
-// The default bytes into the dictionary.
-fn write_all(d: &mut [u8])
-    requires { ⌜ length (now d) ≡ dictionaryLength ⌝ }
-    ensures { λ r. ⌜ now (d .exit) ≡ packedDefaults 0 table ⌝ }
+// The first default bytes into the dictionary, so many; those behind them stay.
+fn write_first(d: &mut [u8], count: usize)
+    requires { ⌜ (length (now d) ≡ dictionaryLength) × (count ≤ dictionaryLength) ⌝ }
+    ensures { λ r. ⌜ now (d .exit) ≡ paste (now (d .entry)) 0 (packedDefaults 0 table) count ⌝ }
 {
     let all = defaults();
     let mut i: usize = 0;
-    while i < 389 {
+    while i < count {
         d[i] = all[i];
         i += 1;
     }
@@ -82,13 +90,32 @@ fn write_identifiers(d: &mut [u8], place: usize, first: u32, n: u8)
     write4(d, place + 18, first + 0x300 + node);
 }
 
+// The identifiers that count up from the node-ID, 1014h and those of the PDOs, to their defaults on node n.
+fn write_node_identifiers(d: &mut [u8], n: u8)
+    requires { ⌜ (length (now d) ≡ dictionaryLength) × (n ≤ 127) ⌝ }
+    ensures { λ r. ⌜ now (d .exit) ≡ stored (toDefaults n nodeIdentifiers) (now (d .entry)) ⌝ }
+{
+    write4(d, 9, 0x80 + (n as u32));
+    write_identifiers(d, 21, 0x200, n);
+    write_identifiers(d, 177, 0x4000_0180, n);
+}
+
 // Every row to its default on node n.
 pub fn write_defaults(d: &mut [u8], n: u8)
     requires { ⌜ (length (now d) ≡ dictionaryLength) × ((1 ≤ n) × (n ≤ 127)) ⌝ }
     ensures { λ r. ⌜ now (d .exit) ≡ stored (toDefaults n table) (now (d .entry)) ⌝ }
 {
-    write_all(d);
-    write4(d, 9, 0x80 + (n as u32));
-    write_identifiers(d, 21, 0x200, n);
-    write_identifiers(d, 177, 0x4000_0180, n);
+    write_first(d, 389);
+    write_node_identifiers(d, n);
+}
+
+// The communication objects, 1000h to 1FFFh without 1001h, to their defaults on node n.
+pub fn write_communication_defaults(d: &mut [u8], n: u8)
+    requires { ⌜ (length (now d) ≡ dictionaryLength) × ((1 ≤ n) × (n ≤ 127)) ⌝ }
+    ensures { λ r. ⌜ now (d .exit) ≡ stored (toDefaults n communicationObjects) (now (d .entry)) ⌝ }
+{
+    let register = d[ERROR_REGISTER];
+    write_first(d, DRIVE_OBJECTS);
+    d[ERROR_REGISTER] = register;
+    write_node_identifiers(d, n);
 }

@@ -4,6 +4,7 @@ mod values; // a value read and written at a place
 mod table; // the rows, and the look-up by index and subindex
 mod defaults; // the values after power-up
 
+pub use defaults::write_communication_defaults;
 pub use defaults::write_defaults;
 pub use table::find;
 pub use values::read;

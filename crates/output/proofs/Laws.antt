@@ -57,14 +57,17 @@ pub length-encoded : (f : Frame) → length (encoded f) ≡ frameSize
 unfolding encoded bytes
 length-encoded f = ap (λ (k : ℕ). suc (suc (suc k))) (length-padded mostData (f .content))
 
+-- data is as long as it says
+pub length-data : (content : PdoData) → IsData content → length (take (content .length) (content .bytes)) ≡ content .length
+length-data content h =
+    let l : length (content .bytes) ≡ mostData = ap length (h .zeros) ∙ length-padded mostData (take (content .length) (content .bytes)) in
+    let k = h .short in
+    length-take-le (content .length) (content .bytes) (omega (arith, l, k))
+
 -- data is laid as the frame of its bytes
 framed-is-encoded : (i : ℕ) (content : PdoData) → IsData content → framed i content ≡ encoded (frameOf i content)
 unfolding framed encoded
-framed-is-encoded i content h =
-    let l : length (content .bytes) ≡ mostData = ap length (h .zeros) ∙ length-padded mostData (take (content .length) (content .bytes)) in
-    let k = h .short in
-    let n : length (take (content .length) (content .bytes)) ≡ content .length = length-take-le (content .length) (content .bytes) (omega (arith, l, k)) in
-    rw n (ap (λ (bs : List ℕ). bytes 2 i ++ content .length ∷ bs) (h .zeros))
+framed-is-encoded i content h = rw (length-data content h) (ap (λ (bs : List ℕ). bytes 2 i ++ content .length ∷ bs) (h .zeros))
 
 -- laid as frame n, that frame is emitted
 pub laid-is-emitted : (n i : ℕ) (content : PdoData) (o : List ℕ) → IsData content → laidAt n (framed i content) o ≡ emitted n (frameOf i content ∷ []) o

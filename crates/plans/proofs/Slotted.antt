@@ -63,7 +63,7 @@ unfolding slotsSound
 next-slot way zero used w ws m ms = refl
 next-slot way (suc j) used w ws m ms = rw (sub-one, lt-ltb 0 (suc j) (omega arith))
 
-more-words : (n k at : ℕ) (d : List ℕ) → k < n → wordsFrom (n - k) at d ≡ value (part at 4 d) ∷ wordsFrom (n - (k + 1)) (at + 4) d
+pub more-words : (n k at : ℕ) (d : List ℕ) → k < n → wordsFrom (n - k) at d ≡ value (part at 4 d) ∷ wordsFrom (n - (k + 1)) (at + 4) d
 unfolding wordsFrom
 more-words n k at d h = let e : n - k ≡ suc (n - (k + 1)) = omega arith in rw e
 

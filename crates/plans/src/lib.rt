@@ -6,6 +6,7 @@ mod mapping; // a PDO's mapping and its kept plan
 
 pub use frames::ready_of;
 pub use frames::same_data;
+pub use mapping::mapping_place;
 pub use mapping::mapping_sound;
 pub use mapping::plan_of;
 pub use words::move_of;

@@ -154,7 +154,7 @@ upload-within rq s d (found x) xs = λ w i. absurd (none-in i)
 upload-within rq s d noObject xs = λ w i. absurd (none-in i)
 upload-within rq s d noSubindex xs = λ w i. absurd (none-in i)
 
-asked-within : (c : Command) (rq : List ℕ) (s : State) (d : List ℕ) → Within (asked c rq s d) (orReset (bySdo c (lookup (askedIndex rq) (askedSubindex rq))))
+pub asked-within : (c : Command) (rq : List ℕ) (s : State) (d : List ℕ) → Within (asked c rq s d) (orReset (bySdo c (lookup (askedIndex rq) (askedSubindex rq))))
 unfolding asked abort
 asked-within download rq s d = object-within rq s d (lookup (askedIndex rq) (askedSubindex rq))
 asked-within upload rq s d = upload-within rq s d (lookup (askedIndex rq) (askedSubindex rq)) _
@@ -182,7 +182,7 @@ received-within p bs s d xs h = go (ltb (length bs) k) (areLegal d (unpacked (ma
     go false true true = λ w i. absurd (none-in i)
     go false true false = applied-within (unpacked (mapped d p) (take k bs)) s d xs (λ w i. h (w .row) (unpacked-rows (mapped d p) (take k bs) i))
 
-received-by-within : (ps qs : List ℕ) (i : ℕ) (bs : List ℕ) (s : State) (d : List ℕ) → ((p : ℕ) → In p ps → listens i (s .node .nmt) d p ≡ true → In p qs) → Within (receivedBy ps i bs s d) (orReset (byPdos d qs))
+pub received-by-within : (ps qs : List ℕ) (i : ℕ) (bs : List ℕ) (s : State) (d : List ℕ) → ((p : ℕ) → In p ps → listens i (s .node .nmt) d p ≡ true → In p qs) → Within (receivedBy ps i bs s d) (orReset (byPdos d qs))
 unfolding receivedBy
 received-by-within [] qs i bs s d h = λ w j. absurd (none-in j)
 received-by-within (p ∷ ps) qs i bs s d h = go (listens i (s .node .nmt) d p) refl (received-by-within ps qs i bs s d (λ q j. h q (there j)))
@@ -206,7 +206,7 @@ release-within d0 p s d i e = go (isHeld (getD (s .axis .held) p noData))
     go false = λ w j. absurd (none-in j)
 
 -- no row of a PDO is among what may be received
-received-quiet : (n : ℕ) (d : List ℕ) → DictionaryOk n d → (ps : List ℕ) → ((p : ℕ) → In p ps → In p receivePdos) → (x : Row) → In x (byPdos d ps) → In x table × (isPdo (x .role) ≡ false)
+pub received-quiet : (n : ℕ) (d : List ℕ) → DictionaryOk n d → (ps : List ℕ) → ((p : ℕ) → In p ps → In p receivePdos) → (x : Row) → In x (byPdos d ps) → In x table × (isPdo (x .role) ≡ false)
 unfolding byPdos
 received-quiet n d ok [] h x i = absurd (none-in i)
 received-quiet n d ok (p ∷ ps) h x i = go (in-append (mapped d p) i) (λ j. received-quiet n d ok ps (λ q k. h q (there k)) x j)
@@ -219,7 +219,7 @@ register-in : In errorRegister table
 unfolding open-table
 register-in = found-in 0x1001 0 refl
 
-quiet-reset : (xs : List Row) → ((x : Row) → In x xs → In x table × (isPdo (x .role) ≡ false)) → (x : Row) → In x (orReset xs) → In x table × (isPdo (x .role) ≡ false)
+pub quiet-reset : (xs : List Row) → ((x : Row) → In x xs → In x table × (isPdo (x .role) ≡ false)) → (x : Row) → In x (orReset xs) → In x table × (isPdo (x .role) ≡ false)
 quiet-reset xs h x i = go (any (same controlWord) xs) i
   where
     one : (x ≡ errorRegister) ⊎ In x xs → In x table × (isPdo (x .role) ≡ false)
@@ -265,7 +265,7 @@ release-all-within n d0 ok (p ∷ ps) s d h alike =
         go (inl j) = f w j
         go (inr j) = g w j
 
-sync-within : (bs : List ℕ) (s : State) (d : List ℕ) → Lawful s d → Within (sync bs s d) (orReset (byPdos d receivePdos))
+pub sync-within : (bs : List ℕ) (s : State) (d : List ℕ) → Lawful s d → Within (sync bs s d) (orReset (byPdos d receivePdos))
 unfolding sync
 sync-within bs s d law = go (isStopped (s .node .nmt)) (not (eqb (length bs) 0)) (isOperational (s .node .nmt))
   where
@@ -328,7 +328,7 @@ two-rows w here = here
 two-rows w (there here) = there here
 two-rows w (there (there i)) = absurd (none-in i)
 
-event-within : (e : Event) (s : State) (d : List ℕ) → Within (happens e s d) (byEvent e)
+pub event-within : (e : Event) (s : State) (d : List ℕ) → Within (happens e s d) (byEvent e)
 unfolding happens faulted
 event-within started s d = λ w i. absurd (none-in i)
 event-within quickStopDone s d = λ w i. absurd (none-in i)

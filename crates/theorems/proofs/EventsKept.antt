@@ -61,19 +61,19 @@ plain-lawful s d x v law r f =
     store-lawful s d x v law (r .inside) (r .quiet) (drive-may (s .node .id) d x v (r .quiet) (r .variable) f (whole-range x v (r .free .0) (r .free .1) f))
     (r .unread .0) (r .unread .1) (r .unread .2)
 
-code-row : PlainRow errorCode
+pub code-row : PlainRow errorCode
 unfolding open-table
 code-row = record { inside = found-in 0x603F 0 refl; quiet = refl; variable = refl; unread = (refl, refl, refl); free = (refl, refl) }
 
-register-row : PlainRow errorRegister
+pub register-row : PlainRow errorRegister
 unfolding open-table
 register-row = record { inside = found-in 0x1001 0 refl; quiet = refl; variable = refl; unread = (refl, refl, refl); free = (refl, refl) }
 
-position-row : PlainRow position
+pub position-row : PlainRow position
 unfolding open-table
 position-row = record { inside = found-in 0x6064 0 refl; quiet = refl; variable = refl; unread = (refl, refl, refl); free = (refl, refl) }
 
-velocity-row : PlainRow velocity
+pub velocity-row : PlainRow velocity
 unfolding open-table
 velocity-row = record { inside = found-in 0x606C 0 refl; quiet = refl; variable = refl; unread = (refl, refl, refl); free = (refl, refl) }
 

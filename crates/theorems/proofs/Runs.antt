@@ -69,7 +69,7 @@ nmt-lawful bs s d l h = go (eqb (length bs) nmtLength && (eqb (getD bs 1 0) ever
     go true = command-lawful (commandOf (getD bs 0 0)) s d l h
     go false = sound-lawful s d l h
 
-framed-lawful : (i : ℕ) (bs : List ℕ) (s : State) (d : List ℕ) → length d ≡ dictionaryLength → sound s d ≡ true → areBytes bs ≡ true → LawfulAfter d (framed i bs s d)
+pub framed-lawful : (i : ℕ) (bs : List ℕ) (s : State) (d : List ℕ) → length d ≡ dictionaryLength → sound s d ≡ true → areBytes bs ≡ true → LawfulAfter d (framed i bs s d)
 unfolding framed stored
 framed-lawful i bs s d l h b =
     go (eqb i nmtIdentifier) (eqb i syncBase) (eqb i (requestBase + s .node .id)) (eqb (length bs) requestLength && not (isStopped (s .node .nmt)))
@@ -86,7 +86,7 @@ framed-lawful i bs s d l h b =
 
 -- ---- events
 
-abbrev ToldFits : Told → Type 0
+abbrev pub ToldFits : Told → Type 0
 ToldFits (event e) = ArgumentsFit e
 ToldFits badEvent = Unit
 
@@ -103,7 +103,7 @@ byte-at [] i h = omega arith
 byte-at (x ∷ xs) zero h = ltb-true x 256 (and-left (isByte x) (areBytes xs) h)
 byte-at (x ∷ xs) (suc i) h = byte-at xs i (and-right (isByte x) (areBytes xs) h)
 
-arguments-fit : (k : ℕ) (xs : List ℕ) → areBytes xs ≡ true → ToldFits (eventOf k xs)
+pub arguments-fit : (k : ℕ) (xs : List ℕ) → areBytes xs ≡ true → ToldFits (eventOf k xs)
 unfolding eventOf
 arguments-fit k xs h =
     let bare = eqb (length xs) 0 in

@@ -394,7 +394,7 @@ tick-speaks s d = go (eqb (read d heartbeatTime) 0) (ltb (suc (s .node .heartbea
     go false true = (refl, silent (s .node .id))
     go false false = (refl, beat-spoken (s .node .id) (stateByte (s .node .nmt)) (byte-small (s .node .nmt)))
 
-event-speaks : (e : Event) (s : State) (d : List ℕ) → areBytes d ≡ true → length d ≡ dictionaryLength → SpeaksAs (s .node .id) (happens e s d)
+pub event-speaks : (e : Event) (s : State) (d : List ℕ) → areBytes d ≡ true → length d ≡ dictionaryLength → SpeaksAs (s .node .id) (happens e s d)
 unfolding happens faulted stored
 event-speaks started s d b l = (refl, silent (s .node .id))
 event-speaks quickStopDone s d b l = (refl, silent (s .node .id))
@@ -411,7 +411,7 @@ event-speaks (fault code register) s d b l = (
 event-speaks (feedback at speed) s d b l = (refl, silent (s .node .id))
 event-speaks (voltage v) s d b l = (refl, silent (s .node .id))
 
-framed-speaks : (i : ℕ) (bs : List ℕ) (s : State) (d : List ℕ) → areBytes d ≡ true → length d ≡ dictionaryLength → areBytes bs ≡ true → SpeaksAs (s .node .id) (framed i bs s d)
+pub framed-speaks : (i : ℕ) (bs : List ℕ) (s : State) (d : List ℕ) → areBytes d ≡ true → length d ≡ dictionaryLength → areBytes bs ≡ true → SpeaksAs (s .node .id) (framed i bs s d)
 unfolding framed sdo
 framed-speaks i bs s d b l h =
     go (eqb i nmtIdentifier) (eqb i syncBase) (eqb i (requestBase + s .node .id)) (eqb (length bs) requestLength && not (isStopped (s .node .nmt)))

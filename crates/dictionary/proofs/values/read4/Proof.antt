@@ -25,29 +25,29 @@ shared-slice-read-wide4-2 c = search needs
 wide4-requires-2 : tie.Need-wide4-requires-2
 wide4-requires-2 c κs = search needs
 
-shared-slice-read-wide4-3 : tie.Need-shared-slice-read-wide4-3
-shared-slice-read-wide4-3 c = search needs
-
-wide4-requires-3 : tie.Need-wide4-requires-3
-wide4-requires-3 c κs = search needs
-
-shared-slice-read-wide4-4 : tie.Need-shared-slice-read-wide4-4
-shared-slice-read-wide4-4 c = search needs
-
-wide4-requires-4 : tie.Need-wide4-requires-4
-wide4-requires-4 c κs = search needs
-
 mul-result : tie.Need-mul-result
 mul-result c = search needs
 
 add-result : tie.Need-add-result
 add-result c = search needs
 
+shared-slice-read-wide4-3 : tie.Need-shared-slice-read-wide4-3
+shared-slice-read-wide4-3 c = search needs
+
+wide4-requires-3 : tie.Need-wide4-requires-3
+wide4-requires-3 c κs = search needs
+
 mul-result-2 : tie.Need-mul-result-2
 mul-result-2 c = search needs
 
 add-result-2 : tie.Need-add-result-2
 add-result-2 c = search needs
+
+shared-slice-read-wide4-4 : tie.Need-shared-slice-read-wide4-4
+shared-slice-read-wide4-4 c = search needs
+
+wide4-requires-4 : tie.Need-wide4-requires-4
+wide4-requires-4 c κs = search needs
 
 mul-result-3 : tie.Need-mul-result-3
 mul-result-3 c = search needs
@@ -69,14 +69,14 @@ read4-spec =
     wide4-requires
     shared-slice-read-wide4-2
     wide4-requires-2
-    shared-slice-read-wide4-3
-    wide4-requires-3
-    shared-slice-read-wide4-4
-    wide4-requires-4
     mul-result
     add-result
+    shared-slice-read-wide4-3
+    wide4-requires-3
     mul-result-2
     add-result-2
+    shared-slice-read-wide4-4
+    wide4-requires-4
     mul-result-3
     add-result-3
     returns)

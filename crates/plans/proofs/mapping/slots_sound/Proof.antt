@@ -1,95 +1,47 @@
-use Prim.Native.Nat.{_+_, _*_, _-_, _≤_}
-use mathlib.Core.Path.{_≡_, refl, sym, _∙_}
+-- `plans::mapping::slots_sound` meets its contract. Assumes nothing.
+use mathlib.Core.Path.{sym, _∙_}
 use native.Mathlib.Omega.{arith}
-use borrow.Author.Needs.{needs}
-use borrow.Author.Tests.{not-true, not-false}
-use lib.ListN.{drop}
 use Rattle.plans.specs.Words.{wayOf}
-use Rattle.plans.specs.Slots.{wordsFrom, slotsSound}
-use Rattle.plans.proofs.Slotted.{slots-step, slots-end}
+use Rattle.plans.proofs.Emptied.{two-sound}
+use borrow.Author.Needs.{needs}
 use Rattle.plans.proofs.mapping.slots_sound.Statement.{statement}
 use Rattle.plans.proofs.mapping.slots_sound.Tie as tie
 
-abbrev Inv-loop : tie.InvT-loop
-Inv-loop d first count transmit moves at₀ used₀ k₀ at used k =
-    (slotsSound (wayOf transmit) (count - k) used (wordsFrom (8 - k) at d) (drop k moves) ≡ slotsSound (wayOf transmit) count 0 (wordsFrom 8 first d) moves)
-    × ((k ≤ 8) × ((at ≡ first + 4 * k) × (used ≤ 255 * k)))
+all-slots-sound-requires : tie.Need-all-slots-sound-requires
+all-slots-sound-requires c κs = search needs
 
-abbrev μ-loop : tie.MeasureT-loop
-μ-loop d first count transmit moves at₀ used₀ k₀ at used k = 8 - k
+returns : tie.Need-returns
+returns c = search needs
 
-loop-holds : tie.Need-loop-holds Inv-loop μ-loop
-loop-holds c =
-    let n = c .before .args .count in
-    let e : n - 0 ≡ n = omega arith in
-    (rw e refl, search needs)
+is-rest-empty-requires : tie.Need-is-rest-empty-requires
+is-rest-empty-requires c κs = search needs
 
-mul-kept : tie.Need-mul-kept Inv-loop μ-loop
-mul-kept c = search needs
+are-two-sound-requires : tie.Need-are-two-sound-requires
+are-two-sound-requires c κs = search needs
 
-array-copy-out-kept : tie.Need-array-copy-out-kept Inv-loop μ-loop
-array-copy-out-kept c = search needs
-
-read4-requires : tie.Need-read4-requires Inv-loop μ-loop
-read4-requires c κs = search needs
-
-slot-sound-requires : tie.Need-slot-sound-requires Inv-loop μ-loop
-slot-sound-requires c κs = search needs
-
-returns : tie.Need-returns Inv-loop μ-loop
-returns c =
-    let l = c .before .before .before .before .before .loop in
-    let a = c .before .before .before .before .before .before .before .args in
-    let e = slots-step (wayOf (a .transmit)) (a .count) (l .k) (l .used) (l .at) (a .d .now) (a .t4) (c .before .before .before .before .loop-test .taken) (search needs) in
-    let f = sym (c .before .slot-sound .ensures) ∙ not-true _ (c .if1 .taken) in
-    (sym (sym (l .inv .0) ∙ e ∙ rw (← c .before .before .read4 .ensures, f)), search needs)
-
-cast-used : tie.Need-cast-used Inv-loop μ-loop
-cast-used c = search needs
-
-add-used : tie.Need-add-used Inv-loop μ-loop
-add-used c = search needs
-
-add-at : tie.Need-add-at Inv-loop μ-loop
-add-at c = search needs
-
-add-k : tie.Need-add-k Inv-loop μ-loop
-add-k c = search needs
-
-loop-less : tie.Need-loop-less Inv-loop μ-loop
-loop-less c = search needs
-
-loop-again : tie.Need-loop-again Inv-loop μ-loop
-loop-again c =
-    let l = c .before .before .before .before .before .before .loop in
-    let a = c .before .before .before .before .before .before .before .before .args in
-    let e = slots-step (wayOf (a .transmit)) (a .count) (l .k) (l .used) (l .at) (a .d .now) (a .t4) (c .before .before .before .before .before .loop-test .taken) (search needs) in
-    let f = sym (c .before .before .slot-sound .ensures) ∙ not-false _ (c .before .if1 .left) in
-    (sym (e ∙ rw (← c .before .before .before .read4 .ensures, f)) ∙ l .inv .0, search needs)
-
-returns-2 : tie.Need-returns-2 Inv-loop μ-loop
+returns-2 : tie.Need-returns-2
 returns-2 c =
-    let l = c .before .loop in
-    let a = c .before .before .before .args in
-    let z : l .k ≡ 8 = omega arith in
-    (sym (slots-end (wayOf (a .transmit)) (a .count - 8) (l .used) (l .at) (a .d .now) (a .t4) (search needs)) ∙ rw z at (l .inv .0), search needs)
+    let a = c .before .before .before .before .before .args in
+    let e = c .before .before .is-rest-empty .ensures in (
+      c .are-two-sound .ensures
+          ∙ two-sound (wayOf (a .transmit)) (a .count) (a .first) (a .d .now) (a .moves) (omega arith) (e .1) (sym (e .0) ∙ c .before .if2 .taken),
+      e .1,
+    )
+
+all-slots-sound-requires-2 : tie.Need-all-slots-sound-requires-2
+all-slots-sound-requires-2 c κs = search needs
+
+returns-3 : tie.Need-returns-3
+returns-3 c = search needs
 
 pub slots-sound-spec : {M : Type 1} → statement M
 slots-sound-spec =
     tie.close
     (tie.spec
-    Inv-loop
-    μ-loop
-    loop-holds
-    mul-kept
-    array-copy-out-kept
-    read4-requires
-    slot-sound-requires
+    all-slots-sound-requires
     returns
-    cast-used
-    add-used
-    add-at
-    add-k
-    loop-less
-    loop-again
-    returns-2)
+    is-rest-empty-requires
+    are-two-sound-requires
+    returns-2
+    all-slots-sound-requires-2
+    returns-3)

@@ -1,0 +1,184 @@
+-- What a sound state and dictionary give the services, and each service's way to the call's end.
+-- Assumes nothing.
+use Prim.Native.Nat.{ℕ, _+_, _<_, _≤_}
+use native.Mathlib.Omega.{arith}
+use mathlib.Core.Path.{_≡_, refl, sym, _∙_, ap, subst}
+use mathlib.Core.Bool.{Bool, true, false, cond, _&&_, _||_, and-false}
+use mathlib.Core.List.{List, [], _∷_}
+use borrow.Author.Tests.{leb-true, eq-eqb, ne-eqb}
+use lib.Dec.{eqb, leb}
+use lib.ListN.{length, take}
+use lib.Seq.{take-all}
+use Rattle.rules_dictionary.specs.declared.PdoData.{PdoData}
+use Rattle.state.specs.declared.State.{State}
+use Rattle.rules_dictionary.specs.Numbers.{areBytes}
+use Rattle.rules_dictionary.specs.TheNode.{firstNode, lastNode}
+use Rattle.rules_dictionary.specs.Table.{receivePdos, pdos}
+use Rattle.rules_dictionary.specs.Values.{Write, stored}
+use Rattle.rules_dictionary.specs.Plans.{plansOf, readyOf}
+use Rattle.rules_dictionary.proofs.Tests.{In, and-left, and-right}
+use Rattle.rules_services.specs.Effects.{Effect, becomes, isStopped}
+use Rattle.rules_services.specs.Sdo.{sdo, requestBase, requestLength}
+use Rattle.rules_services.specs.PdoTraffic.{sync, syncBase, receivedBy}
+use Rattle.rules_services.specs.Nmt.{nmt, nmtIdentifier}
+use Rattle.rules.specs.Outcome.{mostData}
+use Rattle.rules.specs.Calls.{framed}
+use Rattle.theorems.proofs.Booleans.{clash, or-false-left, or-false-right, any-false-in}
+use Rattle.theorems.proofs.Lawful.{Lawful, clauses, sound-lawful}
+use Rattle.theorems.proofs.NmtKept.{LawfulAfter}
+use Rattle.theorems.proofs.Runs.{framed-lawful}
+use Rattle.theorems.proofs.SentBy.{SpeaksAs, framed-speaks}
+use Rattle.theorems.proofs.Writes.{InTable}
+use Rattle.output.specs.Laying.{IsData}
+use Rattle.output.proofs.Laws.{length-data}
+use Rattle.theorems.proofs.Sent.{length-padded}
+use Rattle.effects.specs.declared.Done.{Done}
+use Rattle.effects.specs.Leaves.{touches, Did}
+use Rattle.effects.proofs.Laws.{as-effect}
+use Rattle.soundness.proofs.Laws.{plans-are, ready-are}
+use Rattle.sdo.specs.Serving.{Servable, Served, isMapping, remaps}
+use Rattle.sdo.proofs.Mappings.{Spares}
+use Rattle.sdo.proofs.Downloading.{other-role}
+use Rattle.pdo.specs.Kept.{Kept}
+use Rattle.pdo.specs.Traffic.{syncOf}
+use Rattle.pdo.proofs.Laws.{lawful-kept, sync-by-length}
+use Rattle.calls.specs.Leaving.{replanned, Leaves, Finishes, Stands, OnBus, dataOf, requested, serviced, unchanged}
+use Rattle.calls.proofs.Services.{Keeps, QuietWrites, sync-keeps, received-by-keeps, sdo-keeps, sdo-in-table, sdo-unsynced, sync-quiet, received-by-quiet}
+use Rattle.calls.proofs.Stays.{ready-stays, quiet-leaves}
+use Rattle.calls.proofs.Finish.{as-finished, finishes}
+use Rattle.calls.proofs.Commanding.{changed-leaves}
+
+-- ---- of a sound state and dictionary
+
+module _ {s : State} {d o : List ℕ} (h : Stands s d o) where
+  pub lawful : Lawful s d
+  lawful = sound-lawful s d (h .long) (h .sound)
+
+  pub plans-kept : s .axis .plans ≡ plansOf d
+  plans-kept = plans-are s d (clauses s d (h .sound) .plans)
+
+  pub ready-kept : s .axis .ready ≡ readyOf d
+  ready-kept = ready-are s d (clauses s d (h .sound) .ready)
+
+  pub last-node : s .node .id ≤ lastNode
+  last-node = leb-true _ _ (and-right (leb firstNode (s .node .id)) _ (lawful .id))
+
+  pub first-node : firstNode ≤ s .node .id
+  first-node = leb-true _ _ (and-left (leb firstNode (s .node .id)) _ (lawful .id))
+
+  pub servable : Servable s d o
+  servable = record { long = h .long; room = h .room; lawful = lawful; plans = plans-kept }
+
+  pub kept : Kept s d o
+  kept = lawful-kept lawful plans-kept (h .room)
+
+-- ---- a frame, by its identifier
+
+module _ (bs : List ℕ) (s : State) (d : List ℕ) where
+  framed-nmt : framed nmtIdentifier bs s d ≡ nmt bs s
+  unfolding framed
+  framed-nmt = refl
+
+  framed-sync : framed syncBase bs s d ≡ sync bs s d
+  unfolding framed
+  framed-sync = refl
+
+  pub framed-serviced : (i : ℕ) → (i ≡ nmtIdentifier → ⊥) → framed i bs s d ≡ serviced i bs s d
+  unfolding framed
+  framed-serviced i n = rw (ne-eqb i nmtIdentifier n)
+
+  serviced-request : (i : ℕ) → (i ≡ syncBase → ⊥) → i ≡ requestBase + s .node .id → serviced i bs s d ≡ requested bs s d
+  serviced-request i n e = rw (ne-eqb i syncBase n, eq-eqb i (requestBase + s .node .id) e)
+
+  serviced-received : (i : ℕ) → (i ≡ syncBase → ⊥) → (i ≡ requestBase + s .node .id → ⊥) → serviced i bs s d ≡ receivedBy receivePdos i bs s d
+  serviced-received i n k = rw (ne-eqb i syncBase n, ne-eqb i (requestBase + s .node .id) k)
+
+  request-identifier : serviced (requestBase + s .node .id) bs s d ≡ framed (requestBase + s .node .id) bs s d
+  request-identifier = sym (framed-serviced (requestBase + s .node .id) (λ e. omega (arith, e)))
+
+  framed-request : framed (requestBase + s .node .id) bs s d ≡ requested bs s d
+  framed-request = sym request-identifier ∙ serviced-request (requestBase + s .node .id) (λ e. omega (arith, e)) refl
+
+-- ---- what is left of each service, and its way to the call's end
+
+module _ {s : State} {d o : List ℕ} (h : Stands s d o) (b : areBytes d ≡ true) where
+  -- of any frame: lawful, and spoken in order
+  frame-lawful : (i : ℕ) (bs : List ℕ) (e : Effect) → areBytes bs ≡ true → framed i bs s d ≡ e → LawfulAfter d e
+  frame-lawful i bs e bytes q = subst (LawfulAfter d) q (framed-lawful i bs s d (h .long) (h .sound) bytes)
+
+  frame-spoken : (i : ℕ) (bs : List ℕ) (e : Effect) → areBytes bs ≡ true → framed i bs s d ≡ e → SpeaksAs (s .node .id) e
+  frame-spoken i bs e bytes q = subst (SpeaksAs (s .node .id)) q (framed-speaks i bs s d b (h .long) bytes)
+
+  -- a service that writes no row of a PDO
+  quiet-finishes : (i : ℕ) (bs : List ℕ) (e : Effect) (r : Done) (d′ o′ : List ℕ) → areBytes bs ≡ true → framed i bs s d ≡ e → QuietWrites e → Keeps s e →
+      Did e 0 d o r d′ o′ → Finishes e s d o r d′ o′
+  quiet-finishes i bs e r d′ o′ bytes q quiet keeps did =
+      finishes s d o e r d′ o′ (quiet-leaves s d o e r d′ o′ did quiet keeps (plans-kept h) (lawful h .dictionary)) (frame-lawful i bs e bytes q)
+      (frame-spoken i bs e bytes q) (keeps .1) (ready-kept h)
+
+  pub sync-finishes : (content : PdoData) → OnBus content → (r : Done) (d′ o′ : List ℕ) → Did (syncOf (content .length) s d) 0 d o r d′ o′ →
+      Finishes (serviced syncBase (dataOf content) s d) s d o r d′ o′
+  sync-finishes content c r d′ o′ did =
+      let bs = dataOf content in
+      let is : sync bs s d ≡ syncOf (content .length) s d = sync-by-length bs s d ∙ ap (λ (n : ℕ). syncOf n s d) (length-data content (c .shape)) in
+      quiet-finishes syncBase bs (sync bs s d) r d′ o′ (c .bytes) (framed-sync bs s d) (sync-quiet bs s d (lawful h)) (sync-keeps bs s d) (as-effect is did)
+
+  pub receive-finishes : (i : ℕ) (content : PdoData) → OnBus content → (i ≡ nmtIdentifier → ⊥) → (i ≡ syncBase → ⊥) → (i ≡ requestBase + s .node .id → ⊥) → (r : Done) (d′ o′ : List ℕ) →
+      Did (receivedBy receivePdos i (dataOf content) s d) 0 d o r d′ o′ → Finishes (serviced i (dataOf content) s d) s d o r d′ o′
+  receive-finishes i content c n k m r d′ o′ did =
+      let bs = dataOf content in
+      let is = serviced-received bs s d i k m in
+      as-finished is
+      (quiet-finishes i bs (receivedBy receivePdos i bs s d) r d′ o′ (c .bytes) (framed-serviced bs s d i n ∙ is) (received-by-quiet i bs s d (lawful h)) (received-by-keeps receivePdos i bs s d) did)
+
+  -- SDO: touched or not, by what it wrote
+  served-leaves : (rq : List ℕ) (r : Done) (d′ o′ : List ℕ) → Served (sdo rq s d) d o r d′ o′ → Leaves (sdo rq s d) d o r d′ o′
+  served-leaves rq r d′ o′ served =
+      let ws = sdo rq s d .writes in
+      record {
+        state = served .state;
+        frames = served .frames;
+        synced = served .synced ∙ sym (sdo-unsynced rq s d);
+        ready = λ untouched.
+          let quiet : (touches ws || remaps ws) ≡ false = sym (served .touched) ∙ untouched in
+          ap readyOf (served .dictionary)
+          ∙ ready-stays ws d (sdo-in-table rq s d) (or-false-left (touches ws) (remaps ws) quiet) (lawful h .dictionary)
+          (λ q w i. other-role (w .row .role) (any-false-in (λ (v : Write). isMapping (v .row .role)) i (or-false-right (touches ws) (remaps ws) quiet)) q);
+        dictionary = served .dictionary;
+        output = served .output;
+      }
+
+  idle-leaves : Leaves (becomes s) d o (unchanged s) d o
+  idle-leaves = changed-leaves s s d o (refl, refl) (plans-kept h)
+
+  -- a request that is served, and one that is not
+  module _ (content : PdoData) (c : OnBus content) where
+    whole-data : content .length ≡ requestLength → dataOf content ≡ content .bytes
+    whole-data e =
+        let l : length (content .bytes) ≡ mostData = ap length (c .shape .zeros) ∙ length-padded mostData (dataOf content) in
+        take-all (content .length) (content .bytes) (omega (arith, l, e))
+
+    pub request-finishes : isStopped (s .node .nmt) ≡ false → content .length ≡ requestLength → (r : Done) (d′ o′ : List ℕ) → Served (sdo (content .bytes) s d) d o r d′ o′ →
+        Finishes (requested (dataOf content) s d) s d o r d′ o′
+    request-finishes on e r d′ o′ served =
+        let bs = dataOf content in
+        let long : eqb (length bs) requestLength ≡ true = eq-eqb (length bs) requestLength (length-data content (c .shape) ∙ e) in
+        let is : requested bs s d ≡ sdo bs s d = rw (long, on) in
+        let left : Leaves (sdo bs s d) d o r d′ o′ = subst (λ (x : List ℕ). Leaves (sdo x s d) d o r d′ o′) (sym (whole-data e)) (served-leaves (content .bytes) r d′ o′ served) in
+        let q = framed-request bs s d ∙ is in
+        as-finished is
+        (finishes s d o (sdo bs s d) r d′ o′ left (frame-lawful (requestBase + s .node .id) bs (sdo bs s d) (c .bytes) q) (frame-spoken (requestBase + s .node .id) bs (sdo bs s d) (c .bytes) q) (sdo-keeps bs s d .1) (ready-kept h))
+
+    unserved : requested (dataOf content) s d ≡ becomes s → Finishes (requested (dataOf content) s d) s d o (unchanged s) d o
+    unserved is =
+        let q = framed-request (dataOf content) s d ∙ is in
+        as-finished is
+        (finishes s d o (becomes s) (unchanged s) d o idle-leaves (frame-lawful (requestBase + s .node .id) (dataOf content) (becomes s) (c .bytes) q) (frame-spoken (requestBase + s .node .id) (dataOf content) (becomes s) (c .bytes) q) refl (ready-kept h))
+
+    pub request-stopped : isStopped (s .node .nmt) ≡ true → Finishes (requested (dataOf content) s d) s d o (unchanged s) d o
+    request-stopped on = unserved (rw on (ap (λ (x : Bool). cond x (sdo (dataOf content) s d) (becomes s)) (and-false (eqb (length (dataOf content)) requestLength))))
+
+    pub request-short : (content .length ≡ requestLength → ⊥) → Finishes (requested (dataOf content) s d) s d o (unchanged s) d o
+    request-short n =
+        let other : eqb (length (dataOf content)) requestLength ≡ false = ne-eqb _ _ (λ e. n (sym (length-data content (c .shape)) ∙ e)) in
+        unserved (rw other)

@@ -1,0 +1,4 @@
+pub mod Making
+pub mod OnePdo
+pub mod Rounds
+pub mod Laws

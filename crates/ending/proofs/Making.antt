@@ -1,0 +1,141 @@
+-- 6041h and 6061h made, or standing already; plans and ready frames of a dictionary whose call may end.
+-- Assumes nothing.
+use Prim.Native.Nat.{ℕ, zero, suc, _+_, _≤_}
+use native.Mathlib.Omega.{arith}
+use mathlib.Core.Path.{_≡_, refl, sym, _∙_, ap, subst}
+use mathlib.Core.Bool.{Bool, true, not, _&&_}
+use mathlib.Core.List.{List, [], _∷_}
+use borrow.Author.Tests.{ltb-false}
+use lib.ListN.{length, take, getD}
+use lib.Seq.{sets}
+use Rattle.rules_dictionary.specs.declared.Plan.{Plan}
+use Rattle.rules_dictionary.specs.declared.PdoData.{PdoData}
+use Rattle.state.specs.declared.State.{State}
+use Rattle.rules_dictionary.specs.Numbers.{value, bytes, part, areBytes, padded}
+use Rattle.rules_dictionary.specs.Table.{Row, table, dictionaryLength, eachWay, statusWord, modeDisplay, pdos, mapCount, mapEntry, mapSlots, mostMoves}
+use Rattle.rules_dictionary.specs.Values.{read, store}
+use Rattle.rules_dictionary.specs.Aborts.{isGood}
+use Rattle.rules_dictionary.specs.Legal.{modeNumber, entryVerdict, isBelow, isAbove, badChoice}
+use Rattle.rules_dictionary.specs.Plans.{mapped, planFor, plansOf, pdoData, readyFor, readyOf}
+use Rattle.rules_dictionary.proofs.Tests.{In, each-in, and-left, and-right, and-both}
+use Rattle.rules_dictionary.proofs.Packing.{within}
+use Rattle.rules_dictionary.proofs.Members.{all-of, count-in}
+use Rattle.drive.specs.StatusWord.{status}
+use Rattle.rules_services.specs.Effects.{isStopped}
+use Rattle.rules.specs.Outcome.{settled, statusOf, transmitters}
+use Rattle.rules.specs.Sound.{mappingLegal, inRange}
+use Rattle.theorems.proofs.Booleans.{not-false}
+use Rattle.theorems.proofs.Dictionary.{DictionaryOk, entries-good, map-same}
+use Rattle.theorems.proofs.Identifiers.{of-pdo}
+use Rattle.theorems.proofs.Alike.{isPdo, mapped-alike, works-alike, type-alike}
+use Rattle.theorems.proofs.Settled.{status-in, display-in, settled-length, settled-ok, settled-pdo}
+use Rattle.theorems.proofs.Lawful.{transmitter-in}
+use Rattle.theorems.proofs.Quiet.{store-self}
+use Rattle.plans.specs.Moves.{readyBy, MovesFit}
+use Rattle.plans.proofs.Assembly.{joined-room}
+use Rattle.plans.proofs.Worked.{plan-fits, ready-mapped}
+use Rattle.output.specs.Laying.{IsData}
+use Rattle.ending.specs.Ending.{MayEnd}
+
+-- ---- 6041h and 6061h
+
+-- the status word, by whether the node is not Stopped
+pub word-made : (s : State) (d : List ℕ) (remote : Bool) (word : ℕ) → remote ≡ not (isStopped (s .node .nmt)) →
+    word ≡ status remote (s .node .voltage) (s .axis .drive) d → word ≡ statusOf s d
+unfolding statusOf
+word-made s d remote word h w = w ∙ rw h
+
+module _ (s : State) (d : List ℕ) (word shown : ℕ) (w : word ≡ statusOf s d) (m : shown ≡ modeNumber (s .axis .drive .mode)) where
+  -- written, they are made
+  pub both-written : sets (sets d (statusWord .place) (bytes 2 word)) (modeDisplay .place) (bytes 1 shown) ≡ settled s d
+  unfolding settled store
+  both-written = rw (w, m)
+
+  -- where both stand there already, nothing is to be made
+  pub both-stand : areBytes d ≡ true → length d ≡ dictionaryLength → value (part (statusWord .place) 2 d) ≡ word → value (part (modeDisplay .place) 1 d) ≡ shown →
+      d ≡ settled s d
+  unfolding settled read
+  both-stand b l p q =
+      let first : store statusWord (statusOf s d) d ≡ d =
+      ap (λ (v : ℕ). store statusWord v d) (sym (p ∙ w)) ∙ store-self statusWord d b (omega (arith, within status-in)) in
+      let second : store modeDisplay (modeNumber (s .axis .drive .mode)) d ≡ d =
+      ap (λ (v : ℕ). store modeDisplay v d) (sym (q ∙ m)) ∙ store-self modeDisplay d b (omega (arith, within display-in)) in
+      sym (ap (store modeDisplay (modeNumber (s .axis .drive .mode))) first ∙ second)
+
+-- ---- mappings of a sound dictionary
+
+module _ {n : ℕ} {d : List ℕ} (ok : DictionaryOk n d) {p : ℕ} (i : In p pdos) where
+  legal : mappingLegal d p ≡ true
+  unfolding mappingLegal
+  legal = and-both _ _ (entries-good d i ∙ all-of (λ k. isGood (entryVerdict p (read d (mapEntry p k)))) mapSlots (λ k j. ok .words p k i j)) (ok .counts p i)
+
+  few : read d (mapCount p) ≤ mostMoves
+  unfolding inRange
+  few =
+      let v = read d (mapCount p) in
+      let r = and-left (not (isBelow (mapCount p) v) && not (isAbove (mapCount p) v)) (not (badChoice (mapCount p .role) v)) (ok .ranged (mapCount p) (count-in i)) in
+      ltb-false mostMoves v (not-false _ (and-right (not (isBelow (mapCount p) v)) _ r))
+
+  pub fits : MovesFit (planFor (mapped d p) .moves) (planFor (mapped d p) .count)
+  fits = plan-fits d p legal few
+
+  pub ready-by : readyBy d (planFor (mapped d p)) ≡ readyFor d p
+  ready-by = ready-mapped d p legal few
+
+-- a frame's data
+
+take-padded : (k : ℕ) (bs : List ℕ) → length bs ≤ k → take (length bs) (padded 0 k bs) ≡ bs
+take-padded k [] h = refl
+take-padded zero (b ∷ bs) h = absurd (omega arith)
+take-padded (suc k) (b ∷ bs) h = ap (λ (l : List ℕ). b ∷ l) (take-padded k bs (omega arith))
+
+is-data : (bs : List ℕ) → length bs ≤ mostMoves → IsData (pdoData bs)
+unfolding pdoData
+is-data bs h = record { short = h; zeros = ap (padded 0 mostMoves) (sym (take-padded mostMoves bs h)) }
+
+ready-data : {n : ℕ} {d : List ℕ} → DictionaryOk n d → {p : ℕ} → In p pdos → IsData (readyFor d p)
+unfolding readyBy
+ready-data {n} {d} ok {p} i =
+    let f = fits ok i in
+    subst IsData (ready-by ok i) (is-data _ (joined-room d (planFor (mapped d p) .moves) (planFor (mapped d p) .count) f))
+
+-- ---- by number
+
+module _ {s : State} {d : List ℕ} (h : MayEnd s d) {p : ℕ} (i : In p pdos) (x : Plan) where
+  -- the kept plan
+  planned : getD (s .axis .plans) p x ≡ planFor (mapped d p)
+  unfolding plansOf
+  planned = ap (λ (l : List Plan). getD l p x) (h .plans) ∙ of-pdo (λ q. planFor (mapped d q)) x i
+
+  pub plan-at : MovesFit (getD (s .axis .plans) p x .moves) (getD (s .axis .plans) p x .count)
+  plan-at = subst (λ (q : Plan). MovesFit (q .moves) (q .count)) (sym planned) (fits (h .dictionary) i)
+
+  pub ready-at : readyBy d (getD (s .axis .plans) p x) ≡ readyFor d p
+  ready-at = ap (readyBy d) planned ∙ ready-by (h .dictionary) i
+
+-- the ready frame of transmit PDO t
+pub ready-is : (d : List ℕ) (x : PdoData) {t : ℕ} → In t transmitters → getD (readyOf d) t x ≡ readyFor d (eachWay + t)
+unfolding readyOf
+ready-is d x i = each-in (λ t. getD (readyOf d) t x ≡ readyFor d (eachWay + t)) i (refl, (refl, (refl, (refl, tt))))
+
+pub data-at : {n : ℕ} {d : List ℕ} → DictionaryOk n d → (x : PdoData) {t : ℕ} → In t transmitters → IsData (getD (readyOf d) t x)
+data-at {n} {d} ok x i = subst IsData (sym (ready-is d x i)) (ready-data ok (transmitter-in i))
+
+-- ---- once 6041h and 6061h are made
+
+-- the plans stay where the rows of the PDOs do
+pub plans-alike : (d d′ : List ℕ) → ((y : Row) → In y table → isPdo (y .role) ≡ true → read d′ y ≡ read d y) → plansOf d′ ≡ plansOf d
+unfolding plansOf
+plans-alike d d′ alike = map-same (λ p. planFor (mapped d′ p)) (λ p. planFor (mapped d p)) pdos (λ p i. ap planFor (mapped-alike d d′ alike i))
+
+pub still-may-end : (s : State) (d : List ℕ) → MayEnd s d → MayEnd s (settled s d)
+still-may-end s d h =
+    let m = s .node .nmt in
+    record {
+      long = settled-length s d ∙ h .long;
+      dictionary = settled-ok (s .node .id) s d (h .long) (h .dictionary);
+      counts = λ t i w c.
+          let type = type-alike d (settled s d) (settled-pdo s d) (transmitter-in i) in
+          rw type (h .counts t i (sym (works-alike d (settled s d) (settled-pdo s d) m (transmitter-in i)) ∙ w) (rw type at c));
+      plans = h .plans ∙ sym (plans-alike d (settled s d) (settled-pdo s d));
+    }

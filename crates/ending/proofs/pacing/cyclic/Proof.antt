@@ -1,0 +1,34 @@
+use Prim.Native.Nat.{suc}
+use mathlib.Core.Path.{_≡_}
+use mathlib.Core.Bool.{true, false}
+use native.Mathlib.Omega.{arith}
+use native.Mathlib.Numerals.{add-one}
+use borrow.Author.Tests.{not-true, not-false, eq-eqb, ne-eqb}
+use Rattle.rules_services.specs.PdoTraffic.{cyclic}
+use borrow.Author.Needs.{needs}
+use Rattle.ending.proofs.pacing.cyclic.Statement.{statement}
+use Rattle.ending.proofs.pacing.cyclic.Tie as tie
+
+returns : tie.Need-returns
+unfolding cyclic
+returns c = let e : c .before .args .synced ≡ false = not-true _ (c .if1 .taken) in rw e
+
+add-next : tie.Need-add-next
+add-next c = search needs
+
+returns-2 : tie.Need-returns-2
+unfolding cyclic
+returns-2 c =
+    let a = c .before .before .args in
+    let e : a .synced ≡ true = not-false _ (c .before .if1 .left) in
+    rw (e, eq-eqb (suc (a .count)) (a .kind) (omega arith))
+
+returns-3 : tie.Need-returns-3
+unfolding cyclic
+returns-3 c =
+    let a = c .before .before .args in
+    let e : a .synced ≡ true = not-false _ (c .before .if1 .left) in
+    rw (e, ne-eqb (suc (a .count)) (a .kind) (λ h. c .if2 .left (omega arith)), add-one)
+
+pub cyclic-spec : {M : Type 1} → statement M
+cyclic-spec = tie.close (tie.spec returns add-next returns-2 returns-3)

@@ -1,0 +1,77 @@
+use mathlib.Core.Path.{_≡_, refl, sym, _∙_, ap}
+use borrow.Author.Tests.{not-true, not-false}
+use Rattle.ending.specs.Ending.{openPace, paced}
+use Rattle.ending.proofs.OnePdo.{went-unsent, went-sent, pace-open, pace-shut}
+use borrow.Author.Needs.{needs}
+use Rattle.ending.proofs.pacing.transmit.Statement.{statement}
+use Rattle.ending.proofs.pacing.transmit.Tie as tie
+
+is-open-requires : tie.Need-is-open-requires
+is-open-requires c κs = search needs
+
+returns : tie.Need-returns
+returns c =
+    let a = c .before .before .before .before .args in
+    let p = openPace (a .d .now) (a .t) (a .synced) (a .changed) (a .count) (a .due) in
+    let shut = sym (c .before .is-open .ensures) ∙ not-true _ (c .if1 .taken) in
+    let e = pace-shut (a .d .now) (a .t) (a .synced) (a .changed) (a .count) (a .due) shut in
+    went-unsent p _ (ap paced (sym e)) (a .d .now) (a .t) (a .content) (a .n) (a .output .now) refl
+
+type-of-requires : tie.Need-type-of-requires
+type-of-requires c κs = search needs
+
+pace-of-requires : tie.Need-pace-of-requires
+pace-of-requires c κs =
+    let start = c .before .before .before .before .before in
+    let on = sym (c .before .before .is-open .ensures) ∙ not-false _ (c .before .if1 .left) in
+    rw (c .type-of .ensures) (start .pre .1 .1 .1 .1 .1 on)
+
+returns-2 : tie.Need-returns-2
+returns-2 c =
+    let told = c .before .before in
+    let a = told .before .before .before .before .before .before .args in
+    let p = openPace (a .d .now) (a .t) (a .synced) (a .changed) (a .count) (a .due) in
+    let on = sym (told .before .before .before .is-open .ensures) ∙ not-false _ (told .before .before .if1 .left) in
+    let e = pace-open (a .d .now) (a .t) (a .synced) (a .changed) (a .count) (a .due) on in
+    let q : told .pace-of .result ≡ paced p = rw (e, ← (told .before .type-of .ensures)) (told .pace-of .ensures) in
+    went-unsent p _ q (a .d .now) (a .t) (a .content) (a .n) (a .output .now) (not-true _ (c .if2 .taken))
+
+identifier-requires : tie.Need-identifier-requires
+identifier-requires c κs = search needs
+
+cast-send : tie.Need-cast-send
+cast-send c = search needs
+
+send-requires : tie.Need-send-requires
+send-requires c κs = search needs
+
+same-length : tie.Need-same-length
+same-length c = search needs
+
+returns-3 : tie.Need-returns-3
+returns-3 c =
+    let sent = c .before .before in
+    let test = sent .before .before .before in
+    let told = test .before .before in
+    let a = told .before .before .before .before .before .before .args in
+    let p = openPace (a .d .now) (a .t) (a .synced) (a .changed) (a .count) (a .due) in
+    let on = sym (told .before .before .before .is-open .ensures) ∙ not-false _ (told .before .before .if1 .left) in
+    let e = pace-open (a .d .now) (a .t) (a .synced) (a .changed) (a .count) (a .due) on in
+    let q : told .pace-of .result ≡ paced p = rw (e, ← (told .before .type-of .ensures)) (told .pace-of .ensures) in
+    rw (sent .send .ensures .0)
+    (went-sent p _ q (a .d .now) (a .t) (a .content) (a .n) (a .output .now) (not-false _ (test .if2 .left)) _ (sent .before .identifier .ensures) _ (sent .send .ensures .1))
+
+pub transmit-spec : {M : Type 1} → statement M
+transmit-spec =
+    tie.close
+    (tie.spec
+    is-open-requires
+    returns
+    type-of-requires
+    pace-of-requires
+    returns-2
+    identifier-requires
+    cast-send
+    send-requires
+    same-length
+    returns-3)

@@ -1,0 +1,84 @@
+use Prim.Native.Nat.{ℕ}
+use mathlib.Core.Path.{_≡_, refl, sym, _∙_, ap}
+use mathlib.Core.Bool.{true, true≢false}
+use mathlib.Core.List.{List}
+use native.Mathlib.Omega.{arith}
+use borrow.Author.Tests.{eqb-true}
+use lib.Seq.{sets}
+use Rattle.rules_dictionary.specs.Numbers.{bytes, areBytes}
+use Rattle.rules_dictionary.specs.Table.{modeDisplay}
+use Rattle.plans.proofs.Assembly.{are-bytes}
+use Rattle.ending.proofs.Making.{word-made, both-written, both-stand}
+use borrow.Author.Needs.{needs}
+use Rattle.ending.proofs.settling.settle.Statement.{statement}
+use Rattle.ending.proofs.settling.settle.Tie as tie
+
+is-remote-requires : tie.Need-is-remote-requires
+is-remote-requires c κs = search needs
+
+status-requires : tie.Need-status-requires
+status-requires c κs = search needs
+
+mode-number-requires : tie.Need-mode-number-requires
+mode-number-requires c κs = search needs
+
+read2-requires : tie.Need-read2-requires
+read2-requires c κs = search needs
+
+read1-requires : tie.Need-read1-requires
+read1-requires c κs = search needs
+
+same-length : tie.Need-same-length
+same-length c = search needs
+
+returns : tie.Need-returns
+returns c =
+    let second = c .before in
+    let first = second .before .before in
+    let known = first .before .before .before in
+    let remote = known .before .before .before in
+    let entry = remote .before .before .before .before in
+    let a = entry .before .args in
+    let w = word-made (a .s) (a .d .now) _ _ (remote .is-remote .ensures) (known .before .status .ensures) in
+    let b : areBytes (a .d .now) ≡ true = are-bytes (a .d .now) (λ i h. omega (arith, entry .slice-known .given i)) in
+    let e = both-stand (a .s) (a .d .now) _ _ w (known .mode-number .ensures) b (entry .before .pre) (sym (first .before .read2 .ensures) ∙ first .if1 .taken) (sym (second .read1 .ensures) ∙ eqb-true _ _ (c .if2 .taken)) in
+    (e, λ h. (h, refl))
+
+write2-requires : tie.Need-write2-requires
+write2-requires c κs = search needs
+
+write1-requires : tie.Need-write1-requires
+write1-requires c κs = search needs
+
+same-length-2 : tie.Need-same-length-2
+same-length-2 c = search needs
+
+returns-2 : tie.Need-returns-2
+returns-2 c =
+    let written = c .before .before in
+    let word = written .before .before .before .before in
+    let known = word .before .before .before .before .before in
+    let remote = known .before .before .before in
+    let a = remote .before .before .before .before .before .args in
+    let w = word-made (a .s) (a .d .now) _ _ (remote .is-remote .ensures) (known .before .status .ensures) in (
+      written .write1 .ensures
+          ∙ ap (λ (l : List ℕ). sets l (modeDisplay .place) (bytes 1 (known .mode-number .result))) (word .write2 .ensures)
+          ∙ both-written (a .s) (a .d .now) _ _ w (known .mode-number .ensures),
+      λ h. absurd (true≢false h),
+    )
+
+pub settle-spec : {M : Type 1} → statement M
+settle-spec =
+    tie.close
+    (tie.spec
+    is-remote-requires
+    status-requires
+    mode-number-requires
+    read2-requires
+    read1-requires
+    same-length
+    returns
+    write2-requires
+    write1-requires
+    same-length-2
+    returns-2)

@@ -1,0 +1,25 @@
+-- `events::acts::fed_back` meets its contract. Assumes nothing.
+use mathlib.Core.Path.{refl}
+use Rattle.events.proofs.Laws.{fed}
+use borrow.Author.Needs.{needs}
+use Rattle.events.proofs.acts.fed_back.Statement.{statement}
+use Rattle.events.proofs.acts.fed_back.Tie as tie
+
+write4-requires : tie.Need-write4-requires
+write4-requires c κs = search needs
+
+write4-requires-2 : tie.Need-write4-requires-2
+write4-requires-2 c κs = search needs
+
+same-length : tie.Need-same-length
+same-length c = search needs
+
+returns : tie.Need-returns
+returns c =
+    let second = c .before .before in
+    let first = second .before .before .before .before in
+    let a = first .before .before .before .args in
+    (refl, fed (a .at) (a .speed) (a .d .now) _ _ (first .write4 .ensures) (second .write42 .ensures))
+
+pub fed-back-spec : {M : Type 1} → statement M
+fed-back-spec = tie.close (tie.spec write4-requires write4-requires-2 same-length returns)

@@ -1,0 +1,20 @@
+-- `events::telling::told_feedback` meets its contract. Assumes nothing.
+use Rattle.events.proofs.Laws.{feedback-size, feedback-told}
+use borrow.Author.Needs.{needs}
+use Rattle.events.proofs.telling.told_feedback.Statement.{statement}
+use Rattle.events.proofs.telling.told_feedback.Tie as tie
+
+returns : tie.Need-returns
+returns c = feedback-size (c .before .before .args .arguments .now) (c .if1 .taken)
+
+read4-requires : tie.Need-read4-requires
+read4-requires c κs = search needs
+
+read4-requires-2 : tie.Need-read4-requires-2
+read4-requires-2 c κs = search needs
+
+returns-2 : tie.Need-returns-2
+returns-2 c = feedback-told (c .before .before .before .before .args .arguments .now) _ _ (c .before .before .if1 .left) (c .before .read4 .ensures) (c .read42 .ensures)
+
+pub told-feedback-spec : {M : Type 1} → statement M
+told-feedback-spec = tie.close (tie.spec returns read4-requires read4-requires-2 returns-2)

@@ -1,0 +1,160 @@
+// What each event does.
+ghost use mathlib.Core.Path.{_≡_};
+ghost use mathlib.Core.Bool.{cond};
+ghost use mathlib.Core.List.{[], _∷_};
+ghost use Prim.Native.Nat.{_≤_};
+ghost use lib.ListN.{length};
+ghost use Rattle.drive.specs.DriveStates.{isFaulty};
+ghost use Rattle.drive.specs.declared.DriveState.the-variants.{FaultReactionActive};
+ghost use Rattle.rules_dictionary.specs.Table.{dictionaryLength, position, velocity};
+ghost use Rattle.rules_dictionary.specs.Values.{write, stored};
+ghost use Rattle.rules_services.specs.Events.{faulted};
+ghost use Rattle.rules.specs.Calls.{outputLength};
+ghost use Rattle.effects.specs.Leaves.{Did};
+ghost use Rattle.events.specs.Telling.{toldOf, happened, driveAfter, voltageAfter, stateAfter, faultWrites, quiet, loud};
+use crate::Event;
+use dictionary::read1;
+use dictionary::write1;
+use dictionary::write2;
+use dictionary::write4;
+use drive::Drive;
+use drive::DriveState;
+use drive::states::is_faulty;
+use effects::Done;
+use effects::emergency;
+use effects::with_drive;
+use effects::with_voltage;
+use nmt::tick;
+use state::State;
+
+// Where 1001h, 603Fh, 6064h and 606Ch stand.
+const ERROR_REGISTER: usize = 4;
+
+const ERROR_CODE: usize = 332;
+
+const POSITION: usize = 340;
+
+const VELOCITY: usize = 348;
+
+// Bit 0 of 1001h.
+const GENERIC_ERROR: u8 = 1;
+
+// The drive after an event; one that is not the drive's leaves it.
+fn drive_after(e: Event, v: Drive) -> Drive
+    ensures { λ r. ⌜ r ≡ driveAfter e v ⌝ }
+{
+    let store = v.store;
+    match e {
+        Event::Started => v.enters(DriveState::SwitchOnDisabled),
+        Event::QuickStopDone => v.enters(DriveState::SwitchOnDisabled),
+        Event::Fault(_, _) => v,
+        Event::ReactionDone => v.enters(DriveState::Fault),
+        Event::Feedback(_, _) => v,
+        Event::SetPointReached => v.with_store(store.reached()),
+        Event::Tick => v,
+        Event::CauseGone => v.with_cause(false),
+        Event::Voltage(_) => v,
+        Event::Bad => v,
+    }
+}
+
+// The voltage flag after an event.
+fn voltage_after(e: Event, voltage: bool) -> bool
+    ensures { λ r. ⌜ r ≡ voltageAfter e voltage ⌝ }
+{
+    match e {
+        Event::Started => voltage,
+        Event::QuickStopDone => voltage,
+        Event::Fault(_, _) => voltage,
+        Event::ReactionDone => voltage,
+        Event::Feedback(_, _) => voltage,
+        Event::SetPointReached => voltage,
+        Event::Tick => voltage,
+        Event::CauseGone => voltage,
+        Event::Voltage(on) => on,
+        Event::Bad => voltage,
+    }
+}
+
+// An event that changes nothing but the state.
+fn quiet(e: Event, s: State) -> Done
+    ensures { λ r. ⌜ r ≡ quiet (stateAfter e s) ⌝ }
+{
+    let axis = s.axis;
+    let drive = axis.drive;
+    let next = with_drive(s, drive_after(e, drive));
+    Done {
+        state: with_voltage(next, voltage_after(e, s.node.voltage)),
+        frames: 0,
+        touched: false,
+        synced: false,
+    }
+}
+
+// "any state but the two fault states goes to Fault reaction active".
+fn reaction_from(state: DriveState) -> DriveState
+    ensures { λ r. ⌜ r ≡ cond (isFaulty state) state FaultReactionActive ⌝ }
+{
+    if is_faulty(state) {
+        state
+    } else {
+        DriveState::FaultReactionActive
+    }
+}
+
+// "603Fh is the code, 1001h gains the register and bit 0".
+fn note_fault(code: u16, register: u8, d: &mut [u8])
+    requires { ⌜ length (now d) ≡ dictionaryLength ⌝ }
+    ensures { λ r. ⌜ now (d .exit) ≡ stored (faultWrites code register (now (d .entry))) (now (d .entry)) ⌝ }
+{
+    let before = read1(d, ERROR_REGISTER);
+    write2(d, ERROR_CODE, code);
+    write1(d, ERROR_REGISTER, before | (register | GENERIC_ERROR));
+}
+
+// A fault: noted, "cause present, emergency".
+fn faulted(code: u16, register: u8, s: State, d: &mut [u8], output: &mut [u8]) -> Done
+    requires { ⌜ (length (now d) ≡ dictionaryLength) × ((outputLength ≤ length (now output)) × (s .node .id ≤ 127)) ⌝ }
+    ensures { λ r. ⌜ Did (faulted code register s (now (d .entry))) 0 (now (d .entry)) (now (output .entry)) r (now (d .exit)) (now (output .exit)) ⌝ }
+{
+    let axis = s.axis;
+    let drive = axis.drive;
+    let state = drive.state;
+    let next = with_drive(s, drive.enters(reaction_from(state)).with_cause(true));
+    note_fault(code, register, d);
+    let frames = emergency(code, next, d, output, 0);
+    Done {
+        state: next,
+        frames: frames,
+        touched: true,
+        synced: false,
+    }
+}
+
+// Feedback: 6064h and 606Ch.
+fn fed_back(at: u32, speed: u32, s: State, d: &mut [u8]) -> Done
+    requires { ⌜ length (now d) ≡ dictionaryLength ⌝ }
+    ensures { λ r. ⌜ (r ≡ loud s) × (now (d .exit) ≡ stored (write position at ∷ write velocity speed ∷ []) (now (d .entry))) ⌝ }
+{
+    write4(d, POSITION, at);
+    write4(d, VELOCITY, speed);
+    Done {
+        state: s,
+        frames: 0,
+        touched: true,
+        synced: false,
+    }
+}
+
+// What an event does; a bad one nothing.
+pub fn happens(e: Event, s: State, d: &mut [u8], output: &mut [u8]) -> Done
+    requires { ⌜ (length (now d) ≡ dictionaryLength) × ((outputLength ≤ length (now output)) × (s .node .id ≤ 127)) ⌝ }
+    ensures { λ r. ⌜ Did (happened (toldOf e) s (now (d .entry))) 0 (now (d .entry)) (now (output .entry)) r (now (d .exit)) (now (output .exit)) ⌝ }
+{
+    match e {
+        Event::Fault(code, register) => faulted(code, register, s, d, output),
+        Event::Feedback(at, speed) => fed_back(at, speed, s, d),
+        Event::Tick => tick(s, d, output),
+        _ => quiet(e, s),
+    }
+}

@@ -1,0 +1,24 @@
+// Document 01, 'NMT, emergency, time': the events 1 to 9: how they are told, where each is in place, and what it does.
+
+mod telling; // the event of a number and arguments
+mod places; // where each is in place
+mod acts; // what each does
+
+pub use acts::happens;
+pub use places::is_bad;
+pub use places::is_in_place;
+pub use telling::event_of;
+
+// An event that the application tells, or one that was told badly.
+pub enum Event {
+    Started,
+    QuickStopDone,
+    Fault(u16, u8),
+    ReactionDone,
+    Feedback(u32, u32),
+    SetPointReached,
+    Tick,
+    CauseGone,
+    Voltage(bool),
+    Bad,
+}

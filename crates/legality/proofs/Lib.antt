@@ -1,0 +1,4 @@
+pub mod RowTests
+pub mod Distinct
+pub mod KeyMeaning
+pub mod KeysLegal

@@ -1,0 +1,44 @@
+use native.Mathlib.Omega.{arith}
+use mathlib.Core.Path.{sym}
+use Rattle.legality.proofs.RowTests.{are-bytes, rows-tested}
+use borrow.Author.Needs.{needs}
+use Rattle.legality.proofs.rows.rows_legal.Statement.{statement}
+use Rattle.legality.proofs.rows.rows_legal.Tie as tie
+
+node-legal-requires : tie.Need-node-legal-requires
+node-legal-requires c κs = search needs
+
+communications-legal-requires : tie.Need-communications-legal-requires
+communications-legal-requires c κs = search needs
+
+counts-legal-requires : tie.Need-counts-legal-requires
+counts-legal-requires c κs = search needs
+
+communications-legal-requires-2 : tie.Need-communications-legal-requires-2
+communications-legal-requires-2 c κs = search needs
+
+counts-legal-requires-2 : tie.Need-counts-legal-requires-2
+counts-legal-requires-2 c κs = search needs
+
+drive-legal-requires : tie.Need-drive-legal-requires
+drive-legal-requires c κs = search needs
+
+returns : tie.Need-returns
+returns c =
+    let s = c .before .before .before .before .before .before .before in
+    let d = s .args .d .now in
+    let b = c .before .before .before in
+    rw (b .before .before .node-legal .ensures, b .before .communications-legal .ensures, b .counts-legal .ensures, c .before .before .communications-legal2 .ensures, c .before .counts-legal2 .ensures, c .drive-legal .ensures)
+    (sym (rows-tested (s .args .n) d (s .pre) (are-bytes d (λ i h. omega (arith, c .before .before .before .before .before .before .shared-slice-known .given i)))))
+
+pub rows-legal-spec : {M : Type 1} → statement M
+rows-legal-spec =
+    tie.close
+    (tie.spec
+    node-legal-requires
+    communications-legal-requires
+    counts-legal-requires
+    communications-legal-requires-2
+    counts-legal-requires-2
+    drive-legal-requires
+    returns)

@@ -1,0 +1,141 @@
+// The PDO identifiers. Each word gets a key: its identifier, counted from the first legal one, where it is a valid word, a number of
+// its PDO's own where it is an invalid one, and the last number where it is illegal. The words are legal where no key is that number and no two are alike.
+use dictionary::read4;
+ghost use mathlib.Core.Path.{_≡_};
+ghost use Prim.Native.Nat.{_+_, _<_, _≤_};
+ghost use lib.ListN.{length};
+ghost use Rattle.rules_dictionary.specs.Numbers.{value, part};
+ghost use Rattle.rules_dictionary.specs.Table.{dictionaryLength};
+ghost use Rattle.rules.specs.Sound.{identifiersLegal};
+ghost use Rattle.legality.specs.Keys.{transmitWay, wordKey, isOther, fourPass, fourDiffer, transmitLegal};
+
+// Where the words stand.
+const RECEIVE_1: usize = 21;
+
+const RECEIVE_2: usize = 27;
+
+const RECEIVE_3: usize = 33;
+
+const RECEIVE_4: usize = 39;
+
+const TRANSMIT_1: usize = 177;
+
+const TRANSMIT_2: usize = 183;
+
+const TRANSMIT_3: usize = 189;
+
+const TRANSMIT_4: usize = 195;
+
+// Bit 30 of a receive PDO's word, and of a transmit PDO's.
+const RECEIVE: u32 = 0;
+
+const TRANSMIT: u32 = 0x4000_0000;
+
+// The key of an illegal word.
+const ILLEGAL: u32 = 0x1000;
+
+// The keys of the four PDOs of a direction.
+struct Keys {
+    a: u32,
+    b: u32,
+    c: u32,
+    d: u32,
+}
+
+// The key of PDO p's word at a place; `way` is its bit 30.
+fn key_at(d: &[u8], place: usize, way: u32, p: u32) -> u32
+    requires { ⌜ (place + 4 ≤ length (now d)) × ((way ≤ transmitWay) × (p < 8)) ⌝ }
+    ensures { λ r. ⌜ r ≡ wordKey way p (value (part place 4 (now (d .entry)))) ⌝ }
+{
+    let word = read4(d, place);
+    let first = way + 0x181;
+    let invalid = way + 0x8000_0000;
+    if (first <= word) & (word <= way + 0x57F) {
+        return word - first;
+    }
+    if (invalid <= word) & (word <= invalid + 0x7FF) {
+        return 0x800 + p;
+    }
+    ILLEGAL
+}
+
+// Whether no two of four keys are alike.
+fn differ(k: Keys) -> bool
+    ensures { λ r. ⌜ r ≡ fourDiffer (k .a) (k .b) (k .c) (k .d) ⌝ }
+{
+    ((k.a != k.b) & ((k.a != k.c) & (k.a != k.d))) & (((k.b != k.c) & (k.b != k.d)) & (k.c != k.d))
+}
+
+// Whether a key is none of four.
+fn none_is(x: u32, k: Keys) -> bool
+    ensures { λ r. ⌜ r ≡ fourPass (isOther x) (k .a) (k .b) (k .c) (k .d) ⌝ }
+{
+    (x != k.a) & ((x != k.b) & ((x != k.c) & (x != k.d)))
+}
+
+// Whether no key of four is one of four others.
+fn apart(k: Keys, others: Keys) -> bool
+    ensures { λ r. ⌜ r ≡ fourPass (λ x. fourPass (isOther x) (others .a) (others .b) (others .c) (others .d)) (k .a) (k .b) (k .c) (k .d) ⌝ }
+{
+    none_is(k.a, others) & (none_is(k.b, others) & (none_is(k.c, others) & none_is(k.d, others)))
+}
+
+// Whether the transmit PDOs' words are legal alone, and no two keys alike, theirs and the receive PDOs'.
+fn transmit_legal(d: &[u8], r: Keys) -> bool
+    requires { ⌜ length (now d) ≡ dictionaryLength ⌝ }
+    ensures { λ x. ⌜ x ≡ transmitLegal (now (d .entry)) (r .a) (r .b) (r .c) (r .d) ⌝ }
+{
+    let fifth = key_at(d, TRANSMIT_1, TRANSMIT, 4);
+    if fifth == ILLEGAL {
+        return false;
+    }
+    let sixth = key_at(d, TRANSMIT_2, TRANSMIT, 5);
+    if sixth == ILLEGAL {
+        return false;
+    }
+    let seventh = key_at(d, TRANSMIT_3, TRANSMIT, 6);
+    if seventh == ILLEGAL {
+        return false;
+    }
+    let eighth = key_at(d, TRANSMIT_4, TRANSMIT, 7);
+    if eighth == ILLEGAL {
+        return false;
+    }
+    let t = Keys {
+        a: fifth,
+        b: sixth,
+        c: seventh,
+        d: eighth,
+    };
+    (differ(r) & differ(t)) & apart(r, t)
+}
+
+// Whether the PDO identifiers are legal.
+pub fn identifiers_legal(d: &[u8]) -> bool
+    requires { ⌜ length (now d) ≡ dictionaryLength ⌝ }
+    ensures { λ r. ⌜ r ≡ identifiersLegal (now (d .entry)) ⌝ }
+{
+    let first = key_at(d, RECEIVE_1, RECEIVE, 0);
+    if first == ILLEGAL {
+        return false;
+    }
+    let second = key_at(d, RECEIVE_2, RECEIVE, 1);
+    if second == ILLEGAL {
+        return false;
+    }
+    let third = key_at(d, RECEIVE_3, RECEIVE, 2);
+    if third == ILLEGAL {
+        return false;
+    }
+    let fourth = key_at(d, RECEIVE_4, RECEIVE, 3);
+    if fourth == ILLEGAL {
+        return false;
+    }
+    let r = Keys {
+        a: first,
+        b: second,
+        c: third,
+        d: fourth,
+    };
+    transmit_legal(d, r)
+}

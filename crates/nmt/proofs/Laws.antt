@@ -1,0 +1,134 @@
+-- Laws of the NMT commands and of time, on plain values: each way through a function against its definition.
+-- Assumes nothing.
+use Prim.Native.Nat.{ℕ, suc, _+_, _-_, _<_, _≤_}
+use native.Mathlib.Omega.{arith}
+use mathlib.Core.Path.{_≡_, refl, sym, _∙_, ap, subst}
+use mathlib.Core.List.{List, [], _∷_, append-nil}
+use mathlib.Core.Bool.{Bool, true, false, cond}
+use native.Mathlib.Numerals.{add-one}
+use borrow.Author.Tests.{ne-eqb, lt-ltb, le-ltb}
+use lib.Dec.{lit≤}
+use Rattle.state.specs.declared.NmtState.{NmtState}
+use Rattle.state.specs.declared.NmtState.the-variants.{PreOperational, Operational, Stopped}
+use Rattle.state.specs.declared.State.{State}
+use Rattle.rules_dictionary.specs.declared.PdoData.{PdoData}
+use Rattle.rules_dictionary.specs.Numbers.{filter, value, part}
+use Rattle.rules_dictionary.specs.Plans.{pdoData}
+use Rattle.rules_dictionary.specs.Table.{table, sizeOf, heartbeatTime}
+use Rattle.rules_dictionary.specs.Values.{read, stored, toDefaults}
+use Rattle.rules_services.specs.Effects.{Effect, frame, becomes, sends, isPreOperational, isOperational, withHeld, withPacing, withNmt, withHeartbeat}
+use Rattle.rules_services.specs.PdoTraffic.{noneHeld}
+use Rattle.rules_services.specs.Nmt.{isReset, left, noCounts, noneDue, voltageDisabled, start, enterPreOperational, resetCommunication, commandOf, commanded, bootUp, heartbeat, heartbeatBase, stateByte, tick}
+use Rattle.rules.specs.Outcome.{ended, paceFor, settled, enters as entersOperational, statusOf}
+use Rattle.dictionary.specs.Communication.{communicationObjects}
+use Rattle.output.specs.Laying.{IsData, frameOf, emitted}
+use Rattle.output.proofs.Laws.{is-data, frame-of-data}
+use Rattle.effects.specs.Leaves.{Did, touches}
+use Rattle.effects.proofs.Laws.{left-as, as-effect}
+use Rattle.nmt.specs.Fresh.{unworked}
+
+-- ---- frames on 700h+N
+
+pub is-byte : (byte : ℕ) (content : PdoData) → content ≡ pdoData (byte ∷ []) → IsData content
+is-byte byte content e = subst IsData (sym e) (is-data (byte ∷ []) (lit≤ tt))
+
+pub byte-frame : (identifier byte : ℕ) (content : PdoData) → content ≡ pdoData (byte ∷ []) → frameOf identifier content ≡ frame identifier (byte ∷ [])
+byte-frame identifier byte content e = ap (frameOf identifier) e ∙ frame-of-data identifier (byte ∷ []) (lit≤ tt)
+
+-- ---- the commands
+
+pub left-is : (s t r : State) (h : List PdoData) → t ≡ withPacing noCounts noneDue s → h ≡ noneHeld → r ≡ withHeld h t → r ≡ left s
+unfolding left
+left-is s t r h e f g = g ∙ ap (λ (x : List PdoData). withHeld x t) f ∙ ap (withHeld noneHeld) e
+
+-- 01h: in Operational already, nothing changes
+operational : (s : State) (m : NmtState) → s .node .nmt ≡ m → becomes (withNmt Operational s) ≡ commanded start s
+unfolding commanded
+operational s PreOperational e = rw e
+operational s Operational e =
+    ap (λ (m : NmtState). becomes (withNmt m s)) (sym e)
+    ∙ ap (λ (b : Bool). cond b (becomes s) (becomes (withNmt Operational s))) (sym (ap isOperational e))
+operational s Stopped e = rw e
+
+module _ (command : ℕ) (s r : State) where
+  pub starts : command ≡ 0x01 → r ≡ withNmt Operational s → becomes r ≡ commanded (commandOf command) s
+  unfolding commandOf
+  starts e h = rw e (ap becomes h ∙ operational s (s .node .nmt) refl)
+
+  pub stops : (v t : State) → command ≡ 0x02 → v ≡ voltageDisabled s → t ≡ left v → r ≡ withNmt Stopped t → becomes r ≡ commanded (commandOf command) s
+  unfolding commandOf commanded
+  stops v t e f g h = rw (e, ← f, ← g) (ap becomes h)
+
+  pub enters : command ≡ 0x80 → becomes r ≡ commanded enterPreOperational s → becomes r ≡ commanded (commandOf command) s
+  unfolding commandOf
+  enters e h = rw e h
+
+pub stays : (command : ℕ) (s : State) → (command ≡ 0x01 → ⊥) → (command ≡ 0x02 → ⊥) → (command ≡ 0x80 → ⊥) → (command ≡ 0x81 → ⊥) →
+    (command ≡ 0x82 → ⊥) → becomes s ≡ commanded (commandOf command) s
+unfolding commandOf commanded
+stays k s a b c d e = simp (ne-eqb k 0x01 a, ne-eqb k 0x02 b, ne-eqb k 0x80 c, ne-eqb k 0x81 d, ne-eqb k 0x82 e)
+
+-- 80h
+pub is-there : (s : State) → isPreOperational (s .node .nmt) ≡ true → becomes s ≡ commanded enterPreOperational s
+unfolding commanded
+is-there s e = rw e
+
+pub goes-there : (s t r : State) → isPreOperational (s .node .nmt) ≡ false → t ≡ left s → r ≡ withNmt PreOperational t → becomes r ≡ commanded enterPreOperational s
+unfolding commanded
+goes-there s t r e f g = rw (e, ← f) (ap becomes g)
+
+-- ---- 82h
+
+-- THE LAW: the objects that 82h sets back
+pub reset-rows : filter isReset table ≡ communicationObjects
+unfolding isReset table communicationObjects
+reset-rows = refl
+
+-- none of them may be mapped
+untouched : (n : ℕ) → touches (toDefaults n (filter isReset table)) ≡ false
+unfolding isReset table
+untouched n = refl
+
+pub resets : (s v t u r : State) (k : ℕ) (d o d′ o′ : List ℕ) → d′ ≡ stored (toDefaults (s .node .id) communicationObjects) d →
+    (k ≡ 1) × (o′ ≡ emitted 0 (bootUp (s .node .id)) o) → v ≡ voltageDisabled s → t ≡ left v → u ≡ withHeartbeat 0 t → r ≡ withNmt PreOperational u →
+    Did (commanded resetCommunication s) 0 d o (record { state = r; frames = k; touched = false; synced = false }) d′ o′
+unfolding commanded
+resets s v t u r k d o d′ o′ w b e f g h =
+    record {
+      state = h ∙ ap (withNmt PreOperational) (g ∙ ap (withHeartbeat 0) (f ∙ ap left e));
+      frames = b .0;
+      touched = rw append-nil (sym (untouched (s .node .id)));
+      synced = refl;
+      dictionary = rw (append-nil, reset-rows) w;
+      output = b .1;
+    }
+
+-- ---- time
+
+module _ (s : State) (d o : List ℕ) (period : ℕ) (is : period ≡ value (part (heartbeatTime .place) (sizeOf heartbeatTime) d)) where
+  pub no-heartbeat : period ≡ 0 → Did (tick s d) 0 d o (record { state = s; frames = 0; touched = false; synced = false }) d o
+  unfolding tick read
+  no-heartbeat z = let q : tick s d ≡ becomes s = rw (← is, z) in as-effect q (left-as s 0 d o)
+
+  pub counts-on : (r : State) → (period ≡ 0 → ⊥) → s .node .heartbeat < period - 1 → r ≡ withHeartbeat (s .node .heartbeat + 1) s →
+      Did (tick s d) 0 d o (record { state = r; frames = 0; touched = false; synced = false }) d o
+  unfolding tick read
+  counts-on r z h e =
+      let q : tick s d ≡ becomes r = rw (← is, ne-eqb period 0 z, lt-ltb (suc (s .node .heartbeat)) period (omega arith), ← add-one) (ap becomes (sym e)) in
+      as-effect q (left-as r 0 d o)
+
+  pub beats : (r : State) (byte k : ℕ) (o′ : List ℕ) → (period ≡ 0 → ⊥) → period - 1 ≤ s .node .heartbeat → byte ≡ stateByte (s .node .nmt) →
+      (k ≡ 1) × (o′ ≡ emitted 0 (frame (heartbeatBase + s .node .id) (byte ∷ []) ∷ []) o) → r ≡ withHeartbeat 0 s →
+      Did (tick s d) 0 d o (record { state = r; frames = k; touched = false; synced = false }) d o′
+  unfolding tick read stored
+  beats r byte k o′ z h b w e =
+      let q : tick s d ≡ sends (heartbeat s) (becomes (withHeartbeat 0 s)) = rw (← is, ne-eqb period 0 z, le-ltb (suc (s .node .heartbeat)) period (omega arith)) in
+      as-effect q (record { state = e; frames = w .0; touched = refl; synced = refl; dictionary = refl; output = rw (← b) (w .1) })
+
+-- ---- power-up
+
+-- THE LAW for callers: plans and ready frames of an effect's state do not count, since they are worked out afresh
+pub unworked-ends : (s : State) (d : List ℕ) (e : Effect) →
+    ended s d e ≡ ended s d (record { state = unworked (e .state); writes = e .writes; sent = e .sent; synced = e .synced })
+unfolding ended paceFor settled entersOperational statusOf
+unworked-ends s d e = refl

@@ -1,0 +1,67 @@
+-- `nmt::heartbeats::tick` meets its contract. Assumes nothing.
+use Rattle.nmt.proofs.Laws.{no-heartbeat, counts-on, beats}
+use borrow.Author.Needs.{needs}
+use Rattle.nmt.proofs.heartbeats.tick.Statement.{statement}
+use Rattle.nmt.proofs.heartbeats.tick.Tie as tie
+
+read2-requires : tie.Need-read2-requires
+read2-requires c κs = search needs
+
+returns : tie.Need-returns
+returns c =
+    let a = c .before .before .before .before .before .args in
+    no-heartbeat (a .s) (a .d .now) (a .output .now) _ (c .before .before .read2 .ensures) (c .if1 .taken)
+
+sub-if2 : tie.Need-sub-if2
+sub-if2 c = search needs
+
+add-with-heartbeat : tie.Need-add-with-heartbeat
+add-with-heartbeat c = search needs
+
+with-heartbeat-requires : tie.Need-with-heartbeat-requires
+with-heartbeat-requires c κs = search needs
+
+returns-2 : tie.Need-returns-2
+returns-2 c =
+    let b = c .before .before in
+    let p = b .before .before in
+    let period = p .before .before in
+    let a = period .before .before .before .args in
+    counts-on (a .s) (a .d .now) (a .output .now) _ (period .read2 .ensures) _ (p .if1 .left) (b .if2 .taken) (c .with-heartbeat .ensures)
+
+state-byte-requires : tie.Need-state-byte-requires
+state-byte-requires c κs = search needs
+
+send-byte-requires : tie.Need-send-byte-requires
+send-byte-requires c κs = search needs
+
+with-heartbeat-requires-2 : tie.Need-with-heartbeat-requires-2
+with-heartbeat-requires-2 c κs = search needs
+
+same-length : tie.Need-same-length
+same-length c = search needs
+
+returns-3 : tie.Need-returns-3
+returns-3 c =
+    let sent = c .before .before .before in
+    let b = sent .before .before .before in
+    let p = b .before .before in
+    let period = p .before .before in
+    let a = period .before .before .before .args in
+    beats (a .s) (a .d .now) (a .output .now) _ (period .read2 .ensures) _ _ _ _ (p .if1 .left) (b .if2 .left) (sent .before .state-byte .ensures) (sent .send-byte .ensures) (c .with-heartbeat2 .ensures)
+
+pub tick-spec : {M : Type 1} → statement M
+tick-spec =
+    tie.close
+    (tie.spec
+    read2-requires
+    returns
+    sub-if2
+    add-with-heartbeat
+    with-heartbeat-requires
+    returns-2
+    state-byte-requires
+    send-byte-requires
+    with-heartbeat-requires-2
+    same-length
+    returns-3)

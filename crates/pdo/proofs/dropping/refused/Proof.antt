@@ -1,0 +1,20 @@
+-- `pdo::dropping::refused` meets its contract. Assumes nothing.
+use Rattle.pdo.proofs.Leaving.{did-send}
+use borrow.Author.Needs.{needs}
+use Rattle.pdo.proofs.dropping.refused.Statement.{statement}
+use Rattle.pdo.proofs.dropping.refused.Tie as tie
+
+emergency-requires : tie.Need-emergency-requires
+emergency-requires c κs = search needs
+
+same-length : tie.Need-same-length
+same-length c = search needs
+
+returns : tie.Need-returns
+returns c =
+    let e = c .before .before in
+    let a = e .before .before .before .before .args in
+    did-send (a .s) (a .n) (e .emergency .result) _ (a .d .now) (a .output .now) _ (e .emergency .ensures)
+
+pub refused-spec : {M : Type 1} → statement M
+refused-spec = tie.close (tie.spec emergency-requires same-length returns)

@@ -1,0 +1,80 @@
+-- `pdo::receiving::hold_or_apply` meets its contract. Assumes nothing.
+use Rattle.effects.proofs.Laws.{as-effect}
+use Rattle.pdo.proofs.Leaving.{left-by}
+use Rattle.pdo.proofs.Frames.{short, held-now, applied-now}
+use native.Mathlib.Omega.{arith}
+use borrow.Author.Needs.{needs}
+use Rattle.pdo.proofs.receiving.hold_or_apply.Statement.{statement}
+use Rattle.pdo.proofs.receiving.hold_or_apply.Tie as tie
+
+mul-read1 : tie.Need-mul-read1
+mul-read1 c = search needs
+
+add-read1 : tie.Need-add-read1
+add-read1 c = search needs
+
+read1-requires : tie.Need-read1-requires
+read1-requires c κs = search needs
+
+cast-leading : tie.Need-cast-leading
+cast-leading c = search needs
+
+leading-requires : tie.Need-leading-requires
+leading-requires c κs =
+    let s = c .before .before .before .before .before .before .before .before .before in
+    short (s .pre .0) (s .pre .1 .0) (s .pre .1 .1 .1)
+
+mul-held : tie.Need-mul-held
+mul-held c = search needs
+
+array-set-from-held : tie.Need-array-set-from-held
+array-set-from-held c = search needs
+
+with-held-requires : tie.Need-with-held-requires
+with-held-requires c κs = search needs
+
+same-length : tie.Need-same-length
+same-length c = search needs
+
+returns : tie.Need-returns
+returns c =
+    let s = c .before .before .before .before .before .before .before .before .before .before .before in
+    let a = s .args in
+    let r = c .before .before .before .before .before .before .read1 in
+    as-effect (held-now (a .p) (a .s) (a .d .now) (a .content) (s .pre .1 .0) (r .result) (r .ensures) (c .before .before .before .before .before .if1 .taken) (c .before .leading .result) (c .before .leading .ensures .0) (omega (arith, c .before .leading .ensures .1, short (s .pre .0) (s .pre .1 .0) (s .pre .1 .1 .1))))
+    (left-by (a .n) (a .d .now) (a .output .now) (c .with-held .ensures))
+
+apply-requires : tie.Need-apply-requires
+apply-requires c κs = search needs
+
+same-length-2 : tie.Need-same-length-2
+same-length-2 c = search needs
+
+same-length-3 : tie.Need-same-length-3
+same-length-3 c = search needs
+
+returns-2 : tie.Need-returns-2
+returns-2 c =
+    let s = c .before .before .before .before .before .before .before .before .before .before .before .before .before in
+    let a = s .args in
+    let r = c .before .before .before .before .before .before .before .before .read1 in
+    as-effect (applied-now (a .p) (a .s) (a .d .now) (a .content) (s .pre .1 .0) (r .result) (r .ensures) (c .before .before .before .before .before .before .before .if1 .left) (s .pre .1 .1 .1)) (c .before .before .before .before .apply .ensures)
+
+pub hold-or-apply-spec : {M : Type 1} → statement M
+hold-or-apply-spec =
+    tie.close
+    (tie.spec
+    mul-read1
+    add-read1
+    read1-requires
+    cast-leading
+    leading-requires
+    mul-held
+    array-set-from-held
+    with-held-requires
+    same-length
+    returns
+    apply-requires
+    same-length-2
+    same-length-3
+    returns-2)

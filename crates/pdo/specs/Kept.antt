@@ -1,0 +1,26 @@
+-- What the services of PDO traffic may rely on: the lent bytes are long enough, and the kept plans of the receive PDOs are fresh.
+-- Laws.antt of proofs/ has it from a lawful state.
+-- Assumes nothing.
+use Prim.Native.Nat.{ℕ, _≤_}
+use mathlib.Core.Path.{_≡_}
+use mathlib.Core.List.{List, []}
+use lib.ListN.{length, getD}
+use Rattle.state.specs.declared.State.{State}
+use Rattle.rules_dictionary.specs.declared.Plan.{Plan}
+use Rattle.rules_dictionary.specs.TheNode.{lastNode}
+use Rattle.rules_dictionary.specs.Table.{dictionaryLength, eachWay, receivePdos}
+use Rattle.rules_dictionary.specs.Plans.{mapped}
+use Rattle.rules_dictionary.proofs.Tests.{In}
+use Rattle.rules.specs.Calls.{outputLength}
+use Rattle.transfer.proofs.Laws.{Receives}
+
+-- the kept plan of a PDO; of none, none
+abbrev pub planAt : State → ℕ → Plan
+planAt s p = getD (s .axis .plans) p (record { count = 0; moves = [] })
+
+pub record Kept (s : State) (d o : List ℕ) : Type 0 where
+  pub long : length d ≡ dictionaryLength
+  pub room : outputLength ≤ length o
+  pub id : s .node .id ≤ lastNode
+  pub held : length (s .axis .held) ≡ eachWay
+  pub plans : (p : ℕ) → In p receivePdos → Receives (planAt s p) (mapped d p)

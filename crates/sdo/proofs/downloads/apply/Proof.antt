@@ -1,0 +1,113 @@
+-- `sdo::downloads::apply` meets its contract. Assumes nothing.
+use native.Mathlib.Omega.{arith}
+use Rattle.sdo.proofs.Answering.{array-bytes}
+use Rattle.sdo.proofs.Testing.{four-at-most}
+use Rattle.sdo.proofs.Asking.{replan-legal, replan-served, act-served, id-fits}
+use borrow.Author.Needs.{needs}
+use Rattle.sdo.proofs.downloads.apply.Statement.{statement}
+use Rattle.sdo.proofs.downloads.apply.Tie as tie
+
+cast-place : tie.Need-cast-place
+cast-place c = search needs
+
+slice-aggregate-read : tie.Need-slice-aggregate-read
+slice-aggregate-read c = search needs
+
+read-requires : tie.Need-read-requires
+read-requires c κs =
+    let s = c .before .before .before .before in
+    (omega (arith, four-at-most (s .args .e .size) (s .pre .1 .0 .sized), s .good .0 .1 .0 .1), s .pre .1 .0 .sized)
+
+read2-requires : tie.Need-read2-requires
+read2-requires c κs = search needs
+
+reply-requires : tie.Need-reply-requires
+reply-requires c κs = search needs
+
+write-requires : tie.Need-write-requires
+write-requires c κs = search needs
+
+mapping-of-requires : tie.Need-mapping-of-requires
+mapping-of-requires c κs = search needs
+
+cast-replan : tie.Need-cast-replan
+cast-replan c = search needs
+
+replan-requires : tie.Need-replan-requires
+replan-requires c κs =
+    let m = c .before .before in
+    let w = m .before .before .before in
+    let y = w .before .before .before .before in
+    let q = y .before .before in
+    let v = q .before .before in
+    let s = v .before .before .before .before .before in
+    let a = s .args in
+    (search needs, (search needs, replan-legal (a .t1) (a .s) (a .d .now) (a .output .now) (s .pre .0) (a .e) (s .pre .1 .0) (array-bytes (a .t1) _ (s .good .0 .1 .1)) (s .pre .1 .1) _ (v .read .ensures) _ _ (w .write .ensures) (y .reply .ensures .1) _ (m .mapping-of .ensures) (c .before .if1 .taken)))
+
+same-length : tie.Need-same-length
+same-length c = search needs
+
+same-length-2 : tie.Need-same-length-2
+same-length-2 c = search needs
+
+returns : tie.Need-returns
+returns c =
+    let m = c .before .before .before in
+    let w = m .before .before .before in
+    let y = w .before .before .before .before in
+    let q = y .before .before in
+    let v = q .before .before in
+    let s = v .before .before .before .before .before in
+    let a = s .args in
+    replan-served (a .t1) (a .s) (a .d .now) (a .output .now) (s .pre .0) (a .e) (s .pre .1 .0) (array-bytes (a .t1) _ (s .good .0 .1 .1)) (s .pre .1 .1) _ (v .read .ensures) _ _ (w .write .ensures) (y .reply .ensures .1) _ (m .mapping-of .ensures) (c .before .before .if1 .taken) _ (c .replan .ensures)
+
+act-requires : tie.Need-act-requires
+act-requires c κs =
+    let m = c .before .before .before in
+    let w = m .before .before .before in
+    let y = w .before .before .before .before in
+    let q = y .before .before in
+    let v = q .before .before in
+    let s = v .before .before .before .before .before in
+    let a = s .args in
+    (search needs, (search needs, id-fits (a .s) (a .d .now) (a .output .now) (s .pre .0)))
+
+same-length-3 : tie.Need-same-length-3
+same-length-3 c = search needs
+
+same-length-4 : tie.Need-same-length-4
+same-length-4 c = search needs
+
+returns-2 : tie.Need-returns-2
+returns-2 c =
+    let k = c .before .before .before .before in
+    let i = k .before .before .before in
+    let m = i .before in
+    let w = m .before .before .before in
+    let y = w .before .before .before .before in
+    let q = y .before .before in
+    let v = q .before .before in
+    let s = v .before .before .before .before .before in
+    let a = s .args in
+    act-served (a .t1) (a .s) (a .d .now) (a .output .now) (s .pre .0) (a .e) (s .pre .1 .0) (array-bytes (a .t1) _ (s .good .0 .1 .1)) (s .pre .1 .1) _ (v .read .ensures) _ _ (w .write .ensures) (y .reply .ensures .1) _ (m .mapping-of .ensures) (i .if1 .left) _ (q .read2 .ensures) _ _ _ (k .act .ensures)
+
+pub apply-spec : {M : Type 1} → statement M
+apply-spec =
+    tie.close
+    (tie.spec
+    cast-place
+    slice-aggregate-read
+    read-requires
+    read2-requires
+    reply-requires
+    write-requires
+    mapping-of-requires
+    cast-replan
+    replan-requires
+    same-length
+    same-length-2
+    returns
+    act-requires
+    same-length-3
+    same-length-4
+    returns-2)

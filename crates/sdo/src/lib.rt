@@ -1,0 +1,18 @@
+// Document 01, 'SDO': the expedited server.
+
+mod places; // where things stand
+mod replies; // replies on 580h+N
+mod tests; // the tests of a download
+mod downloads; // a value written
+mod uploads; // a value read
+mod server; // requests by command, index and subindex
+
+pub use server::serve;
+
+// The commands.
+enum Command {
+    Download,
+    Upload,
+    ClientAbort,
+    Unknown,
+}

@@ -1,0 +1,91 @@
+// Requests of eight bytes: the command, the object, and what is asked of it.
+ghost use mathlib.Core.Path.{_≡_};
+ghost use Rattle.rules_services.specs.Sdo.{commandOf, askedIndex, askedSubindex, sdo};
+ghost use Rattle.dictionary.proofs.Stands.{Stands};
+ghost use Rattle.sdo.specs.Requests.{asCommand, objectAsked};
+ghost use Rattle.sdo.specs.Serving.{Servable, Served};
+use crate::Command;
+use crate::downloads::download;
+use crate::places::COMMAND_PLACE;
+use crate::places::INDEX_PLACE;
+use crate::places::SUBINDEX_PLACE;
+use crate::replies::ABORTED;
+use crate::replies::answer;
+use crate::uploads::upload;
+use dictionary::Entry;
+use dictionary::Found;
+use dictionary::find;
+use dictionary::read2;
+use effects::Done;
+use state::State;
+use verdicts::aborts::NO_OBJECT;
+use verdicts::aborts::NO_SUBINDEX;
+use verdicts::aborts::UNKNOWN_COMMAND;
+
+// "Command bits 7-5: 1 download, 2 upload, 4 client abort (no reply) .. Download: bit 1 must be 1".
+fn command_of(command: u8) -> Command
+    ensures { λ r. ⌜ r ≡ asCommand (commandOf command) ⌝ }
+{
+    match command / 32 % 8 {
+        1 => {
+            if command / 2 % 2 == 1 {
+                Command::Download
+            } else {
+                Command::Unknown
+            }
+        }
+        2 => Command::Upload,
+        4 => Command::ClientAbort,
+        _ => Command::Unknown,
+    }
+}
+
+// An entry that was found, written or read.
+fn to_entry(
+    writing: bool,
+    request: [u8; 8],
+    e: Entry,
+    s: State,
+    d: &mut [u8],
+    output: &mut [u8],
+) -> Done
+    requires { ⌜ Servable s (now d) (now output) × Stands (askedIndex request) (askedSubindex request) e ⌝ }
+    ensures { λ r. ⌜ Served (objectAsked writing request s (now (d .entry))) (now (d .entry)) (now (output .entry)) r (now (d .exit)) (now (output .exit)) ⌝ }
+{
+    if writing {
+        return download(request, e, s, d, output);
+    }
+    upload(request, e, s, d, output)
+}
+
+// The object of a request, written or read.
+fn to_object(writing: bool, request: [u8; 8], s: State, d: &mut [u8], output: &mut [u8]) -> Done
+    requires { ⌜ Servable s (now d) (now output) ⌝ }
+    ensures { λ r. ⌜ Served (objectAsked writing request s (now (d .entry))) (now (d .entry)) (now (output .entry)) r (now (d .exit)) (now (output .exit)) ⌝ }
+{
+    let found = find(read2(&request, INDEX_PLACE), request[SUBINDEX_PLACE]);
+    match found {
+        Found::Entry(e) => to_entry(writing, request, e, s, d, output),
+        Found::NoObject => answer(ABORTED, NO_OBJECT, request, s, output),
+        Found::NoSubindex => answer(ABORTED, NO_SUBINDEX, request, s, output),
+    }
+}
+
+// One request of eight bytes, served.
+pub fn serve(request: [u8; 8], s: State, d: &mut [u8], output: &mut [u8]) -> Done
+    requires { ⌜ Servable s (now d) (now output) ⌝ }
+    ensures { λ r. ⌜ Served (sdo request s (now (d .entry))) (now (d .entry)) (now (output .entry)) r (now (d .exit)) (now (output .exit)) ⌝ }
+{
+    let command = command_of(request[COMMAND_PLACE]);
+    match command {
+        Command::Download => to_object(true, request, s, d, output),
+        Command::Upload => to_object(false, request, s, d, output),
+        Command::ClientAbort => Done {
+            state: s,
+            frames: 0,
+            touched: false,
+            synced: false,
+        },
+        Command::Unknown => answer(ABORTED, UNKNOWN_COMMAND, request, s, output),
+    }
+}

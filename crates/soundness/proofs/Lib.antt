@@ -1,0 +1,6 @@
+pub mod Counting
+pub mod Pairs
+pub mod Laws
+pub mod Holding
+pub mod Pending
+pub mod Parts

@@ -1,0 +1,60 @@
+-- `soundness::is_sound` meets its contract. Assumes nothing.
+use mathlib.Core.Path.{sym, _∙_}
+use borrow.Author.Tests.{not-true, not-false}
+use Rattle.soundness.proofs.Parts.{sound-parts}
+use borrow.Author.Needs.{needs}
+use Rattle.soundness.proofs.is_sound.Statement.{statement}
+use Rattle.soundness.proofs.is_sound.Tie as tie
+
+is-node-id-requires : tie.Need-is-node-id-requires
+is-node-id-requires c κs = search needs
+
+returns : tie.Need-returns
+returns c =
+    let a = c .before .before .before .before .args in
+    sym (sound-parts (a .s) (a .d .now) ∙ rw (sym (c .before .is-node-id .ensures) ∙ not-true _ (c .if1 .taken)))
+
+dictionary-legal-requires : tie.Need-dictionary-legal-requires
+dictionary-legal-requires c κs = search needs
+
+returns-2 : tie.Need-returns-2
+returns-2 c =
+    let i = c .before .before in
+    let a = i .before .before .before .before .args in
+    sym (sound-parts (a .s) (a .d .now) ∙ rw (sym (i .before .is-node-id .ensures) ∙ not-false _ (i .if1 .left), sym (c .before .dictionary-legal .ensures) ∙ not-true _ (c .if2 .taken)))
+
+is-drive-clear-requires : tie.Need-is-drive-clear-requires
+is-drive-clear-requires c κs = search needs
+
+returns-3 : tie.Need-returns-3
+returns-3 c =
+    let l = c .before .before in
+    let i = l .before .before in
+    let a = i .before .before .before .before .args in
+    sym (sound-parts (a .s) (a .d .now)
+    ∙ rw (sym (i .before .is-node-id .ensures) ∙ not-false _ (i .if1 .left), sym (l .before .dictionary-legal .ensures) ∙ not-false _ (l .if2 .left), sym (c .before .is-drive-clear .ensures) ∙ not-true _ (c .if3 .taken)))
+
+are-pdos-clear-requires : tie.Need-are-pdos-clear-requires
+are-pdos-clear-requires c κs = search needs
+
+returns-4 : tie.Need-returns-4
+returns-4 c =
+    let v = c .before in
+    let l = v .before .before in
+    let i = l .before .before in
+    let a = i .before .before .before .before .args in
+    sym (sound-parts (a .s) (a .d .now)
+    ∙ rw (sym (i .before .is-node-id .ensures) ∙ not-false _ (i .if1 .left), sym (l .before .dictionary-legal .ensures) ∙ not-false _ (l .if2 .left), sym (v .before .is-drive-clear .ensures) ∙ not-false _ (v .if3 .left), ← c .are-pdos-clear .ensures))
+
+pub is-sound-spec : {M : Type 1} → statement M
+is-sound-spec =
+    tie.close
+    (tie.spec
+    is-node-id-requires
+    returns
+    dictionary-legal-requires
+    returns-2
+    is-drive-clear-requires
+    returns-3
+    are-pdos-clear-requires
+    returns-4)

@@ -1,0 +1,48 @@
+-- `soundness::pdos::works` meets its contract. Assumes nothing.
+use mathlib.Core.Path.{sym, _∙_}
+use borrow.Author.Tests.{not-true, not-false}
+use Rattle.rules_dictionary.specs.Values.{read}
+use Rattle.rules_services.specs.PdoTraffic.{works}
+use borrow.Author.Needs.{needs}
+use Rattle.soundness.proofs.pdos.works.Statement.{statement}
+use Rattle.soundness.proofs.pdos.works.Tie as tie
+
+is-operational-requires : tie.Need-is-operational-requires
+is-operational-requires c κs = search needs
+
+returns : tie.Need-returns
+unfolding works
+returns c = rw (sym (c .before .is-operational .ensures) ∙ not-true _ (c .if1 .taken))
+
+is-valid-requires : tie.Need-is-valid-requires
+is-valid-requires c κs = search needs
+
+returns-2 : tie.Need-returns-2
+unfolding works
+returns-2 c =
+    let b = c .before .before in
+    rw (sym (b .before .is-operational .ensures) ∙ not-false _ (b .if1 .left), sym (c .before .is-valid .ensures) ∙ not-true _ (c .if2 .taken))
+
+mapping-place-requires : tie.Need-mapping-place-requires
+mapping-place-requires c κs = search needs
+
+read1-requires : tie.Need-read1-requires
+read1-requires c κs = search needs
+
+returns-3 : tie.Need-returns-3
+unfolding works read
+returns-3 c =
+    let b = c .before .before .before .before in
+    rw (sym (b .before .is-operational .ensures) ∙ not-false _ (b .if1 .left), sym (c .before .before .before .is-valid .ensures) ∙ not-false _ (c .before .before .if2 .left), c .read1 .ensures, c .before .mapping-place .ensures .0)
+
+pub works-spec : {M : Type 1} → statement M
+works-spec =
+    tie.close
+    (tie.spec
+    is-operational-requires
+    returns
+    is-valid-requires
+    returns-2
+    mapping-place-requires
+    read1-requires
+    returns-3)

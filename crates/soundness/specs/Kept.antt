@@ -1,0 +1,29 @@
+-- What is kept of a PDO's mapping, beside the mapping: its plan and its ready frame.
+-- Assumes nothing.
+use Prim.Native.Nat.{ℕ}
+use mathlib.Core.List.{List}
+use mathlib.Core.Bool.{Bool, _&&_}
+use lib.Dec.{leb}
+use Rattle.rules_dictionary.specs.declared.Plan.{Plan}
+use Rattle.rules_dictionary.specs.declared.PdoData.{PdoData}
+use Rattle.rules_dictionary.specs.Table.{mapCount, mostMoves, pdos, transmitPdos}
+use Rattle.rules_dictionary.specs.Values.{read}
+use Rattle.rules_dictionary.specs.Plans.{mapped, planFor, readyFor}
+use Rattle.rules.specs.Outcome.{samePlan, sameData}
+use Rattle.rules.specs.Sound.{mappingLegal, pairwise}
+
+-- a PDO's mapping is legal, its count in range, and the kept plan the one that it gives
+abbrev pub planKept : List ℕ → ℕ → Plan → Bool
+planKept d p plan = leb (read d (mapCount p)) mostMoves && (mappingLegal d p && samePlan plan (planFor (mapped d p)))
+
+-- so of all eight
+unfoldable pub plansKept : List ℕ → List Plan → Bool
+plansKept d plans = pairwise (planKept d) pdos plans
+
+-- the kept ready frame is the one that the mapping gives
+abbrev pub frameKept : List ℕ → ℕ → PdoData → Bool
+frameKept d p f = sameData f (readyFor d p)
+
+-- so of all four transmit PDOs
+unfoldable pub readyKept : List ℕ → List PdoData → Bool
+readyKept d ready = pairwise (frameKept d) transmitPdos ready

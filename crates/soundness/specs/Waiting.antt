@@ -1,0 +1,21 @@
+-- What waits for SYNC, apart from the state that keeps it; and the bytes of a held frame behind those that its PDO maps.
+-- Assumes nothing.
+use Prim.Native.Nat.{ℕ}
+use mathlib.Core.List.{List}
+use mathlib.Core.Bool.{Bool, _&&_}
+use lib.Dec.{eqb}
+use lib.ListN.{drop}
+use Rattle.state.specs.declared.NmtState.{NmtState}
+use Rattle.rules_dictionary.specs.declared.PdoData.{PdoData}
+use Rattle.rules_dictionary.specs.Numbers.{all}
+use Rattle.rules_dictionary.specs.Table.{receivePdos, transmitPdos}
+use Rattle.rules.specs.Sound.{pairwise, countSound, dueSound, heldSound}
+
+-- counts, due marks and held frames are sound
+unfoldable pub waitSound : NmtState → List ℕ → List ℕ → List Bool → List PdoData → Bool
+waitSound m d counts due held =
+    pairwise (countSound m d) transmitPdos counts && pairwise (dueSound m d) transmitPdos due && pairwise (heldSound m d) receivePdos held
+
+-- every byte from that place on is zero
+abbrev pub zeroFrom : ℕ → List ℕ → Bool
+zeroFrom n bs = all (λ b. eqb b 0) (drop n bs)

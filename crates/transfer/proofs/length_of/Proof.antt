@@ -1,0 +1,71 @@
+-- `transfer::length_of` meets its contract: what is counted and what is left are all the bytes. Assumes nothing.
+use Prim.Native.Nat.{_+_, _-_}
+use native.Mathlib.Omega.{arith}
+use mathlib.Core.Path.{_≡_, refl}
+use borrow.Author.Needs.{needs}
+use lib.ListN.{take}
+use Rattle.plans.specs.Moves.{MovesFit}
+use Rattle.transfer.specs.Transfer.{sizes}
+use Rattle.transfer.proofs.Steps.{left, size-step, none-left}
+use Rattle.transfer.proofs.length_of.Statement.{statement}
+use Rattle.transfer.proofs.length_of.Tie as tie
+
+abbrev Inv-loop : tie.InvT-loop
+Inv-loop moves count total₀ k₀ total k =
+    MovesFit moves count × (total + sizes (left moves count k) ≡ sizes (take count moves))
+
+abbrev μ-loop : tie.MeasureT-loop
+μ-loop moves count total₀ k₀ total k = count - k
+
+cast-count : tie.Need-cast-count Inv-loop μ-loop
+cast-count c = search needs
+
+loop-holds : tie.Need-loop-holds Inv-loop μ-loop
+loop-holds c = search needs
+
+mul-total : tie.Need-mul-total Inv-loop μ-loop
+mul-total c = search needs
+
+element-copy-out-total : tie.Need-element-copy-out-total Inv-loop μ-loop
+element-copy-out-total c = search needs
+
+add-total : tie.Need-add-total Inv-loop μ-loop
+add-total c =
+    let l = c .before .loop in
+    let a = c .before .before .before .before .args .plan in
+    omega (arith, size-step (a .moves) (a .count) (l .k) (l .inv .0) (c .loop-test .taken), l .inv .0 .room)
+
+add-k : tie.Need-add-k Inv-loop μ-loop
+add-k c = search needs
+
+loop-less : tie.Need-loop-less Inv-loop μ-loop
+loop-less c = search needs
+
+loop-again : tie.Need-loop-again Inv-loop μ-loop
+loop-again c =
+    let l = c .before .loop in
+    let a = c .before .before .before .before .args .plan in
+    (l .inv .0, omega (arith, size-step (a .moves) (a .count) (l .k) (l .inv .0) (c .loop-test .taken)))
+
+returns : tie.Need-returns Inv-loop μ-loop
+returns c =
+    let l = c .before .loop in
+    let a = c .before .before .before .before .args .plan in
+    let e : sizes (left (a .moves) (a .count) (l .k)) ≡ 0 = rw (none-left (a .moves) (a .count) (l .k) (omega arith)) refl in
+    omega arith
+
+pub length-of-spec : {M : Type 1} → statement M
+length-of-spec =
+    tie.close
+    (tie.spec
+    Inv-loop
+    μ-loop
+    cast-count
+    loop-holds
+    mul-total
+    element-copy-out-total
+    add-total
+    add-k
+    loop-less
+    loop-again
+    returns)

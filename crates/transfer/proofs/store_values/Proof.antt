@@ -1,0 +1,115 @@
+-- `transfer::store_values` meets its contract: storing what is left is storing all. Assumes nothing.
+use Prim.Native.Nat.{_+_, _-_, _≤_}
+use native.Mathlib.Omega.{arith}
+use mathlib.Core.Path.{_≡_, sym, _∙_}
+use borrow.Author.Needs.{needs}
+use lib.ListN.{length, take, drop}
+use lib.Seq.{length-sets}
+use Rattle.rules_dictionary.specs.Table.{dictionaryLength}
+use Rattle.plans.specs.Moves.{MovesFit}
+use Rattle.transfer.specs.Transfer.{sizes, storedMoves}
+use Rattle.transfer.proofs.Steps.{left, fits, size-step, store-step, none-stored}
+use Rattle.transfer.proofs.store_values.Statement.{statement}
+use Rattle.transfer.proofs.store_values.Tie as tie
+
+abbrev Inv-loop : tie.InvT-loop
+Inv-loop d₀ content moves count at₀ k₀ d at k =
+    (MovesFit moves count × (length d ≡ dictionaryLength))
+    × ((at + sizes (left moves count k) ≤ 8)
+    × (storedMoves (left moves count k) (drop at content) d ≡ storedMoves (take count moves) content d₀))
+
+abbrev μ-loop : tie.MeasureT-loop
+μ-loop d₀ content moves count at₀ k₀ d at k = count - k
+
+cast-count : tie.Need-cast-count Inv-loop μ-loop
+cast-count c = search needs
+
+loop-holds : tie.Need-loop-holds Inv-loop μ-loop
+loop-holds c = search needs
+
+mul-m : tie.Need-mul-m Inv-loop μ-loop
+mul-m c = search needs
+
+array-copy-out-m : tie.Need-array-copy-out-m Inv-loop μ-loop
+array-copy-out-m c = search needs
+
+cast-write : tie.Need-cast-write Inv-loop μ-loop
+cast-write c = search needs
+
+slice-aggregate-read : tie.Need-slice-aggregate-read Inv-loop μ-loop
+slice-aggregate-read c = sym (c .before .before .before .before .before .before .before .before .before .good .1 .1 .0 .1 .0 .1)
+
+read-requires : tie.Need-read-requires Inv-loop μ-loop
+read-requires c κs =
+    let i = c .before .before .before .before .before in
+    let l = i .loop in
+    let s = i .before .before .before .before in
+    let h = c .before .before .before .before .loop-test .taken in
+    let z = size-step (s .args .plan .moves) (s .args .plan .count) (l .k) (l .inv .0 .0) h in
+    (omega (arith, z, s .good .1 .1 .0 .1 .0 .1), fits (s .args .plan .moves) (s .args .plan .count) (l .k) (l .inv .0 .0) h .size)
+
+write-requires : tie.Need-write-requires Inv-loop μ-loop
+write-requires c κs =
+    let i = c .before .before .before .before .before .before in
+    let l = i .loop in
+    let s = i .before .before .before .before in
+    let f = fits (s .args .plan .moves) (s .args .plan .count) (l .k) (l .inv .0 .0) (c .before .before .before .before .before .loop-test .taken) in
+    (rw (l .inv .0 .1) (f .inside), f .size)
+
+cast-at : tie.Need-cast-at Inv-loop μ-loop
+cast-at c = search needs
+
+add-at : tie.Need-add-at Inv-loop μ-loop
+add-at c = search needs
+
+add-k : tie.Need-add-k Inv-loop μ-loop
+add-k c = search needs
+
+loop-less : tie.Need-loop-less Inv-loop μ-loop
+loop-less c = search needs
+
+loop-again : tie.Need-loop-again Inv-loop μ-loop
+loop-again c =
+    let i = c .before .before .before .before .before .before .before .before .before .before in
+    let l = i .loop in
+    let s = i .before .before .before .before in
+    let h = c .before .before .before .before .before .before .before .before .before .loop-test .taken in
+    let e = store-step (s .args .plan .moves) (s .args .plan .count) (l .k) (l .inv .0 .0) h (l .at) (s .args .t3) (l .d) in
+    let w = c .before .before .before .write .ensures in (
+      (l .inv .0 .0, rw (w, length-sets) (l .inv .0 .1)),
+      (
+        omega (arith, size-step (s .args .plan .moves) (s .args .plan .count) (l .k) (l .inv .0 .0) h),
+        rw (w, c .before .before .before .before .read .ensures) (sym e ∙ l .inv .1 .1),
+      ),
+    )
+
+same-length : tie.Need-same-length Inv-loop μ-loop
+same-length c = search needs
+
+returns : tie.Need-returns Inv-loop μ-loop
+returns c =
+    let l = c .before .loop in
+    let s = c .before .before .before .before .before in
+    sym (none-stored (s .args .plan .moves) (s .args .plan .count) (l .k) (l .at) (s .args .t3) (l .d) (omega arith)) ∙ l .inv .1 .1
+
+pub store-values-spec : {M : Type 1} → statement M
+store-values-spec =
+    tie.close
+    (tie.spec
+    Inv-loop
+    μ-loop
+    cast-count
+    loop-holds
+    mul-m
+    array-copy-out-m
+    cast-write
+    slice-aggregate-read
+    read-requires
+    write-requires
+    cast-at
+    add-at
+    add-k
+    loop-less
+    loop-again
+    same-length
+    returns)
