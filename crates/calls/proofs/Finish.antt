@@ -33,7 +33,7 @@ whole-output o fs gs =
     ap (λ (n : ℕ). emitted n gs (emitted 0 fs o)) k ∙ emitted-then 0 fs gs o (omega arith) ∙ emitted-all (fs ++ gs) o
 
 -- at most two frames come before the transmit PDOs
-few-spoken : (n : ℕ) (e : Effect) → SpeaksAs n e → length (e .sent) ≤ mostBefore
+pub few-spoken : (n : ℕ) (e : Effect) → SpeaksAs n e → length (e .sent) ≤ mostBefore
 few-spoken n e w = subst (λ (l : List Frame). length l ≤ mostBefore) (sym (w .1 .whole)) (rw (length-append, length-append) (w .1 .few))
 
 -- another name for the effect
@@ -54,16 +54,18 @@ module _ (s : State) (d o : List ℕ) (e : Effect) (r : Done) (d′ o′ : List 
   answers keeps a d″ o″ h =
       let was = isOperational (s .node .nmt) in
       let same : finished was (r .synced) (r .state) d′ ≡ finished was (e .synced) (e .state) (stored (e .writes) d) =
-            rw (left .state, left .synced, left .dictionary) (finished-replanned was (e .synced) (plansOf (stored (e .writes) d)) (e .state) (stored (e .writes) d)) in
+      rw (left .state, left .synced, left .dictionary) (finished-replanned was (e .synced) (plansOf (stored (e .writes) d)) (e .state) (stored (e .writes) d)) in
       let f = finished was (e .synced) (e .state) (stored (e .writes) d) in
       rw (ended-finished s d e keeps, h .answer, h .dictionary, h .output, same, left .frames, left .output, whole-output o (e .sent) (f .sent), length-append)
 
-  pub finishes : LawfulAfter d e → SpeaksAs (s .node .id) e → e .state .axis .ready ≡ s .axis .ready → s .axis .ready ≡ readyOf d → Finishes e s d o r d′ o′
-  finishes law spoken keeps fresh =
+  pub finishes : LawfulAfter d e → length (e .sent) ≤ mostBefore → e .state .axis .ready ≡ s .axis .ready → s .axis .ready ≡ readyOf d → Finishes e s d o r d′ o′
+  finishes law few keeps fresh =
       record {
-        may = may-end law;
-        few = subst (λ (k : ℕ). k ≤ mostBefore) (sym (left .frames)) (few-spoken (s .node .id) e spoken);
-        ready = λ quiet. ap (λ (t : State). t .axis .ready) (left .state) ∙ keeps ∙ fresh ∙ sym (left .ready quiet);
+        ends = record {
+          may = may-end law;
+          few = subst (λ (k : ℕ). k ≤ mostBefore) (sym (left .frames)) few;
+          ready = λ quiet. ap (λ (t : State). t .axis .ready) (left .state) ∙ keeps ∙ fresh ∙ sym (left .ready quiet);
+        };
         answers = answers keeps;
       }
 
@@ -76,7 +78,7 @@ module _ (d o : List ℕ) (e : Effect) (fs : List PdoData) (d′ o′ : List ℕ
   anew n count t is s a d″ o″ h =
       let was = isOperational (s .node .nmt) in
       let same : finished was false t d′ ≡ finished was false (e .state) (stored (e .writes) d) =
-            ap (λ (x : State). finished was false x d′) is ∙ finished-anew was was false false (plansOf d′) fs (e .state) d′ idle ∙ ap (finished was false (e .state)) written in
+      ap (λ (x : State). finished was false x d′) is ∙ finished-anew was was false false (plansOf d′) fs (e .state) d′ idle ∙ ap (finished was false (e .state)) written in
       let f = finished was false (e .state) (stored (e .writes) d) in
       rw (ended-idle was false s d e idle, h .answer, h .dictionary, h .output, same, count, out, whole-output o (e .sent) (f .sent), length-append)
 
@@ -85,8 +87,10 @@ module _ (d o : List ℕ) (e : Effect) (fs : List PdoData) (d′ o′ : List ℕ
   starts-anew n count few t is law s =
       let l : Lawful (e .state) d′ = subst (Lawful (e .state)) (sym written) law in
       record {
-        may = subst (λ (x : State). MayEnd x d′) (sym is) (record { long = l .long; dictionary = l .dictionary; counts = l .counts; plans = refl });
-        few = subst (λ (k : ℕ). k ≤ mostBefore) (sym count) few;
-        ready = λ quiet. clash true refl quiet;
+        ends = record {
+          may = subst (λ (x : State). MayEnd x d′) (sym is) (record { long = l .long; dictionary = l .dictionary; counts = l .counts; plans = refl });
+          few = subst (λ (k : ℕ). k ≤ mostBefore) (sym count) few;
+          ready = λ quiet. clash true refl quiet;
+        };
         answers = anew n count t is s;
       }

@@ -3,4 +3,8 @@ pub mod Stays
 pub mod Finish
 pub mod Refusals
 pub mod Commanding
+pub mod Anew
 pub mod Starting
+pub mod Telling
+pub mod Traces
+pub mod Unique

@@ -6,7 +6,7 @@ use mathlib.Core.Path.{_≡_, refl, sym, _∙_, ap, subst}
 use mathlib.Core.Bool.{Bool, true, false, cond, _&&_, _||_, and-false}
 use mathlib.Core.List.{List, [], _∷_}
 use borrow.Author.Tests.{leb-true, eq-eqb, ne-eqb}
-use lib.Dec.{eqb, leb}
+use lib.Dec.{eqb, leb, lit≤}
 use lib.ListN.{length, take}
 use lib.Seq.{take-all}
 use Rattle.rules_dictionary.specs.declared.PdoData.{PdoData}
@@ -20,12 +20,12 @@ use Rattle.rules_dictionary.proofs.Tests.{In, and-left, and-right}
 use Rattle.rules_services.specs.Effects.{Effect, becomes, isStopped}
 use Rattle.rules_services.specs.Sdo.{sdo, requestBase, requestLength}
 use Rattle.rules_services.specs.PdoTraffic.{sync, syncBase, receivedBy}
-use Rattle.rules_services.specs.Nmt.{nmt, nmtIdentifier}
+use Rattle.rules_services.specs.Nmt.{nmt, nmtIdentifier, commandOf, commanded, resetCommunication, left, voltageDisabled}
 use Rattle.rules.specs.Outcome.{mostData}
 use Rattle.rules.specs.Calls.{framed}
 use Rattle.theorems.proofs.Booleans.{clash, or-false-left, or-false-right, any-false-in}
 use Rattle.theorems.proofs.Lawful.{Lawful, clauses, sound-lawful}
-use Rattle.theorems.proofs.NmtKept.{LawfulAfter}
+use Rattle.theorems.proofs.NmtKept.{LawfulAfter, command-lawful}
 use Rattle.theorems.proofs.Runs.{framed-lawful}
 use Rattle.theorems.proofs.SentBy.{SpeaksAs, framed-speaks}
 use Rattle.theorems.proofs.Writes.{InTable}
@@ -42,11 +42,12 @@ use Rattle.sdo.proofs.Downloading.{other-role}
 use Rattle.pdo.specs.Kept.{Kept}
 use Rattle.pdo.specs.Traffic.{syncOf}
 use Rattle.pdo.proofs.Laws.{lawful-kept, sync-by-length}
-use Rattle.calls.specs.Leaving.{replanned, Leaves, Finishes, Stands, OnBus, dataOf, requested, serviced, unchanged}
-use Rattle.calls.proofs.Services.{Keeps, QuietWrites, sync-keeps, received-by-keeps, sdo-keeps, sdo-in-table, sdo-unsynced, sync-quiet, received-by-quiet}
+use Rattle.calls.specs.Leaving.{replanned, mostBefore, MapsLegally, Leaves, Finishes, StartsAnew, Stands, OnBus, dataOf, requested, serviced, unchanged}
+use Rattle.calls.proofs.Services.{Keeps, SameKept, QuietWrites, sync-keeps, received-by-keeps, sdo-keeps, sdo-in-table, sdo-unsynced, sync-quiet, received-by-quiet}
 use Rattle.calls.proofs.Stays.{ready-stays, quiet-leaves}
-use Rattle.calls.proofs.Finish.{as-finished, finishes}
-use Rattle.calls.proofs.Commanding.{changed-leaves}
+use Rattle.calls.proofs.Finish.{few-spoken, as-finished, finishes}
+use Rattle.calls.proofs.Anew.{maps-legally}
+use Rattle.calls.proofs.Commanding.{command-same, changed-leaves, renewed-leaves}
 
 -- ---- of a sound state and dictionary
 
@@ -75,7 +76,7 @@ module _ {s : State} {d o : List ℕ} (h : Stands s d o) where
 -- ---- a frame, by its identifier
 
 module _ (bs : List ℕ) (s : State) (d : List ℕ) where
-  framed-nmt : framed nmtIdentifier bs s d ≡ nmt bs s
+  pub framed-nmt : framed nmtIdentifier bs s d ≡ nmt bs s
   unfolding framed
   framed-nmt = refl
 
@@ -87,7 +88,7 @@ module _ (bs : List ℕ) (s : State) (d : List ℕ) where
   unfolding framed
   framed-serviced i n = rw (ne-eqb i nmtIdentifier n)
 
-  serviced-request : (i : ℕ) → (i ≡ syncBase → ⊥) → i ≡ requestBase + s .node .id → serviced i bs s d ≡ requested bs s d
+  pub serviced-request : (i : ℕ) → (i ≡ syncBase → ⊥) → i ≡ requestBase + s .node .id → serviced i bs s d ≡ requested bs s d
   serviced-request i n e = rw (ne-eqb i syncBase n, eq-eqb i (requestBase + s .node .id) e)
 
   serviced-received : (i : ℕ) → (i ≡ syncBase → ⊥) → (i ≡ requestBase + s .node .id → ⊥) → serviced i bs s d ≡ receivedBy receivePdos i bs s d
@@ -99,22 +100,64 @@ module _ (bs : List ℕ) (s : State) (d : List ℕ) where
   framed-request : framed (requestBase + s .node .id) bs s d ≡ requested bs s d
   framed-request = sym request-identifier ∙ serviced-request (requestBase + s .node .id) (λ e. omega (arith, e)) refl
 
+-- ---- what only changes the state, and the NMT commands
+
+module _ {s : State} {d o : List ℕ} (h : Stands s d o) where
+  -- the state changed and no more, or not even that
+  pub state-finishes : (t : State) → SameKept s t → Lawful t d → Finishes (becomes t) s d o (unchanged t) d o
+  unfolding stored
+  state-finishes t same law =
+      finishes s d o (becomes t) (unchanged t) d o (changed-leaves s t d o same (plans-kept h)) law (lit≤ tt) (same .1) (ready-kept h)
+
+  pub idle-finishes : Finishes (becomes s) s d o (unchanged s) d o
+  idle-finishes = state-finishes s (refl, refl) (lawful h)
+
+  -- ---- NMT commands
+
+  pub command-finishes : (c : ℕ) (t : State) → becomes t ≡ commanded (commandOf c) s → Finishes (commanded (commandOf c) s) s d o (unchanged t) d o
+  unfolding stored
+  command-finishes c t e =
+      as-finished (sym e) (state-finishes t (command-same (commandOf c) s t e) (subst (LawfulAfter d) (sym e) (command-lawful (commandOf c) s d (h .long) (h .sound))))
+
+  -- 81h
+  pub restarts : (c : ℕ) → c ≡ 0x81 → (r : Done) (d′ o′ : List ℕ) → StartsAnew (s .node .id) d o r d′ o′ → Finishes (commanded (commandOf c) s) s d o r d′ o′
+  unfolding commandOf commanded
+  restarts c e r d′ o′ anew = rw e (anew s)
+
+  -- 82h
+  reset-lawful : LawfulAfter d (commanded resetCommunication s)
+  reset-lawful = command-lawful resetCommunication s d (h .long) (h .sound)
+
+  pub reset-maps : (r : Done) (d′ o′ : List ℕ) → Did (commanded resetCommunication s) 0 d o r d′ o′ → MapsLegally d′
+  reset-maps r d′ o′ did = subst MapsLegally (sym (did .dictionary)) (maps-legally (reset-lawful .dictionary))
+
+  pub reset-finishes : (r : Done) (t : State) (d′ o′ : List ℕ) → Did (commanded resetCommunication s) 0 d o r d′ o′ → t ≡ replanned (plansOf d′) (r .state) →
+      Finishes (commanded resetCommunication s) s d o (record { state = t; frames = r .frames; touched = true; synced = false }) d′ o′
+  unfolding commanded left voltageDisabled
+  reset-finishes r t d′ o′ did is =
+      finishes s d o (commanded resetCommunication s) (record { state = t; frames = r .frames; touched = true; synced = false }) d′ o′
+      (renewed-leaves (commanded resetCommunication s) d o r t d′ o′ did refl is) reset-lawful (lit≤ tt) refl (ready-kept h)
+
+  pub resets : (c : ℕ) → c ≡ 0x82 → (r : Done) (d′ o′ : List ℕ) → Finishes (commanded resetCommunication s) s d o r d′ o′ → Finishes (commanded (commandOf c) s) s d o r d′ o′
+  unfolding commandOf
+  resets c e r d′ o′ f = rw e f
+
 -- ---- what is left of each service, and its way to the call's end
 
 module _ {s : State} {d o : List ℕ} (h : Stands s d o) (b : areBytes d ≡ true) where
-  -- of any frame: lawful, and spoken in order
+  -- of any frame: lawful, with few frames
   frame-lawful : (i : ℕ) (bs : List ℕ) (e : Effect) → areBytes bs ≡ true → framed i bs s d ≡ e → LawfulAfter d e
   frame-lawful i bs e bytes q = subst (LawfulAfter d) q (framed-lawful i bs s d (h .long) (h .sound) bytes)
 
-  frame-spoken : (i : ℕ) (bs : List ℕ) (e : Effect) → areBytes bs ≡ true → framed i bs s d ≡ e → SpeaksAs (s .node .id) e
-  frame-spoken i bs e bytes q = subst (SpeaksAs (s .node .id)) q (framed-speaks i bs s d b (h .long) bytes)
+  frame-few : (i : ℕ) (bs : List ℕ) (e : Effect) → areBytes bs ≡ true → framed i bs s d ≡ e → length (e .sent) ≤ mostBefore
+  frame-few i bs e bytes q = few-spoken (s .node .id) e (subst (SpeaksAs (s .node .id)) q (framed-speaks i bs s d b (h .long) bytes))
 
   -- a service that writes no row of a PDO
   quiet-finishes : (i : ℕ) (bs : List ℕ) (e : Effect) (r : Done) (d′ o′ : List ℕ) → areBytes bs ≡ true → framed i bs s d ≡ e → QuietWrites e → Keeps s e →
       Did e 0 d o r d′ o′ → Finishes e s d o r d′ o′
   quiet-finishes i bs e r d′ o′ bytes q quiet keeps did =
       finishes s d o e r d′ o′ (quiet-leaves s d o e r d′ o′ did quiet keeps (plans-kept h) (lawful h .dictionary)) (frame-lawful i bs e bytes q)
-      (frame-spoken i bs e bytes q) (keeps .1) (ready-kept h)
+      (frame-few i bs e bytes q) (keeps .1) (ready-kept h)
 
   pub sync-finishes : (content : PdoData) → OnBus content → (r : Done) (d′ o′ : List ℕ) → Did (syncOf (content .length) s d) 0 d o r d′ o′ →
       Finishes (serviced syncBase (dataOf content) s d) s d o r d′ o′
@@ -140,16 +183,13 @@ module _ {s : State} {d o : List ℕ} (h : Stands s d o) (b : areBytes d ≡ tru
         frames = served .frames;
         synced = served .synced ∙ sym (sdo-unsynced rq s d);
         ready = λ untouched.
-          let quiet : (touches ws || remaps ws) ≡ false = sym (served .touched) ∙ untouched in
-          ap readyOf (served .dictionary)
-          ∙ ready-stays ws d (sdo-in-table rq s d) (or-false-left (touches ws) (remaps ws) quiet) (lawful h .dictionary)
-          (λ q w i. other-role (w .row .role) (any-false-in (λ (v : Write). isMapping (v .row .role)) i (or-false-right (touches ws) (remaps ws) quiet)) q);
+            let quiet : (touches ws || remaps ws) ≡ false = sym (served .touched) ∙ untouched in
+            ap readyOf (served .dictionary)
+            ∙ ready-stays ws d (sdo-in-table rq s d) (or-false-left (touches ws) (remaps ws) quiet) (lawful h .dictionary)
+            (λ q w i. other-role (w .row .role) (any-false-in (λ (v : Write). isMapping (v .row .role)) i (or-false-right (touches ws) (remaps ws) quiet)) q);
         dictionary = served .dictionary;
         output = served .output;
       }
-
-  idle-leaves : Leaves (becomes s) d o (unchanged s) d o
-  idle-leaves = changed-leaves s s d o (refl, refl) (plans-kept h)
 
   -- a request that is served, and one that is not
   module _ (content : PdoData) (c : OnBus content) where
@@ -167,13 +207,10 @@ module _ {s : State} {d o : List ℕ} (h : Stands s d o) (b : areBytes d ≡ tru
         let left : Leaves (sdo bs s d) d o r d′ o′ = subst (λ (x : List ℕ). Leaves (sdo x s d) d o r d′ o′) (sym (whole-data e)) (served-leaves (content .bytes) r d′ o′ served) in
         let q = framed-request bs s d ∙ is in
         as-finished is
-        (finishes s d o (sdo bs s d) r d′ o′ left (frame-lawful (requestBase + s .node .id) bs (sdo bs s d) (c .bytes) q) (frame-spoken (requestBase + s .node .id) bs (sdo bs s d) (c .bytes) q) (sdo-keeps bs s d .1) (ready-kept h))
+        (finishes s d o (sdo bs s d) r d′ o′ left (frame-lawful (requestBase + s .node .id) bs (sdo bs s d) (c .bytes) q) (frame-few (requestBase + s .node .id) bs (sdo bs s d) (c .bytes) q) (sdo-keeps bs s d .1) (ready-kept h))
 
     unserved : requested (dataOf content) s d ≡ becomes s → Finishes (requested (dataOf content) s d) s d o (unchanged s) d o
-    unserved is =
-        let q = framed-request (dataOf content) s d ∙ is in
-        as-finished is
-        (finishes s d o (becomes s) (unchanged s) d o idle-leaves (frame-lawful (requestBase + s .node .id) (dataOf content) (becomes s) (c .bytes) q) (frame-spoken (requestBase + s .node .id) (dataOf content) (becomes s) (c .bytes) q) refl (ready-kept h))
+    unserved is = as-finished is (idle-finishes h)
 
     pub request-stopped : isStopped (s .node .nmt) ≡ true → Finishes (requested (dataOf content) s d) s d o (unchanged s) d o
     request-stopped on = unserved (rw on (ap (λ (x : Bool). cond x (sdo (dataOf content) s d) (becomes s)) (and-false (eqb (length (dataOf content)) requestLength))))

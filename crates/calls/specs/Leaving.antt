@@ -80,10 +80,13 @@ serviced i bs s d =
 
 -- ---- what a service hands to the call's end: the end may come, and whatever it then answers is the accepted answer of the effect
 
-pub record Finishes (e : Effect) (s : State) (d o : List ℕ) (r : Done) (d′ o′ : List ℕ) : Type 0 where
+pub record MayFinish (r : Done) (d′ : List ℕ) : Type 0 where
   pub may : MayEnd (r .state) d′
   pub few : r .frames ≤ mostBefore
   pub ready : r .touched ≡ false → r .state .axis .ready ≡ readyOf d′
+
+pub record Finishes (e : Effect) (s : State) (d o : List ℕ) (r : Done) (d′ o′ : List ℕ) : Type 0 where
+  pub ends : MayFinish r d′
   pub answers : (a : Answer) (d″ o″ : List ℕ) →
       Ended (finished (isOperational (s .node .nmt)) (r .synced) (r .state) d′) (r .frames) o′ a d″ o″ → Accepts e s d o a d″ o″
 

@@ -1,2 +1,3 @@
 pub mod Promise
 pub mod Leaving
+pub mod Traces

@@ -1,1 +1,120 @@
-// stub
+// The three public calls: power-up, one frame, one event. Each takes the state and hands it back by value; dictionary and output are
+// lent. None asks anything of its caller, and each promise is one equation with the rules' answer (`Calls.answer`): it determines the
+// refusal, the number of frames, the state and every byte of what is lent. proofs/Unique.antt says so.
+
+mod refusing; // a refused call
+mod powering; // power-up and 81h
+mod commands; // an NMT frame
+mod served; // a frame, by its identifier
+mod told; // an event
+mod ended; // from a service to the answer
+
+use ended::finish;
+use events::event_of;
+use powering::start;
+use refusing::refuse;
+use rules_dictionary::PdoData;
+use served::take_frame;
+use soundness::is_sound;
+use state::Answer;
+use state::Refusal;
+use state::State;
+use told::tell;
+ghost use mathlib.Core.Path.{_≡_};
+ghost use Prim.Native.Nat.{_≤_};
+ghost use lib.ListN.{length};
+ghost use Rattle.rules_dictionary.specs.Plans.{pdoData};
+ghost use Rattle.rules.specs.Calls.{powerUpCall, frameCall, eventCall, answer};
+ghost use Rattle.calls.specs.Promise.{outcome};
+
+// The bytes of a dictionary, and the fewest of an output.
+const DICTIONARY: usize = 389;
+
+const OUTPUT: usize = 66;
+
+// The node-IDs.
+const FIRST_NODE: u32 = 1;
+
+const LAST_NODE: u32 = 127;
+
+// The greatest identifier, and the most data bytes of a frame.
+const LAST_IDENTIFIER: u32 = 0x7FF;
+
+const MOST_DATA: usize = 8;
+
+// Power-up as node n.
+pub fn power_up(s: State, d: &mut [u8], output: &mut [u8], n: u32) -> Answer
+    ensures { λ r. ⌜ outcome r (now (d .exit)) (now (output .exit)) ≡ answer (powerUpCall n) s (now (d .entry)) (now (output .entry)) ⌝ }
+{
+    if d.len() != DICTIONARY {
+        return refuse(Refusal::DictionaryLength, s);
+    }
+    if output.len() < OUTPUT {
+        return refuse(Refusal::OutputLength, s);
+    }
+    if n < FIRST_NODE {
+        return refuse(Refusal::NodeId, s);
+    }
+    if LAST_NODE < n {
+        return refuse(Refusal::NodeId, s);
+    }
+    let done = start(d, output, n as u8);
+    let node = s.node;
+    let nmt = node.nmt;
+    finish(done, nmt, d, output)
+}
+
+// The data of a frame.
+fn content_of(bytes: &[u8]) -> PdoData
+    requires { ⌜ length (now bytes) ≤ 8 ⌝ }
+    ensures { λ r. ⌜ r ≡ pdoData (now (bytes .entry)) ⌝ }
+{
+    let mut content = [0u8; 8];
+    let mut i: usize = 0;
+    while i < bytes.len() {
+        content[i] = bytes[i];
+        i += 1;
+    }
+    PdoData {
+        length: i as u8,
+        bytes: content,
+    }
+}
+
+// One frame of the bus.
+pub fn frame(s: State, d: &mut [u8], output: &mut [u8], identifier: u32, bytes: &[u8]) -> Answer
+    ensures { λ r. ⌜ outcome r (now (d .exit)) (now (output .exit)) ≡ answer (frameCall identifier (now (bytes .entry))) s (now (d .entry)) (now (output .entry)) ⌝ }
+{
+    if d.len() != DICTIONARY {
+        return refuse(Refusal::DictionaryLength, s);
+    }
+    if output.len() < OUTPUT {
+        return refuse(Refusal::OutputLength, s);
+    }
+    if !is_sound(s, d) {
+        return refuse(Refusal::NotSound, s);
+    }
+    if LAST_IDENTIFIER < identifier {
+        return refuse(Refusal::BadFrame, s);
+    }
+    if MOST_DATA < bytes.len() {
+        return refuse(Refusal::BadFrame, s);
+    }
+    take_frame(identifier as u16, content_of(bytes), s, d, output)
+}
+
+// One event of the amplifier.
+pub fn event(s: State, d: &mut [u8], output: &mut [u8], number: u32, arguments: &[u8]) -> Answer
+    ensures { λ r. ⌜ outcome r (now (d .exit)) (now (output .exit)) ≡ answer (eventCall number (now (arguments .entry))) s (now (d .entry)) (now (output .entry)) ⌝ }
+{
+    if d.len() != DICTIONARY {
+        return refuse(Refusal::DictionaryLength, s);
+    }
+    if output.len() < OUTPUT {
+        return refuse(Refusal::OutputLength, s);
+    }
+    if !is_sound(s, d) {
+        return refuse(Refusal::NotSound, s);
+    }
+    tell(event_of(number, arguments), s, d, output)
+}

@@ -45,7 +45,10 @@ pub fn read4(d: &[u8], place: usize) -> u32
     let second = place + 1;
     let third = second + 1;
     let fourth = third + 1;
-    wide4(d[place]) + 0x100 * wide4(d[second]) + 0x1_0000 * wide4(d[third]) + 0x100_0000 * wide4(d[fourth])
+    wide4(d[place])
+        + 0x100 * wide4(d[second])
+        + 0x1_0000 * wide4(d[third])
+        + 0x100_0000 * wide4(d[fourth])
 }
 
 // A value into the byte at a place.

@@ -1,0 +1,63 @@
+-- `calls::commands::command` meets its contract. Assumes nothing.
+use mathlib.Core.Path.{sym, ap, subst}
+use Rattle.calls.proofs.Starting.{first-node, last-node, restarts, resets, command-finishes}
+use borrow.Author.Needs.{needs}
+use Rattle.calls.proofs.commands.command.Statement.{statement}
+use Rattle.calls.proofs.commands.command.Tie as tie
+
+start-requires : tie.Need-start-requires
+start-requires c κs =
+    let h = c .before .before .before .before .before .pre in
+    (search needs, (search needs, (first-node h, last-node h)))
+
+same-length : tie.Need-same-length
+same-length c = search needs
+
+same-length-2 : tie.Need-same-length-2
+same-length-2 c = search needs
+
+returns : tie.Need-returns
+returns c =
+    let s = c .before .before .before .before .before .before .before .before .before .before in
+    restarts (s .pre) (s .args .c) (c .before .before .before .before .before .before .before .if1 .taken) _ _ _ (c .before .before .before .before .start .ensures)
+
+reset-requires : tie.Need-reset-requires
+reset-requires c κs = search needs
+
+same-length-3 : tie.Need-same-length-3
+same-length-3 c = search needs
+
+same-length-4 : tie.Need-same-length-4
+same-length-4 c = search needs
+
+returns-2 : tie.Need-returns-2
+returns-2 c =
+    let s = c .before .before .before .before .before .before .before .before .before .before .before in
+    resets (s .pre) (s .args .c) (c .before .before .before .before .before .before .before .if2 .taken) _ _ _ (c .before .before .before .before .reset .ensures)
+
+commanded-requires : tie.Need-commanded-requires
+commanded-requires c κs = search needs
+
+changed-requires : tie.Need-changed-requires
+changed-requires c κs = search needs
+
+returns-3 : tie.Need-returns-3
+returns-3 c =
+    let s = c .before .before .before .before .before .before in
+    rw (c .changed .ensures) (command-finishes (s .pre) (s .args .c) _ (c .before .commanded .ensures))
+
+pub command-spec : {M : Type 1} → statement M
+command-spec =
+    tie.close
+    (tie.spec
+    start-requires
+    same-length
+    same-length-2
+    returns
+    reset-requires
+    same-length-3
+    same-length-4
+    returns-2
+    commanded-requires
+    changed-requires
+    returns-3)
