@@ -1,0 +1,79 @@
+-- `cendurak::cendurak_event` meets its contract. Assumes nothing.
+use mathlib.Core.Path.{refl, sym, _∙_, ap}
+use borrow.Author.Tests.{not-true, not-false}
+use Rattle.state.specs.declared.State.{State}
+use Rattle.rules.specs.Calls.{eventCall, answer}
+use Rattle.cendurak.proofs.Laws.{short-dictionary, short-output, no-state, made, other-length, no-form, a-form}
+use borrow.Author.Needs.{needs}
+use Rattle.cendurak.proofs.cendurak_event.Statement.{statement}
+use Rattle.cendurak.proofs.cendurak_event.Tie as tie
+
+returns : tie.Need-returns
+returns c = let a = c .before .before .before .before .before .args in short-dictionary (eventCall (a .number) (a .arguments .now)) (a .state .now) (a .dict .now) (a .out .now) (c .if1 .taken)
+
+returns-2 : tie.Need-returns-2
+returns-2 c = let a = c .before .before .before .before .before .before .args in short-output (eventCall (a .number) (a .arguments .now)) (a .state .now) (a .dict .now) (a .out .now) (c .before .if1 .left) (c .if2 .taken)
+
+returns-3 : tie.Need-returns-3
+returns-3 c =
+    let a = c .before .before .before .before .before .before .before .args in
+    no-state (eventCall (a .number) (a .arguments .now)) (a .state .now) (a .dict .now) (a .out .now) (c .before .before .if1 .left) (c .before .if2 .left) refl (other-length (a .state .now) (c .if3 .taken))
+
+is-form-requires : tie.Need-is-form-requires
+is-form-requires c κs = search needs
+
+same-length : tie.Need-same-length
+same-length c = search needs
+
+returns-4 : tie.Need-returns-4
+returns-4 c =
+    let t = c .before in
+    let e = t .before .before in
+    let a = e .before .before .before .before .before .before .before .args in
+    no-state (eventCall (a .number) (a .arguments .now)) (a .state .now) (a .dict .now) (a .out .now) (e .before .before .if1 .left) (e .before .if2 .left) refl (no-form (a .state .now) (e .if3 .left) (sym (t .is-form .ensures) ∙ not-true _ (c .if4 .taken)))
+
+read-state-requires : tie.Need-read-state-requires
+read-state-requires c κs = search needs
+
+event-requires : tie.Need-event-requires
+event-requires c κs = search needs
+
+leave-requires : tie.Need-leave-requires
+leave-requires c κs = search needs
+
+same-length-2 : tie.Need-same-length-2
+same-length-2 c = search needs
+
+same-length-3 : tie.Need-same-length-3
+same-length-3 c = search needs
+
+same-length-4 : tie.Need-same-length-4
+same-length-4 c = search needs
+
+returns-5 : tie.Need-returns-5
+returns-5 c =
+    let v = c .before .before .before .before .before .before .before .before .before .before .before in
+    let g = v .before .before in
+    let t = g .before in
+    let e = t .before .before in
+    let a = e .before .before .before .before .before .before .before .args in
+    made (eventCall (a .number) (a .arguments .now)) (a .state .now) (a .dict .now) (a .out .now) (a-form (a .state .now) (e .if3 .left) (sym (t .is-form .ensures) ∙ not-false _ (g .if4 .left))) _ _ _ _ _
+    (c .before .before .before .before .before .before .before .before .event .ensures ∙ ap (λ (s : State). answer (eventCall (a .number) (a .arguments .now)) s (a .dict .now) (a .out .now)) (v .read-state .ensures)) (c .before .before .leave .ensures)
+
+pub cendurak-event-spec : {M : Type 1} → statement M
+cendurak-event-spec =
+    tie.close
+    (tie.spec
+    returns
+    returns-2
+    returns-3
+    is-form-requires
+    same-length
+    returns-4
+    read-state-requires
+    event-requires
+    leave-requires
+    same-length-2
+    same-length-3
+    same-length-4
+    returns-5)

@@ -1,0 +1,73 @@
+-- The calls as C makes them: the state is lent as bytes of one fixed length, and the answer is a number. "in C calls, where the state is
+-- lent bytes of fixed length, also another length (power-up too) or bytes that are no state": refusal 4.
+-- Assumes nothing.
+use Prim.Native.Nat.{ℕ, _+_, _*_}
+use mathlib.Core.Path.{_≡_}
+use mathlib.Core.List.{List}
+use mathlib.Core.Bool.{Bool, true, false, cond, not, _&&_}
+use lib.Dec.{eqb, leb}
+use lib.ListN.{length}
+use Rattle.state.specs.declared.Refusal.{Refusal}
+use Rattle.state.specs.declared.Refusal.the-variants.{Accepted, DictionaryLength, OutputLength, NodeId, NotSound, BadFrame, BadEvent, OutOfPlace}
+use Rattle.state.specs.declared.Answer.{Answer}
+use Rattle.rules_dictionary.specs.TheNode.{isNodeId}
+use Rattle.rules_dictionary.specs.Table.{dictionaryLength}
+use Rattle.rules.specs.Calls.{Call, powerUpCall, frameCall, eventCall, Outcome, answer, refusalNumber, outputLength}
+use Rattle.form.specs.Form.{stateLength, stateOf, form, isForm}
+
+-- what a call leaves: the number that it returns, and the bytes of the three buffers
+pub record Left : Type 0 where
+  pub status : ℕ
+  pub state : List ℕ
+  pub dictionary : List ℕ
+  pub output : List ℕ
+
+-- "the refusal times 256 plus the number of frames"
+abbrev pub status : Refusal → ℕ → ℕ
+status why frames = 256 * refusalNumber why + frames
+
+-- an accepted call's state as bytes; a refused one leaves them
+abbrev pub stateAfter : Refusal → List ℕ → List ℕ → List ℕ
+stateAfter Accepted new old = new
+stateAfter DictionaryLength new old = old
+stateAfter OutputLength new old = old
+stateAfter NodeId new old = old
+stateAfter NotSound new old = old
+stateAfter BadFrame new old = old
+stateAfter BadEvent new old = old
+stateAfter OutOfPlace new old = old
+
+-- the outcome of the rules' call, in the lent bytes
+unfoldable pub leftBy : Outcome → List ℕ → Left
+leftBy x bs =
+    record { status = status (x .refusal) (x .frames); state = stateAfter (x .refusal) (form (x .state)) bs; dictionary = x .dictionary; output = x .output }
+
+unfoldable pub refusedWith : Refusal → List ℕ → List ℕ → List ℕ → Left
+refusedWith why bs d o = record { status = status why 0; state = bs; dictionary = d; output = o }
+
+-- the bytes are a state, as far as the call looks: power-up takes any bytes of the right length
+abbrev pub isGiven : Call → List ℕ → Bool
+isGiven (powerUpCall n) bs = eqb (length bs) stateLength
+isGiven (frameCall i xs) bs = eqb (length bs) stateLength && isForm bs
+isGiven (eventCall k xs) bs = eqb (length bs) stateLength && isForm bs
+
+-- without a state, the refusals below 4 still come first
+abbrev pub hasNode : Call → Bool
+hasNode (powerUpCall n) = isNodeId n
+hasNode (frameCall i xs) = true
+hasNode (eventCall k xs) = true
+
+unfoldable pub without : Call → List ℕ → List ℕ → Refusal
+without c d o =
+    elim (eqb (length d) dictionaryLength) [
+      | true ↦ elim (leb outputLength (length o)) [ true ↦ elim (hasNode c) [ true ↦ NotSound | false ↦ NodeId ] | false ↦ OutputLength ]
+      | false ↦ DictionaryLength
+    ]
+
+-- THE CALL, as C makes it
+unfoldable pub lentAnswer : Call → List ℕ → List ℕ → List ℕ → Left
+lentAnswer c bs d o = elim (isGiven c bs) [ true ↦ leftBy (answer c (stateOf bs) d o) bs | false ↦ refusedWith (without c d o) bs d o ]
+
+-- what the exported functions leave, as one
+abbrev pub left : ℕ → List ℕ → List ℕ → List ℕ → Left
+left number bs d o = record { status = number; state = bs; dictionary = d; output = o }

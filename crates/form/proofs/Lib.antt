@@ -1,0 +1,5 @@
+pub mod Rows
+pub mod Kept
+pub mod Back
+pub mod Laws
+pub mod Small

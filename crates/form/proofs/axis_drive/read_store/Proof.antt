@@ -1,0 +1,52 @@
+use borrow.Author.Tests.{ne-eqb}
+use Rattle.form.specs.Form.{storeAt}
+use borrow.Author.Needs.{needs}
+use Rattle.form.proofs.axis_drive.read_store.Statement.{statement}
+use Rattle.form.proofs.axis_drive.read_store.Tie as tie
+
+shared-slice-read-match : tie.Need-shared-slice-read-match
+shared-slice-read-match c = search needs
+
+read4-requires : tie.Need-read4-requires
+read4-requires c κs = search needs
+
+read-set-point-requires : tie.Need-read-set-point-requires
+read-set-point-requires c κs = search needs
+
+read-set-point-requires-2 : tie.Need-read-set-point-requires-2
+read-set-point-requires-2 c κs = search needs
+
+read-set-point-requires-3 : tie.Need-read-set-point-requires-3
+read-set-point-requires-3 c κs = search needs
+
+returns : tie.Need-returns
+unfolding storeAt
+returns c = rw (c .match .keys1)
+
+returns-2 : tie.Need-returns-2
+unfolding storeAt
+returns-2 c = rw (c .before .match .keys2, c .read4 .ensures)
+
+returns-3 : tie.Need-returns-3
+unfolding storeAt
+returns-3 c = rw (c .before .match .keys3, c .read-set-point .ensures)
+
+returns-4 : tie.Need-returns-4
+unfolding storeAt
+returns-4 c =
+    let r = c .before .before .match .rest in
+    simp (ne-eqb _ _ (r .0 .0 .1), ne-eqb _ _ (r .0 .1), ne-eqb _ _ (r .1)) (rw (c .before .read-set-point2 .ensures, c .read-set-point3 .ensures))
+
+pub read-store-spec : {M : Type 1} → statement M
+read-store-spec =
+    tie.close
+    (tie.spec
+    shared-slice-read-match
+    read4-requires
+    read-set-point-requires
+    read-set-point-requires-2
+    read-set-point-requires-3
+    returns
+    returns-2
+    returns-3
+    returns-4)

@@ -1,0 +1,71 @@
+use Prim.Native.Nat.{_-_, _*_}
+use native.Mathlib.Omega.{arith}
+use mathlib.Core.Path.{_≡_}
+use mathlib.Core.List.{[]}
+use borrow.Author.Needs.{needs}
+use lib.ListN.{length}
+use Rattle.rules_dictionary.specs.Table.{eachWay}
+use Rattle.form.specs.Form.{planForm, planLength}
+use Rattle.form.specs.Typed.{PlanTyped}
+use Rattle.form.proofs.Rows.{Row, none-yet, one-more, all-written, all-hold, length-plan}
+use Rattle.form.proofs.pdos.write_plans.Statement.{statement}
+use Rattle.form.proofs.pdos.write_plans.Tie as tie
+
+abbrev Inv-loop : tie.InvT-loop
+Inv-loop bytes₀ plans at₀ k₀ bytes at k = Row planForm PlanTyped planLength (record { count = 0; moves = [] }) plans bytes₀ at₀ bytes at k
+
+abbrev μ-loop : tie.MeasureT-loop
+μ-loop bytes₀ plans at₀ k₀ bytes at k = (2 * eachWay) - k
+
+loop-holds : tie.Need-loop-holds Inv-loop μ-loop
+loop-holds c = none-yet
+
+mul-plan : tie.Need-mul-plan Inv-loop μ-loop
+mul-plan c = search needs
+
+array-copy-out-plan : tie.Need-array-copy-out-plan Inv-loop μ-loop
+array-copy-out-plan c = search needs
+
+write-plan-requires : tie.Need-write-plan-requires Inv-loop μ-loop
+write-plan-requires c κs = search needs
+
+add-at : tie.Need-add-at Inv-loop μ-loop
+add-at c = search needs
+
+add-k : tie.Need-add-k Inv-loop μ-loop
+add-k c = search needs
+
+loop-less : tie.Need-loop-less Inv-loop μ-loop
+loop-less c = search needs
+
+loop-again : tie.Need-loop-again Inv-loop μ-loop
+loop-again c =
+    let few : length (c .before .before .before .before .before .before .before .before .args .t2) ≡ (2 * eachWay) = search needs in
+    let w = c .before .before .write-plan .ensures in
+    one-more (c .before .before .before .before .before .before .loop .inv) (omega arith) (length-plan _ (w .1)) (w .1) (w .0)
+
+same-length : tie.Need-same-length Inv-loop μ-loop
+same-length c = c .before .loop .inv .kept
+
+returns : tie.Need-returns Inv-loop μ-loop
+returns c =
+    let l = c .before .loop in
+    let few : length (c .before .before .before .args .t2) ≡ (2 * eachWay) = search needs in
+    (all-written (l .inv) (omega arith), record { size = few; every = all-hold (l .inv) (omega arith) })
+
+pub write-plans-spec : {M : Type 1} → statement M
+write-plans-spec =
+    tie.close
+    (tie.spec
+    Inv-loop
+    μ-loop
+    loop-holds
+    mul-plan
+    array-copy-out-plan
+    write-plan-requires
+    add-at
+    add-k
+    loop-less
+    loop-again
+    same-length
+    returns)

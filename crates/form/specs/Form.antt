@@ -1,0 +1,255 @@
+-- The state as bytes of one length: each number as wide as its type and low byte first, each enum by its number, each flag as 0 or 1.
+-- In this order: the node, the drive, the ready and the held frames, SYNC counts, due marks, and the plans. Assumes nothing.
+use Prim.Native.Nat.{ℕ, zero, suc, _+_, _*_, _/_, _%_, _^_}
+use mathlib.Core.Bool.{Bool, true, false, cond}
+use mathlib.Core.List.{List, [], _∷_, _++_, map}
+use lib.Dec.{eqb}
+use lib.ListN.{getD, drop}
+use Rattle.rules_dictionary.specs.declared.Move.{Move}
+use Rattle.rules_dictionary.specs.declared.Plan.{Plan}
+use Rattle.rules_dictionary.specs.declared.PdoData.{PdoData}
+use Rattle.drive.specs.declared.DriveState.{DriveState}
+use Rattle.drive.specs.declared.DriveState.the-variants.{NotReady, SwitchOnDisabled, ReadyToSwitchOn, SwitchedOn, OperationEnabled, QuickStopActive, FaultReactionActive, Fault}
+use Rattle.drive.specs.declared.SetPoint.{SetPoint}
+use Rattle.drive.specs.declared.Store.{Store}
+use Rattle.drive.specs.declared.Store.the-variants.{Empty, Rested, Moving, Queued}
+use Rattle.drive.specs.declared.Drive.{Drive}
+use Rattle.state.specs.declared.NmtState.{NmtState}
+use Rattle.state.specs.declared.NmtState.the-variants.{PreOperational, Operational, Stopped}
+use Rattle.state.specs.declared.Node.{Node}
+use Rattle.state.specs.declared.State.{State}
+use Rattle.rules_dictionary.specs.Numbers.{value, bytes, part}
+use Rattle.rules_dictionary.specs.Table.{eachWay, mostMoves}
+use Rattle.rules_dictionary.specs.Legal.{modeNumber}
+use Rattle.drive.specs.SetPoints.{modeOf}
+use Rattle.rules.specs.Outcome.{sameBy, mostData}
+
+-- ---- enums and flags by number; what is no number of theirs reads as the last one, or as false
+
+abbrev pub flagNumber : Bool → ℕ
+flagNumber true = 1
+flagNumber false = 0
+
+abbrev pub flagOf : ℕ → Bool
+flagOf b = eqb b 1
+
+abbrev pub nmtNumber : NmtState → ℕ
+nmtNumber PreOperational = 0
+nmtNumber Operational = 1
+nmtNumber Stopped = 2
+
+abbrev pub nmtOf : ℕ → NmtState
+nmtOf b = cond (eqb b 0) PreOperational (cond (eqb b 1) Operational Stopped)
+
+abbrev pub stateNumber : DriveState → ℕ
+stateNumber NotReady = 0
+stateNumber SwitchOnDisabled = 1
+stateNumber ReadyToSwitchOn = 2
+stateNumber SwitchedOn = 3
+stateNumber OperationEnabled = 4
+stateNumber QuickStopActive = 5
+stateNumber FaultReactionActive = 6
+stateNumber Fault = 7
+
+abbrev pub driveStateOf : ℕ → DriveState
+driveStateOf b =
+    cond (eqb b 0) NotReady
+    (cond (eqb b 1) SwitchOnDisabled
+    (cond (eqb b 2) ReadyToSwitchOn
+    (cond (eqb b 3) SwitchedOn
+    (cond (eqb b 4) OperationEnabled
+    (cond (eqb b 5) QuickStopActive
+    (cond (eqb b 6) FaultReactionActive Fault))))))
+
+-- ---- rows of things in bytes
+
+-- what is read at each of so many places, one width apart
+abbrev pub each {ℓ} : {A : Type ℓ} → ℕ → ℕ → ℕ → (ℕ → A) → List A
+each zero place width f = []
+each (suc n) place width f = f place ∷ each n (place + width) width f
+
+-- the forms of all, one after another
+abbrev pub joined {ℓ} : {A : Type ℓ} → (A → List ℕ) → List A → List ℕ
+joined f [] = []
+joined f (x ∷ xs) = f x ++ joined f xs
+
+-- ---- the node: node-ID, NMT state, voltage flag, heartbeat count
+
+abbrev pub nodeLength : ℕ
+nodeLength = 5
+
+unfoldable pub nodeForm : Node → List ℕ
+nodeForm n = n .id ∷ nmtNumber (n .nmt) ∷ flagNumber (n .voltage) ∷ bytes 2 (n .heartbeat)
+
+unfoldable pub nodeAt : ℕ → List ℕ → Node
+nodeAt place bs =
+    record {
+      id = getD bs place 0;
+      nmt = nmtOf (getD bs (place + 1) 0);
+      voltage = flagOf (getD bs (place + 2) 0);
+      heartbeat = value (part (place + 3) 2 bs);
+    }
+
+-- ---- the drive: state, mode, taken, limit and cause marks, and the store: its kind and the bytes of two set-points
+
+abbrev pub setPointLength : ℕ
+setPointLength = 16
+
+unfoldable pub setPointForm : SetPoint → List ℕ
+setPointForm p = bytes 4 (p .target) ++ (bytes 4 (p .velocity) ++ (bytes 4 (p .acceleration) ++ bytes 4 (p .deceleration)))
+
+unfoldable pub setPointAt : ℕ → List ℕ → SetPoint
+setPointAt place bs =
+    record {
+      target = value (part place 4 bs);
+      velocity = value (part (place + 4) 4 bs);
+      acceleration = value (part (place + 8) 4 bs);
+      deceleration = value (part (place + 12) 4 bs);
+    }
+
+abbrev pub storeLength : ℕ
+storeLength = 1 + 2 * setPointLength
+
+abbrev pub storeKind : Store → ℕ
+storeKind Empty = 0
+storeKind (Rested t) = 1
+storeKind (Moving a) = 2
+storeKind (Queued a b) = 3
+
+-- what stands in the two set-points' bytes; bytes that a kind of store does not use are zero
+abbrev pub resting : ℕ → SetPoint
+resting t = record { target = t; velocity = 0; acceleration = 0; deceleration = 0 }
+
+abbrev pub firstOf : Store → SetPoint
+firstOf Empty = resting 0
+firstOf (Rested t) = resting t
+firstOf (Moving a) = a
+firstOf (Queued a b) = a
+
+abbrev pub secondOf : Store → SetPoint
+secondOf Empty = resting 0
+secondOf (Rested t) = resting 0
+secondOf (Moving a) = resting 0
+secondOf (Queued a b) = b
+
+unfoldable pub storeForm : Store → List ℕ
+storeForm s = storeKind s ∷ setPointForm (firstOf s) ++ setPointForm (secondOf s)
+
+unfoldable pub storeAt : ℕ → List ℕ → Store
+storeAt place bs =
+    cond (eqb (getD bs place 0) 0) Empty
+    (cond (eqb (getD bs place 0) 1) (Rested (value (part (place + 1) 4 bs)))
+    (cond (eqb (getD bs place 0) 2) (Moving (setPointAt (place + 1) bs))
+    (Queued (setPointAt (place + 1) bs) (setPointAt (place + 1 + setPointLength) bs))))
+
+abbrev pub driveLength : ℕ
+driveLength = 5 + storeLength
+
+unfoldable pub driveForm : Drive → List ℕ
+driveForm v =
+    stateNumber (v .state) ∷ modeNumber (v .mode) ∷ flagNumber (v .taken) ∷ flagNumber (v .limit) ∷ flagNumber (v .cause) ∷ storeForm (v .store)
+
+unfoldable pub driveAt : ℕ → List ℕ → Drive
+driveAt place bs =
+    record {
+      state = driveStateOf (getD bs place 0);
+      mode = modeOf (getD bs (place + 1) 0);
+      store = storeAt (place + 5) bs;
+      taken = flagOf (getD bs (place + 2) 0);
+      limit = flagOf (getD bs (place + 3) 0);
+      cause = flagOf (getD bs (place + 4) 0);
+    }
+
+-- ---- the data of a PDO: its length and eight bytes
+
+abbrev pub dataLength : ℕ
+dataLength = 1 + mostData
+
+unfoldable pub dataForm : PdoData → List ℕ
+dataForm r = r .length ∷ r .bytes
+
+abbrev pub dataAt : ℕ → List ℕ → PdoData
+dataAt place bs = record { length = getD bs place 0; bytes = each mostData (place + 1) 1 (λ i. getD bs i 0) }
+
+-- ---- a plan: its count and eight moves, each a word: the place in its low half, then the size, and a zero byte
+
+abbrev pub moveLength : ℕ
+moveLength = 4
+
+abbrev pub half : ℕ
+half = 2 ^ 16
+
+unfoldable pub moveForm : Move → List ℕ
+moveForm m = bytes 4 (m .place + half * m .size)
+
+abbrev pub moveOf : ℕ → Move
+moveOf word = record { place = word % half; size = word / half % 256 }
+
+unfoldable pub moveAt : ℕ → List ℕ → Move
+moveAt place bs = moveOf (value (part place 4 bs))
+
+abbrev pub planLength : ℕ
+planLength = 1 + mostMoves * moveLength
+
+unfoldable pub planForm : Plan → List ℕ
+planForm p = p .count ∷ joined moveForm (p .moves)
+
+unfoldable pub planAt : ℕ → List ℕ → Plan
+planAt place bs = record { count = getD bs place 0; moves = each mostMoves (place + 1) moveLength (λ i. moveAt i bs) }
+
+-- ---- the whole
+
+-- where the parts stand
+abbrev pub drivePlace : ℕ
+drivePlace = nodeLength
+
+abbrev pub readyPlace : ℕ
+readyPlace = drivePlace + driveLength
+
+abbrev pub heldPlace : ℕ
+heldPlace = readyPlace + eachWay * dataLength
+
+abbrev pub countsPlace : ℕ
+countsPlace = heldPlace + eachWay * dataLength
+
+abbrev pub duePlace : ℕ
+duePlace = countsPlace + eachWay
+
+abbrev pub plansPlace : ℕ
+plansPlace = duePlace + eachWay
+
+abbrev pub stateLength : ℕ
+stateLength = plansPlace + 2 * eachWay * planLength
+
+-- all but the plans
+unfoldable pub headForm : State → List ℕ
+headForm s =
+    nodeForm (s .node) ++ (driveForm (s .axis .drive) ++ (joined dataForm (s .axis .ready) ++ (joined dataForm (s .axis .held)
+    ++ (s .axis .counts ++ map flagNumber (s .axis .due)))))
+
+-- the byte form of a state
+unfoldable pub form : State → List ℕ
+form s = headForm s ++ joined planForm (s .axis .plans)
+
+-- bytes with all but the plans of a state in them: the plans' bytes stay
+unfoldable pub formOver : List ℕ → State → List ℕ
+formOver bs s = headForm s ++ drop plansPlace bs
+
+-- the state that bytes hold, where they hold one
+unfoldable pub stateOf : List ℕ → State
+stateOf bs =
+    record {
+      node = nodeAt 0 bs;
+      axis = record {
+        drive = driveAt drivePlace bs;
+        plans = each (2 * eachWay) plansPlace planLength (λ i. planAt i bs);
+        ready = each eachWay readyPlace dataLength (λ i. dataAt i bs);
+        held = each eachWay heldPlace dataLength (λ i. dataAt i bs);
+        counts = each eachWay countsPlace 1 (λ i. getD bs i 0);
+        due = each eachWay duePlace 1 (λ i. flagOf (getD bs i 0));
+      };
+    }
+
+-- are the bytes the form of the state that they hold
+unfoldable pub isForm : List ℕ → Bool
+isForm bs = sameBy eqb (form (stateOf bs)) bs

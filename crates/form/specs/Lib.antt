@@ -1,0 +1,3 @@
+pub mod Form
+pub mod Typed
+pub mod Own

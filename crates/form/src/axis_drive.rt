@@ -1,0 +1,262 @@
+// The drive's part of the form.
+
+use crate::node::both;
+use crate::node::flag_number;
+use crate::node::flag_of;
+use crate::node::own_flag;
+use dictionary::read4;
+use dictionary::write4;
+use drive::Drive;
+use drive::DriveState;
+use drive::SetPoint;
+use drive::Store;
+use drive::set_points::mode_of;
+use rules_dictionary::Mode;
+ghost use mathlib.Core.Path.{_≡_};
+ghost use Prim.Native.Nat.{_+_, _≤_};
+ghost use lib.ListN.{length};
+ghost use lib.Seq.{sets};
+ghost use Rattle.rules_dictionary.specs.Legal.{modeNumber};
+ghost use Rattle.form.specs.Form.{driveStateOf, setPointLength, setPointAt, storeAt, drivePlace, driveAt, stateLength, stateNumber, setPointForm, storeKind, firstOf, secondOf, storeForm, driveForm};
+ghost use Rattle.form.specs.Typed.{SetPointTyped, StoreTyped};
+ghost use Rattle.form.specs.Own.{sameSetPoint, storeOwn, driveOwn};
+
+// Where its bytes stand; those of the store are its kind and two set-points.
+const STATE: usize = 5;
+
+const MODE: usize = 6;
+
+const TAKEN: usize = 7;
+
+const LIMIT: usize = 8;
+
+const CAUSE: usize = 9;
+
+const STORE: usize = 10;
+
+const FIRST: usize = 11;
+
+const SECOND: usize = 27;
+
+// The drive state of a number.
+fn drive_state_of(b: u8) -> DriveState
+    ensures { λ r. ⌜ r ≡ driveStateOf b ⌝ }
+{
+    match b {
+        0 => DriveState::NotReady,
+        1 => DriveState::SwitchOnDisabled,
+        2 => DriveState::ReadyToSwitchOn,
+        3 => DriveState::SwitchedOn,
+        4 => DriveState::OperationEnabled,
+        5 => DriveState::QuickStopActive,
+        6 => DriveState::FaultReactionActive,
+        _ => DriveState::Fault,
+    }
+}
+
+// The set-point at a place.
+fn read_set_point(bytes: &[u8], place: usize) -> SetPoint
+    requires { ⌜ place + setPointLength ≤ length (now bytes) ⌝ }
+    ensures { λ r. ⌜ r ≡ setPointAt place (now (bytes .entry)) ⌝ }
+{
+    SetPoint {
+        target: read4(bytes, place),
+        velocity: read4(bytes, place + 4),
+        acceleration: read4(bytes, place + 8),
+        deceleration: read4(bytes, place + 12),
+    }
+}
+
+// The store that the bytes hold.
+fn read_store(bytes: &[u8]) -> Store
+    requires { ⌜ length (now bytes) ≡ stateLength ⌝ }
+    ensures { λ r. ⌜ r ≡ storeAt (drivePlace + 5) (now (bytes .entry)) ⌝ }
+{
+    match bytes[STORE] {
+        0 => Store::Empty,
+        1 => Store::Rested(read4(bytes, FIRST)),
+        2 => Store::Moving(read_set_point(bytes, FIRST)),
+        _ => Store::Queued(read_set_point(bytes, FIRST), read_set_point(bytes, SECOND)),
+    }
+}
+
+// The drive that the bytes hold.
+pub fn read_drive(bytes: &[u8]) -> Drive
+    requires { ⌜ length (now bytes) ≡ stateLength ⌝ }
+    ensures { λ r. ⌜ r ≡ driveAt drivePlace (now (bytes .entry)) ⌝ }
+{
+    let state = drive_state_of(bytes[STATE]);
+    let mode = mode_of(bytes[MODE]);
+    let store = read_store(bytes);
+    Drive {
+        state,
+        mode,
+        store,
+        taken: flag_of(bytes[TAKEN]),
+        limit: flag_of(bytes[LIMIT]),
+        cause: flag_of(bytes[CAUSE]),
+    }
+}
+
+// The number of a drive state.
+fn state_number(state: DriveState) -> u8
+    ensures { λ r. ⌜ r ≡ stateNumber state ⌝ }
+{
+    match state {
+        DriveState::NotReady => 0,
+        DriveState::SwitchOnDisabled => 1,
+        DriveState::ReadyToSwitchOn => 2,
+        DriveState::SwitchedOn => 3,
+        DriveState::OperationEnabled => 4,
+        DriveState::QuickStopActive => 5,
+        DriveState::FaultReactionActive => 6,
+        DriveState::Fault => 7,
+    }
+}
+
+// The number of a mode.
+fn mode_number(mode: Mode) -> u8
+    ensures { λ r. ⌜ r ≡ modeNumber mode ⌝ }
+{
+    match mode {
+        Mode::NoMode => 0,
+        Mode::ProfilePosition => 1,
+        Mode::ProfileVelocity => 3,
+    }
+}
+
+// The number of a store's kind.
+fn store_kind(store: Store) -> u8
+    ensures { λ r. ⌜ r ≡ storeKind store ⌝ }
+{
+    match store {
+        Store::Empty => 0,
+        Store::Rested(_) => 1,
+        Store::Moving(_) => 2,
+        Store::Queued(_, _) => 3,
+    }
+}
+
+// What stands in the first set-point's bytes.
+fn first_of(store: Store) -> SetPoint
+    ensures { λ r. ⌜ r ≡ firstOf store ⌝ }
+{
+    let none = SetPoint {
+        target: 0,
+        velocity: 0,
+        acceleration: 0,
+        deceleration: 0,
+    };
+    match store {
+        Store::Empty => none,
+        Store::Rested(target) => SetPoint {
+            target,
+            velocity: 0,
+            acceleration: 0,
+            deceleration: 0,
+        },
+        Store::Moving(a) => a,
+        Store::Queued(a, _) => a,
+    }
+}
+
+// What stands in the second set-point's bytes.
+fn second_of(store: Store) -> SetPoint
+    ensures { λ r. ⌜ r ≡ secondOf store ⌝ }
+{
+    let none = SetPoint {
+        target: 0,
+        velocity: 0,
+        acceleration: 0,
+        deceleration: 0,
+    };
+    match store {
+        Store::Empty => none,
+        Store::Rested(_) => none,
+        Store::Moving(_) => none,
+        Store::Queued(_, b) => b,
+    }
+}
+
+// A set-point into the bytes at a place.
+fn write_set_point(bytes: &mut [u8], place: usize, p: SetPoint)
+    requires { ⌜ place + setPointLength ≤ length (now bytes) ⌝ }
+    ensures { λ r. ⌜ (now (bytes .exit) ≡ sets (now (bytes .entry)) place (setPointForm p)) × SetPointTyped p ⌝ }
+{
+    write4(bytes, place, p.target);
+    write4(bytes, place + 4, p.velocity);
+    write4(bytes, place + 8, p.acceleration);
+    write4(bytes, place + 12, p.deceleration);
+}
+
+// The store into the bytes.
+fn write_store(bytes: &mut [u8], store: Store)
+    requires { ⌜ length (now bytes) ≡ stateLength ⌝ }
+    ensures { λ r. ⌜ (now (bytes .exit) ≡ sets (now (bytes .entry)) (drivePlace + 5) (storeForm store)) × StoreTyped store ⌝ }
+{
+    let first = first_of(store);
+    let second = second_of(store);
+    bytes[STORE] = store_kind(store);
+    write_set_point(bytes, FIRST, first);
+    write_set_point(bytes, SECOND, second);
+}
+
+// The drive into the bytes.
+pub fn write_drive(bytes: &mut [u8], v: Drive)
+    requires { ⌜ length (now bytes) ≡ stateLength ⌝ }
+    ensures { λ r. ⌜ (now (bytes .exit) ≡ sets (now (bytes .entry)) drivePlace (driveForm v)) × StoreTyped (v .store) ⌝ }
+{
+    let state = v.state;
+    let mode = v.mode;
+    let store = v.store;
+    bytes[STATE] = state_number(state);
+    bytes[MODE] = mode_number(mode);
+    bytes[TAKEN] = flag_number(v.taken);
+    bytes[LIMIT] = flag_number(v.limit);
+    bytes[CAUSE] = flag_number(v.cause);
+    write_store(bytes, store);
+}
+
+// Whether two set-points are the same.
+fn same_set_point(a: SetPoint, b: SetPoint) -> bool
+    ensures { λ r. ⌜ r ≡ sameSetPoint a b ⌝ }
+{
+    let last = both(
+        a.acceleration == b.acceleration,
+        a.deceleration == b.deceleration,
+    );
+    both(a.target == b.target, both(a.velocity == b.velocity, last))
+}
+
+// Whether the store's bytes are its form.
+fn own_store(bytes: &[u8]) -> bool
+    requires { ⌜ length (now bytes) ≡ stateLength ⌝ }
+    ensures { λ r. ⌜ r ≡ storeOwn (drivePlace + 5) (now (bytes .entry)) ⌝ }
+{
+    let store = read_store(bytes);
+    let first = first_of(store);
+    let second = second_of(store);
+    let points = both(
+        same_set_point(first, read_set_point(bytes, FIRST)),
+        same_set_point(second, read_set_point(bytes, SECOND)),
+    );
+    both(store_kind(store) == bytes[STORE], points)
+}
+
+// Whether the drive's bytes are its form.
+pub fn own_drive(bytes: &[u8]) -> bool
+    requires { ⌜ length (now bytes) ≡ stateLength ⌝ }
+    ensures { λ r. ⌜ r ≡ driveOwn drivePlace (now (bytes .entry)) ⌝ }
+{
+    let state = drive_state_of(bytes[STATE]);
+    let mode = mode_of(bytes[MODE]);
+    let marks = both(
+        own_flag(bytes[LIMIT]),
+        both(own_flag(bytes[CAUSE]), own_store(bytes)),
+    );
+    let modes = both(
+        mode_number(mode) == bytes[MODE],
+        both(own_flag(bytes[TAKEN]), marks),
+    );
+    both(state_number(state) == bytes[STATE], modes)
+}

@@ -1,0 +1,86 @@
+// The state as bytes of one length, and back: each state has one form. The layout is specs/Form.antt.
+// node: the node's part. axis_drive: the drive's. pdos: plans, data and what is kept for each PDO.
+
+mod axis_drive;
+mod node;
+mod pdos;
+
+use node::both;
+use state::Axis;
+use state::State;
+ghost use mathlib.Core.Path.{_≡_};
+ghost use lib.ListN.{length};
+ghost use Rattle.form.specs.Form.{stateLength, stateOf, form, formOver, isForm};
+ghost use Rattle.form.specs.Typed.{HeadTyped, Typed};
+
+// Where the ready and the held frames stand.
+const READY: usize = 43;
+
+const HELD: usize = 79;
+
+// The state that the bytes hold.
+pub fn read_state(bytes: &[u8]) -> State
+    requires { ⌜ length (now bytes) ≡ stateLength ⌝ }
+    ensures { λ r. ⌜ r ≡ stateOf (now (bytes .entry)) ⌝ }
+{
+    let node = node::read_node(bytes);
+    let drive = axis_drive::read_drive(bytes);
+    let ready = pdos::read_frames(bytes, READY);
+    let held = pdos::read_frames(bytes, HELD);
+    let counts = pdos::read_counts(bytes);
+    let due = pdos::read_marks(bytes);
+    let plans = pdos::read_plans(bytes);
+    State {
+        node,
+        axis: Axis {
+            drive,
+            plans,
+            ready,
+            held,
+            counts,
+            due,
+        },
+    }
+}
+
+// All but the plans of a state into the bytes: the plans' bytes stay.
+pub fn write_but_plans(bytes: &mut [u8], s: State)
+    requires { ⌜ length (now bytes) ≡ stateLength ⌝ }
+    ensures { λ r. ⌜ (now (bytes .exit) ≡ formOver (now (bytes .entry)) s) × HeadTyped s ⌝ }
+{
+    let node = s.node;
+    let axis = s.axis;
+    let drive = axis.drive;
+    let ready = axis.ready;
+    let held = axis.held;
+    let counts = axis.counts;
+    let due = axis.due;
+    node::write_node(bytes, node);
+    axis_drive::write_drive(bytes, drive);
+    pdos::write_frames(bytes, READY, ready);
+    pdos::write_frames(bytes, HELD, held);
+    pdos::write_counts(bytes, counts, due);
+}
+
+// A state into the bytes.
+pub fn write_state(bytes: &mut [u8], s: State)
+    requires { ⌜ length (now bytes) ≡ stateLength ⌝ }
+    ensures { λ r. ⌜ (now (bytes .exit) ≡ form s) × Typed s ⌝ }
+{
+    let axis = s.axis;
+    let plans = axis.plans;
+    pdos::write_plans(bytes, plans);
+    write_but_plans(bytes, s);
+}
+
+// Whether the bytes are the form of a state.
+pub fn is_form(bytes: &[u8]) -> bool
+    requires { ⌜ length (now bytes) ≡ stateLength ⌝ }
+    ensures { λ r. ⌜ r ≡ isForm (now (bytes .entry)) ⌝ }
+{
+    let rows = both(pdos::own_due(bytes), pdos::own_plans(bytes));
+    both(
+        node::own_node(bytes),
+        both(axis_drive::own_drive(bytes), rows),
+    )
+}

@@ -1,0 +1,110 @@
+// The node's part of the form.
+
+use dictionary::read2;
+use dictionary::write2;
+use state::NmtState;
+use state::Node;
+ghost use mathlib.Core.Path.{_≡_};
+ghost use mathlib.Core.Bool.{_&&_};
+ghost use Prim.Native.Nat.{_<_};
+ghost use lib.ListN.{length};
+ghost use lib.Seq.{sets};
+ghost use Rattle.form.specs.Form.{flagOf, flagNumber, nmtOf, nmtNumber, stateLength, nodeAt, nodeForm, half};
+ghost use Rattle.form.specs.Own.{ownFlag, nodeOwn};
+
+// Where its bytes stand.
+const ID: usize = 0;
+
+const NMT: usize = 1;
+
+const VOLTAGE: usize = 2;
+
+const HEARTBEAT: usize = 3;
+
+// The flag of a byte.
+pub fn flag_of(b: u8) -> bool
+    ensures { λ r. ⌜ r ≡ flagOf b ⌝ }
+{
+    b == 1
+}
+
+// The NMT state of a number.
+fn nmt_of(b: u8) -> NmtState
+    ensures { λ r. ⌜ r ≡ nmtOf b ⌝ }
+{
+    if b == 0 {
+        return NmtState::PreOperational;
+    }
+    if b == 1 {
+        NmtState::Operational
+    } else {
+        NmtState::Stopped
+    }
+}
+
+// The node that the bytes hold.
+pub fn read_node(bytes: &[u8]) -> Node
+    requires { ⌜ length (now bytes) ≡ stateLength ⌝ }
+    ensures { λ r. ⌜ r ≡ nodeAt 0 (now (bytes .entry)) ⌝ }
+{
+    let nmt = nmt_of(bytes[NMT]);
+    Node {
+        id: bytes[ID],
+        nmt,
+        voltage: flag_of(bytes[VOLTAGE]),
+        heartbeat: read2(bytes, HEARTBEAT),
+    }
+}
+
+// The byte of a flag.
+pub fn flag_number(flag: bool) -> u8
+    ensures { λ r. ⌜ r ≡ flagNumber flag ⌝ }
+{
+    if flag { 1 } else { 0 }
+}
+
+// The number of an NMT state.
+fn nmt_number(nmt: NmtState) -> u8
+    ensures { λ r. ⌜ r ≡ nmtNumber nmt ⌝ }
+{
+    match nmt {
+        NmtState::PreOperational => 0,
+        NmtState::Operational => 1,
+        NmtState::Stopped => 2,
+    }
+}
+
+// The node into the bytes.
+pub fn write_node(bytes: &mut [u8], n: Node)
+    requires { ⌜ length (now bytes) ≡ stateLength ⌝ }
+    ensures { λ r. ⌜ (now (bytes .exit) ≡ sets (now (bytes .entry)) 0 (nodeForm n)) × (n .heartbeat < half) ⌝ }
+{
+    let nmt = n.nmt;
+    bytes[ID] = n.id;
+    bytes[NMT] = nmt_number(nmt);
+    bytes[VOLTAGE] = flag_number(n.voltage);
+    write2(bytes, HEARTBEAT, n.heartbeat);
+}
+
+// Whether two tests hold, both made.
+pub fn both(a: bool, b: bool) -> bool
+    ensures { λ r. ⌜ r ≡ (a && b) ⌝ }
+{
+    if a { b } else { false }
+}
+
+// Whether a byte is a flag's.
+pub fn own_flag(b: u8) -> bool
+    ensures { λ r. ⌜ r ≡ ownFlag b ⌝ }
+{
+    flag_number(flag_of(b)) == b
+}
+
+// Whether the node's bytes are its form.
+pub fn own_node(bytes: &[u8]) -> bool
+    requires { ⌜ length (now bytes) ≡ stateLength ⌝ }
+    ensures { λ r. ⌜ r ≡ nodeOwn 0 (now (bytes .entry)) ⌝ }
+{
+    let nmt = nmt_of(bytes[NMT]);
+    both(nmt_number(nmt) == bytes[NMT], own_flag(bytes[VOLTAGE]))
+}
