@@ -262,6 +262,18 @@ static void refused(const struct bench *b, uint32_t refusal, const char *name)
     check(b->answer == 256 * refusal && are_same(b, &before), name);
 }
 
+/* Each of the three calls, with nothing else right either, is refused for that one reason. */
+static void all_refused(struct bench *b, uint32_t refusal, const char *power_up_name, const char *frame_name, const char *event_name)
+{
+    before = *b;
+    power_up(b, 0);
+    refused(b, refusal, power_up_name);
+    frame(b, 0x800, 0, 0);
+    refused(b, refusal, frame_name);
+    event(b, 0, 0, 0);
+    refused(b, refusal, event_name);
+}
+
 static void refusals_of_lengths(void)
 {
     static struct bench b;
@@ -271,26 +283,12 @@ static void refusals_of_lengths(void)
         uint32_t n = lengths[i];
         fresh(&b);
         b.dict.length = n;
-        if (n != CENDURAK_DICT_LEN) {
-            before = b;
-            power_up(&b, 0);
-            refused(&b, CENDURAK_BAD_DICT_LEN, "power-up, dictionary's length");
-            frame(&b, 0x800, 0, 0);
-            refused(&b, CENDURAK_BAD_DICT_LEN, "frame, dictionary's length");
-            event(&b, 0, 0, 0);
-            refused(&b, CENDURAK_BAD_DICT_LEN, "event, dictionary's length");
-        }
+        if (n != CENDURAK_DICT_LEN)
+            all_refused(&b, CENDURAK_BAD_DICT_LEN, "power-up, dictionary's length", "frame, dictionary's length", "event, dictionary's length");
         fresh(&b);
         b.out.length = n;
-        if (n < CENDURAK_OUT_LEN) {
-            before = b;
-            power_up(&b, 0);
-            refused(&b, CENDURAK_BAD_OUT_LEN, "power-up, output's length");
-            frame(&b, 0x800, 0, 0);
-            refused(&b, CENDURAK_BAD_OUT_LEN, "frame, output's length");
-            event(&b, 0, 0, 0);
-            refused(&b, CENDURAK_BAD_OUT_LEN, "event, output's length");
-        }
+        if (n < CENDURAK_OUT_LEN)
+            all_refused(&b, CENDURAK_BAD_OUT_LEN, "power-up, output's length", "frame, output's length", "event, output's length");
         fresh(&b);
         b.state.length = n;
         before = b;
