@@ -23,7 +23,7 @@ copied before d s i e hs hd =
     ∙ ap (λ (k : ℕ). set (paste before 0 s i) k (getD s i 0)) (sym (zero-add i))
     ∙ rw add-one (paste-suc before 0 s i 0 (omega arith) hs)
 
-pub length-defaults : length (packedDefaults 0 table) ≡ dictionaryLength
+length-defaults : length (packedDefaults 0 table) ≡ dictionaryLength
 unfolding packedDefaults table bytes
 length-defaults = refl
 

@@ -1,5 +1,4 @@
 pub mod Bytes
-pub mod Order
 pub mod LookUp
 pub mod Stands
 pub mod Filled

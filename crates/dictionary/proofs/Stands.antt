@@ -15,7 +15,6 @@ use Rattle.dictionary.specs.declared.Entry.{Entry}
 use Rattle.dictionary.specs.declared.Found.the-variants as found
 use Rattle.dictionary.specs.Sizes.{IsSize}
 use Rattle.dictionary.specs.Entries.{entryOf, foundOf}
-use Rattle.dictionary.proofs.LookUp.{looked-up-in}
 
 pub is-size : (t : rows.ValueType) → IsSize (rows.size t)
 is-size rows.u8 = inl refl
@@ -39,7 +38,7 @@ pub record Stands (i s : ℕ) (e : Entry) : Type 0 where
 pub stands-of : (i s : ℕ) (x : rows.Row) → rows.lookup i s ≡ rows.found x → Stands i s (entryOf x)
 unfolding values.read values.store
 stands-of i s x q =
-    let l : In x rows.table = looked-up-in i s x q in
+    let l : In x rows.table = packing.found-in i s q in
     record {
       row = x;
       finds = q;

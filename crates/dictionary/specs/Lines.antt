@@ -1,11 +1,10 @@
--- The lines of the flat table: what a line holds, and the last one up to a key.
+-- The lines of the flat table: what a line holds, and which one an index and subindex have.
 -- Assumes nothing.
 use Prim.Native.Nat.{ℕ, _/_, _%_}
 use mathlib.Core.List.{List, [], _∷_}
 use mathlib.Core.Bool.{cond}
-use lib.Dec.{eqb, leb}
-use Rattle.rules_dictionary.specs.Table.{Row, ValueType, u8, u16, u32, i8, i32, deviceType}
-use Rattle.rules_dictionary.proofs.Packing.{key}
+use lib.Dec.{eqb}
+use Rattle.rules_dictionary.specs.Table.{Row, ValueType, u8, u16, u32, i8, i32, Found, found, noObject, noSubindex, lookup}
 use Rattle.dictionary.specs.Entries.{entryOf}
 use Rattle.dictionary.specs.declared.Access.{Access}
 use Rattle.dictionary.specs.declared.Access.the-variants.{Constant, NodeWritten, Writable}
@@ -41,14 +40,13 @@ entryIn line =
       role = roleIn (line / 0x10000 % 16) (line / 0x1000 % 16);
     }
 
--- an index and subindex as one number, their type, and their entry
+-- a type, and the entry
 pub record Line : Type 0 where
-  pub key : ℕ
   pub type : ℕ
   pub entry : Entry
 
 abbrev pub lineIn : ℕ → Line
-lineIn line = record { key = line / 0x100000000; type = line / 0x10000000 % 16; entry = entryIn line }
+lineIn line = record { type = line / 0x10000000 % 16; entry = entryIn line }
 
 -- the size in bytes, and 8 for a sign
 abbrev pub typeOf : ValueType → ℕ
@@ -59,13 +57,18 @@ typeOf i8 = 9
 typeOf i32 = 12
 
 abbrev pub lineOf : Row → Line
-lineOf x = record { key = key x; type = typeOf (x .type); entry = entryOf x }
+lineOf x = record { type = typeOf (x .type); entry = entryOf x }
 
--- the last row whose key is not above that one, of rows in rising order; the first where there is none
-abbrev pub lastFrom : ℕ → Row → List Row → Row
-lastFrom k x [] = x
-lastFrom k x (y ∷ ys) = cond (leb (key y) k) (lastFrom k y ys) x
+-- the one line that a number holds; 0 holds none
+abbrev pub linesIn : ℕ → List Line
+linesIn line = cond (eqb line 0) [] (lineIn line ∷ [])
 
-unfoldable pub lastUpTo : ℕ → List Row → Row
-lastUpTo k [] = deviceType
-lastUpTo k (x ∷ xs) = lastFrom k x xs
+-- the one line of the row that was found; without a row there is none
+abbrev pub linesOf : Found → List Line
+linesOf (found x) = lineOf x ∷ []
+linesOf noObject = []
+linesOf noSubindex = []
+
+-- the line of an index and subindex, given as one number
+abbrev pub linesAt : ℕ → List Line
+linesAt key = linesOf (lookup (key / 256) (key % 256))

@@ -16,7 +16,7 @@ const ERROR_REGISTER: usize = 4;
 // Where the drive's objects begin, behind the communication objects.
 const DRIVE_OBJECTS: usize = 332;
 
-// The default bytes, an object a line, without the node-ID.
+// The default bytes, an object a line, without the node-ID: the packed defaults of the definitions' table, by one computed test.
 const DEFAULTS: [u8; 389] = *b"\
     \x92\x01\x02\0\
     \0\
@@ -58,19 +58,12 @@ const DEFAULTS: [u8; 389] = *b"\
     \0\0\0\0\
     \x05\0\0\0";
 
-// They are the packed defaults of the definitions' table: one computed test.
-fn defaults() -> [u8; 389]
-    ensures { λ r. ⌜ r ≡ packedDefaults 0 table ⌝ }
-{
-    DEFAULTS
-}
-
 // The first default bytes into the dictionary, so many; those behind them stay.
 fn write_first(d: &mut [u8], count: usize)
     requires { ⌜ (length (now d) ≡ dictionaryLength) × (count ≤ dictionaryLength) ⌝ }
     ensures { λ r. ⌜ now (d .exit) ≡ paste (now (d .entry)) 0 (packedDefaults 0 table) count ⌝ }
 {
-    let all = defaults();
+    let all = DEFAULTS;
     let mut i: usize = 0;
     while i < count {
         d[i] = all[i];

@@ -1,13 +1,15 @@
--- The invariant of the copy: so many bytes copied, and the rest is as before.
+-- The default bytes against the definitions' table, by computation; the invariant of the copy: so many bytes copied, and the rest is as before.
 -- Assumes nothing.
-use Prim.Native.Nat.{ℕ, _≤_, _-_}
+use Prim.Native.Nat.{_≤_, _-_}
 use native.Mathlib.Omega.{arith}
-use mathlib.Core.Path.{_≡_, refl, ap, _∙_}
-use mathlib.Core.List.{List}
+use mathlib.Core.Path.{_≡_, refl, _∙_}
 use borrow.Author.Needs.{needs}
 use lib.ListN.{length, length-set}
 use lib.Seq.{paste}
-use Rattle.dictionary.proofs.Filled.{copied, length-defaults}
+use Rattle.rules_dictionary.proofs.Defaults.{packedDefaults}
+use Rattle.rules_dictionary.specs.Numbers.{bytes}
+use Rattle.rules_dictionary.specs.Table.{table}
+use Rattle.dictionary.proofs.Filled.{copied}
 use Rattle.dictionary.proofs.defaults.write_first.Statement.{statement}
 use Rattle.dictionary.proofs.defaults.write_first.Tie as tie
 
@@ -16,9 +18,6 @@ Inv-loop d₀ count all i₀ d i = (d ≡ paste d₀ 0 all i) × (i ≤ count) �
 
 abbrev μ-loop : tie.MeasureT-loop
 μ-loop d₀ count all i₀ d i = count - i
-
-defaults-requires : tie.Need-defaults-requires Inv-loop μ-loop
-defaults-requires c κs = search needs
 
 loop-holds : tie.Need-loop-holds Inv-loop μ-loop
 loop-holds c = (refl, omega arith, refl)
@@ -38,21 +37,19 @@ loop-less c = search needs
 loop-again : tie.Need-loop-again Inv-loop μ-loop
 loop-again c =
     let l = c .before .loop in
-    let all = c .before .before .defaults in
-    let start = c .before .before .before .before in
-    let h : length (all .result) ≡ 389 = rw (all .ensures) length-defaults in
-    (copied (start .args .d .now) (l .d) (all .result) (l .i) (l .inv .0) (omega arith) (omega arith), omega arith, length-set (l .d) _ _ ∙ l .inv .2)
+    let start = c .before .before in
+    (copied (start .args .d .now) (l .d) _ (l .i) (l .inv .0) (omega arith) (omega arith), omega arith, length-set (l .d) _ _ ∙ l .inv .2)
 
 same-length : tie.Need-same-length Inv-loop μ-loop
 same-length c = search needs
 
 returns : tie.Need-returns Inv-loop μ-loop
+unfolding packedDefaults table bytes
 returns c =
     let l = c .before .loop in
-    let all = c .before .before .defaults in
-    let start = c .before .before .before .before in
+    let start = c .before .before in
     let z : l .i ≡ start .args .count = omega arith in
-    rw z at (l .inv .0) ∙ ap (λ (s : List ℕ). paste (start .args .d .now) 0 s (start .args .count)) (all .ensures)
+    rw z at (l .inv .0)
 
 pub write-first-spec : {M : Type 1} → statement M
 write-first-spec =
@@ -60,7 +57,6 @@ write-first-spec =
     (tie.spec
     Inv-loop
     μ-loop
-    defaults-requires
     loop-holds
     array-read-d
     slice-write-d
