@@ -14,7 +14,7 @@ use Rattle.theorems.proofs.Booleans.{clash, or-false-right, and-then-false}
 use Rattle.theorems.proofs.Identifiers.{badAlone}
 use Rattle.legality.specs.Keys.{transmitWay, wayOf, illegalKey, pastLast, wordKey, isLegalKey}
 
-inside : (low high v : ℕ) → low ≤ v → v ≤ high → between low high v ≡ true
+pub inside : (low high v : ℕ) → low ≤ v → v ≤ high → between low high v ≡ true
 inside low high v a b = and-both _ _ (le-leb low v a) (le-leb v high b)
 
 outside : (low high v : ℕ) → (low ≤ v → v ≤ high → ⊥) → between low high v ≡ false

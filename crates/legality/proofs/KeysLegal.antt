@@ -109,7 +109,7 @@ module _ (d : List ℕ) (long : length d ≡ dictionaryLength) (bytes : areBytes
   keys-legal = both-ways _ _ (λ h. fits-legal (from-keys h)) (λ h. to-keys (legal-fits h))
 
   -- the same, by direction
-  by-keys : (a b c e : ℕ) → (a ∷ b ∷ c ∷ e ∷ []) ≡ map (keyIn d) receivePdos → (fourPass isLegalKey a b c e && transmitLegal d a b c e) ≡ identifiersLegal d
+  pub by-keys : (a b c e : ℕ) → (a ∷ b ∷ c ∷ e ∷ []) ≡ map (keyIn d) receivePdos → (fourPass isLegalKey a b c e && transmitLegal d a b c e) ≡ identifiersLegal d
   unfolding transmitLegal
   by-keys a b c e r =
       sym (and-assoc (fourPass isLegalKey a b c e) (fourPass isLegalKey (keyIn d 4) (keyIn d 5) (keyIn d 6) (keyIn d 7)) (eightDiffer a b c e (keyIn d 4) (keyIn d 5) (keyIn d 6) (keyIn d 7)))

@@ -3,7 +3,7 @@
 use Prim.Native.Nat.{ℕ, _+_, _-_, _*_, _^_}
 use mathlib.Core.List.{List, [], _∷_}
 use mathlib.Core.Bool.{Bool, true, cond, not, _&&_}
-use lib.Dec.{eqb}
+use lib.Dec.{eqb, leb, ltb}
 use Rattle.rules_dictionary.specs.Numbers.{all, between}
 use Rattle.rules_dictionary.specs.Table.{directionOf, byDirection, identifier}
 use Rattle.rules_dictionary.specs.Values.{read}
@@ -63,3 +63,19 @@ eightDiffer a b c d e f g h = (fourDiffer a b c d && fourDiffer e f g h) && four
 unfoldable pub transmitLegal : List ℕ → ℕ → ℕ → ℕ → ℕ → Bool
 transmitLegal k a b c d =
     fourPass isLegalKey (keyIn k 4) (keyIn k 5) (keyIn k 6) (keyIn k 7) && eightDiffer a b c d (keyIn k 4) (keyIn k 5) (keyIn k 6) (keyIn k 7)
+
+-- ---- in the order of the defaults
+
+-- eight numbers rise, from a first one to a last
+abbrev pub risesTo : ℕ → ℕ → ℕ → ℕ → ℕ → ℕ → ℕ → ℕ → ℕ → ℕ → Bool
+risesTo least most a b c d e f g h = (leb least a && (ltb a b && ltb b c)) && ((ltb c d && (ltb d e && ltb e f)) && (ltb f g && (ltb g h && leb h most)))
+
+-- a receive PDO's word with bit 30 set, as a transmit PDO's has it
+abbrev pub asSent : List ℕ → ℕ → ℕ
+asSent d p = read d (identifier p) + transmitWay
+
+-- the words of transmit PDO 1, receive PDO 1, transmit PDO 2 and so on, bit 30 of all set, rise from the first legal one to the last
+unfoldable pub inOrder : List ℕ → Bool
+inOrder d =
+    risesTo (transmitWay + firstIdentifier) (transmitWay + lastIdentifier)
+    (read d (identifier 4)) (asSent d 0) (read d (identifier 5)) (asSent d 1) (read d (identifier 6)) (asSent d 2) (read d (identifier 7)) (asSent d 3)

@@ -1,5 +1,6 @@
-// The PDO identifiers. Each word gets a key: its identifier, counted from the first legal one, where it is a valid word, a number of
-// its PDO's own where it is an invalid one, and the last number where it is illegal. The words are legal where no key is that number and no two are alike.
+// The PDO identifiers. Most nodes keep them in the order of the defaults, which a few comparisons tell. Otherwise each word gets a key:
+// its identifier, counted from the first legal one, where it is a valid word, a number of its PDO's own where it is an invalid one, and
+// the last number where it is illegal. The words are legal where no key is that number and no two are alike.
 use dictionary::read4;
 ghost use mathlib.Core.Path.{_≡_};
 ghost use Prim.Native.Nat.{_+_, _<_, _≤_};
@@ -7,7 +8,7 @@ ghost use lib.ListN.{length};
 ghost use Rattle.rules_dictionary.specs.Numbers.{value, part};
 ghost use Rattle.rules_dictionary.specs.Table.{dictionaryLength};
 ghost use Rattle.rules.specs.Sound.{identifiersLegal};
-ghost use Rattle.legality.specs.Keys.{transmitWay, wordKey, isOther, fourPass, fourDiffer, transmitLegal};
+ghost use Rattle.legality.specs.Keys.{transmitWay, wordKey, isOther, fourPass, fourDiffer, transmitLegal, inOrder};
 
 // Where the words stand.
 const RECEIVE_1: usize = 21;
@@ -30,6 +31,11 @@ const TRANSMIT_4: usize = 195;
 const RECEIVE: u32 = 0;
 
 const TRANSMIT: u32 = 0x4000_0000;
+
+// The first legal valid word of a transmit PDO, and the last.
+const FIRST: u64 = 0x4000_0181;
+
+const LAST: u64 = 0x4000_057F;
 
 // The key of an illegal word.
 const ILLEGAL: u32 = 0x1000;
@@ -110,8 +116,8 @@ fn transmit_legal(d: &[u8], r: Keys) -> bool
     (differ(r) & differ(t)) & apart(r, t)
 }
 
-// Whether the PDO identifiers are legal.
-pub fn identifiers_legal(d: &[u8]) -> bool
+// Whether the PDO identifiers are legal, by their keys.
+fn identifiers_apart(d: &[u8]) -> bool
     requires { ⌜ length (now d) ≡ dictionaryLength ⌝ }
     ensures { λ r. ⌜ r ≡ identifiersLegal (now (d .entry)) ⌝ }
 {
@@ -138,4 +144,50 @@ pub fn identifiers_legal(d: &[u8]) -> bool
         d: fourth,
     };
     transmit_legal(d, r)
+}
+
+// A receive PDO's word at a place as if it were a transmit PDO's.
+fn receive_at(d: &[u8], place: usize) -> u64
+    requires { ⌜ place + 4 ≤ length (now d) ⌝ }
+    ensures { λ r. ⌜ r ≡ value (part place 4 (now (d .entry))) + transmitWay ⌝ }
+{
+    (read4(d, place) as u64) + (TRANSMIT as u64)
+}
+
+// A transmit PDO's word at a place.
+fn transmit_at(d: &[u8], place: usize) -> u64
+    requires { ⌜ place + 4 ≤ length (now d) ⌝ }
+    ensures { λ r. ⌜ r ≡ value (part place 4 (now (d .entry))) ⌝ }
+{
+    read4(d, place) as u64
+}
+
+// Whether all words are valid and legal, with identifiers that rise from transmit PDO 1 over receive PDO 1 and transmit PDO 2 on.
+fn are_in_order(d: &[u8]) -> bool
+    requires { ⌜ length (now d) ≡ dictionaryLength ⌝ }
+    ensures { λ r. ⌜ r ≡ inOrder (now (d .entry)) ⌝ }
+{
+    let first = receive_at(d, RECEIVE_1);
+    let second = receive_at(d, RECEIVE_2);
+    let third = receive_at(d, RECEIVE_3);
+    let fourth = receive_at(d, RECEIVE_4);
+    let fifth = transmit_at(d, TRANSMIT_1);
+    let sixth = transmit_at(d, TRANSMIT_2);
+    let seventh = transmit_at(d, TRANSMIT_3);
+    let eighth = transmit_at(d, TRANSMIT_4);
+    let low = (FIRST <= fifth) & ((fifth < first) & (first < sixth));
+    let middle = (sixth < second) & ((second < seventh) & (seventh < third));
+    let high = (third < eighth) & ((eighth < fourth) & (fourth <= LAST));
+    low & (middle & high)
+}
+
+// Whether the PDO identifiers are legal.
+pub fn identifiers_legal(d: &[u8]) -> bool
+    requires { ⌜ length (now d) ≡ dictionaryLength ⌝ }
+    ensures { λ r. ⌜ r ≡ identifiersLegal (now (d .entry)) ⌝ }
+{
+    if are_in_order(d) {
+        return true;
+    }
+    identifiers_apart(d)
 }

@@ -31,7 +31,7 @@ append-bytes : (xs ys : List ℕ) → areBytes xs ≡ true → areBytes ys ≡ t
 append-bytes [] ys a b = b
 append-bytes (x ∷ xs) ys a b = and-both _ _ (and-left (isByte x) (areBytes xs) a) (append-bytes xs ys (and-right (isByte x) (areBytes xs) a) b)
 
-value-append : (xs ys : List ℕ) → value (xs ++ ys) ≡ value xs + 256 ^ length xs * value ys
+pub value-append : (xs ys : List ℕ) → value (xs ++ ys) ≡ value xs + 256 ^ length xs * value ys
 unfolding value
 value-append [] ys = omega arith
 value-append (x ∷ xs) ys =

@@ -1,14 +1,14 @@
 -- Slots with nothing in them, and the first two with nothing behind them.
 -- Assumes nothing.
-use Prim.Native.Nat.{ℕ, zero, suc, _+_, _-_, _<_, _≤_}
+use Prim.Native.Nat.{ℕ, suc, _+_, _-_, _<_, _≤_}
 use native.Mathlib.Numerals.{add-one}
 use native.Mathlib.Omega.{arith}
 use mathlib.Core.Path.{_≡_, refl, sym, _∙_, ap}
-use mathlib.Core.Bool.{Bool, true, false, _&&_, false≢true, and-true, and-assoc}
+use mathlib.Core.Bool.{Bool, true, false, _&&_, false≢true, and-true, and-assoc, and-comm}
 use mathlib.Core.List.{List, [], _∷_}
-use borrow.Author.Tests.{eqb-true, ne-eqb}
-use lib.Dec.{eqb, leb}
-use lib.ListN.{length, drop, getD, drop-of-length-le}
+use borrow.Author.Tests.{eqb-true}
+use lib.Dec.{eqb, leb, ltb}
+use lib.ListN.{length, drop, getD, length-drop, drop-of-length-le}
 use lib.Seq.{drop-cons}
 use Rattle.rules_dictionary.specs.declared.Move.{Move}
 use Rattle.rules_dictionary.specs.Numbers.{value, part}
@@ -16,7 +16,7 @@ use Rattle.rules_dictionary.specs.Table.{Direction}
 use Rattle.rules_dictionary.specs.Plans.{noMove}
 use Rattle.rules_dictionary.proofs.Tests.{and-left, and-right}
 use Rattle.rules.specs.Outcome.{sameMove, mostData}
-use Rattle.plans.specs.Slots.{wordsFrom, slotSound, slotsSound, slotsEmpty, twoSound}
+use Rattle.plans.specs.Slots.{wordsFrom, slotSound, slotsSound, slotsEmpty}
 use Rattle.plans.proofs.Slotted.{more-words, slots-step}
 
 empty-step : (k at : ℕ) (d : List ℕ) (ms : List Move) → k < 8 → k < length ms →
@@ -25,30 +25,63 @@ empty-step : (k at : ℕ) (d : List ℕ) (ms : List Move) → k < 8 → k < leng
 unfolding slotsEmpty
 empty-step k at d ms h l = rw (more-words 8 k at d h, drop-cons ms k noMove l, ← add-one k) refl
 
--- the same with what came before: the words' sum, and whether the moves are spare
-sum-zero : (a b : ℕ) → eqb (a + b) 0 ≡ (eqb a 0 && eqb b 0)
-sum-zero zero b = let e : 0 + b ≡ b = omega arith in rw e
-sum-zero (suc a) b = rw (ne-eqb (suc a + b) 0 (λ e. absurd (omega arith)), ne-eqb (suc a) 0 (λ e. absurd (omega arith)))
+-- as the code tests them: three words, three words, three moves, three moves
+module _ (d : List ℕ) (ms : List Move) (l : length ms ≡ 8) where
+  abbrev zeroAt : ℕ → Bool
+  zeroAt at = eqb (value (part at 4 d)) 0
 
-pub rest-step : (words : ℕ) (spare : Bool) (k at : ℕ) (d : List ℕ) (ms : List Move) → k < 8 → k < length ms →
-    (eqb (words + value (part at 4 d)) 0 && (spare && sameMove (getD ms k noMove) noMove) && slotsEmpty (wordsFrom (8 - (k + 1)) (at + 4) d) (drop (k + 1) ms))
-    ≡ (eqb words 0 && spare && slotsEmpty (wordsFrom (8 - k) at d) (drop k ms))
-rest-step words spare k at d ms h l =
-    rw (empty-step k at d ms h l, sum-zero words (value (part at 4 d)))
-    (shuffled (eqb words 0) (eqb (value (part at 4 d)) 0) spare (sameMove (getD ms k noMove) noMove) (slotsEmpty (wordsFrom (8 - (k + 1)) (at + 4) d) (drop (k + 1) ms)))
-  where
-    swap : (a b c : Bool) → (a && (b && c)) ≡ (b && (a && c))
-    swap true b c = refl
-    swap false true c = refl
-    swap false false c = refl
+  abbrev spareAt : ℕ → Bool
+  spareAt k = sameMove (getD ms k noMove) noMove
 
-    shuffled : (a b s m r : Bool) → ((a && b) && (s && m) && r) ≡ (a && s && ((b && m) && r))
-    shuffled a b s m r = simp (and-assoc, swap)
+  swap : (a b c : Bool) → (a && (b && c)) ≡ (b && (a && c))
+  swap true b c = refl
+  swap false true c = refl
+  swap false false c = refl
 
--- nothing is left behind the eighth
-pub rest-end : (b : Bool) (at : ℕ) (d : List ℕ) (ms : List Move) → length ms ≡ 8 → (b && slotsEmpty (wordsFrom (8 - 8) at d) (drop 8 ms)) ≡ b
-unfolding slotsEmpty wordsFrom
-rest-end b at d ms l = rw (drop-of-length-le ms {i = 8} (omega arith)) (and-true b)
+  shuffled : (a b c e f g h i j k m n : Bool) →
+      (((a && (b && c)) && (e && (f && g))) && ((h && (i && j)) && (k && (m && n))))
+      ≡ ((a && h) && ((b && i) && ((c && j) && ((e && k) && ((f && m) && (g && n))))))
+  shuffled a b c e f g h i j k m n = simp (and-assoc, and-comm, swap)
+
+  none-left : (at : ℕ) → slotsEmpty (wordsFrom (8 - 8) at d) (drop 8 ms) ≡ true
+  unfolding slotsEmpty wordsFrom
+  none-left at = rw (drop-of-length-le ms {i = 8} (omega arith))
+
+  pub rest-empty : (at far : ℕ) → far ≡ at + 12 →
+      (((zeroAt at && (zeroAt (at + 4) && zeroAt (at + 8))) && (zeroAt far && (zeroAt (far + 4) && zeroAt (far + 8))))
+      && ((spareAt 2 && (spareAt 3 && spareAt 4)) && (spareAt 5 && (spareAt 6 && spareAt 7))))
+      ≡ slotsEmpty (wordsFrom 6 at d) (drop 2 ms)
+  rest-empty at far e =
+      let third : at + 4 + 4 ≡ at + 8 = omega arith in
+      let fourth : at + 8 + 4 ≡ far = omega arith in
+      let sixth : far + 4 + 4 ≡ far + 8 = omega arith in
+      shuffled (zeroAt at) (zeroAt (at + 4)) (zeroAt (at + 8)) (zeroAt far) (zeroAt (far + 4)) (zeroAt (far + 8))
+      (spareAt 2) (spareAt 3) (spareAt 4) (spareAt 5) (spareAt 6) (spareAt 7)
+      ∙ sym (empty-step 2 at d ms (omega arith) (omega arith)
+      ∙ rw (
+        empty-step 3 (at + 4) d ms (omega arith) (omega arith),
+        third,
+        empty-step 4 (at + 8) d ms (omega arith) (omega arith),
+        fourth,
+        empty-step 5 far d ms (omega arith) (omega arith),
+        empty-step 6 (far + 4) d ms (omega arith) (omega arith),
+        sixth,
+        empty-step 7 (far + 8) d ms (omega arith) (omega arith),
+        none-left (far + 8 + 4),
+        and-true (zeroAt (far + 8) && spareAt 7),
+      ))
+
+-- there are as many words as moves
+empty-length : (ws : List ℕ) (ms : List Move) → slotsEmpty ws ms ≡ true → length ws ≡ length ms
+unfolding slotsEmpty
+empty-length [] [] h = refl
+empty-length [] (m ∷ ms) h = absurd (false≢true h)
+empty-length (w ∷ ws) [] h = absurd (false≢true h)
+empty-length (w ∷ ws) (m ∷ ms) h = ap suc (empty-length ws ms (and-right (eqb w 0 && sameMove m noMove) (slotsEmpty ws ms) h))
+
+pub eight-slots : (at : ℕ) (d : List ℕ) (ms : List Move) → slotsEmpty (wordsFrom 6 at d) (drop 2 ms) ≡ true → length ms ≡ 8
+unfolding wordsFrom
+eight-slots at d ms h = omega (arith, empty-length (wordsFrom 6 at d) (drop 2 ms) h, length-drop 2 ms)
 
 -- empty slots past the count are sound, and map nothing
 empty-sound : (way : Direction) (used : ℕ) (ws : List ℕ) (ms : List Move) → slotsEmpty ws ms ≡ true → slotsSound way 0 used ws ms ≡ leb used mostData
@@ -66,8 +99,9 @@ empty-sound way used (w ∷ ws) (m ∷ ms) h =
 
 -- THE LAW: with nothing behind the first two slots they are all that is to test
 pub two-sound : (way : Direction) (n first : ℕ) (d : List ℕ) (ms : List Move) → n ≤ 2 → length ms ≡ 8 → slotsEmpty (wordsFrom 6 (first + 8) d) (drop 2 ms) ≡ true →
-    twoSound way n first d ms ≡ slotsSound way n 0 (wordsFrom 8 first d) ms
-unfolding twoSound
+    slotsSound way n 0 (wordsFrom 8 first d) ms
+    ≡ (slotSound way (ltb 0 n) (value (part first 4 d)) (getD ms 0 noMove)
+    && (slotSound way (ltb 1 n) (value (part (first + 4) 4 d)) (getD ms 1 noMove) && leb (getD ms 0 noMove .size + getD ms 1 noMove .size) mostData))
 two-sound way n first d ms h l z =
     let one = getD ms 0 noMove .size in
     let two = getD ms 1 noMove .size in
@@ -75,6 +109,6 @@ two-sound way n first d ms h l z =
     let none : n - 2 ≡ 0 = omega arith in
     let at : first + 4 + 4 ≡ first + 8 = omega arith in
     let used : 0 + one ≡ one = omega arith in
-    sym (ap (λ (m : ℕ). slotsSound way m 0 (wordsFrom 8 first d) ms) (sym all)
+    ap (λ (m : ℕ). slotsSound way m 0 (wordsFrom 8 first d) ms) (sym all)
     ∙ slots-step way n 0 0 first d ms (omega arith) (omega arith)
-    ∙ rw (used, slots-step way n 1 one (first + 4) d ms (omega arith) (omega arith), none, at, empty-sound way (one + two) (wordsFrom 6 (first + 8) d) (drop 2 ms) z))
+    ∙ rw (used, slots-step way n 1 one (first + 4) d ms (omega arith) (omega arith), none, at, empty-sound way (one + two) (wordsFrom 6 (first + 8) d) (drop 2 ms) z)

@@ -57,7 +57,7 @@ same-bytes (x ∷ xs) (y ∷ ys) h =
     let r : xs ≡ ys = same-bytes xs ys (and-right (eqb x y) _ h) in
     rw (e, r)
 
-bytes-same : (xs : List ℕ) → sameBy eqb xs xs ≡ true
+pub bytes-same : (xs : List ℕ) → sameBy eqb xs xs ≡ true
 bytes-same [] = refl
 bytes-same (x ∷ xs) = and-both _ _ (eq-eqb x x refl) (bytes-same xs)
 

@@ -5,3 +5,5 @@ pub mod Legality
 pub mod Joining
 pub mod Assembly
 pub mod Worked
+pub mod UsualMapping
+pub mod UsualFrame

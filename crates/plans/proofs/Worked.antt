@@ -37,7 +37,7 @@ as-move e f = rw (e, f)
 as-plan : {x y : ℕ} {u v : List Move} → x ≡ y → u ≡ v → _≡_ {A = Plan} (record { count = x; moves = u }) (record { count = y; moves = v })
 as-plan e f = rw (e, f)
 
-same-move : (a b : Move) → sameMove a b ≡ true → a ≡ b
+pub same-move : (a b : Move) → sameMove a b ≡ true → a ≡ b
 same-move a b h =
     let p : a .place ≡ b .place = eqb-true _ _ (and-left (eqb (a .place) (b .place)) _ h) in
     as-move p (eqb-true _ _ (and-right (eqb (a .place) (b .place)) _ h))

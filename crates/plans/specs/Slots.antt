@@ -3,8 +3,7 @@
 use Prim.Native.Nat.{ℕ, zero, suc, _+_}
 use mathlib.Core.List.{List, [], _∷_, map}
 use mathlib.Core.Bool.{Bool, true, false, cond, _&&_, _||_}
-use lib.Dec.{eqb, leb, ltb}
-use lib.ListN.{getD}
+use lib.Dec.{eqb, leb}
 use Rattle.rules_dictionary.specs.declared.Move.{Move}
 use Rattle.rules_dictionary.specs.Numbers.{value, part, padded}
 use Rattle.rules_dictionary.specs.Table.{Direction, mostMoves}
@@ -38,14 +37,6 @@ slotsEmpty [] [] = true
 slotsEmpty [] (m ∷ ms) = false
 slotsEmpty (w ∷ ws) [] = false
 slotsEmpty (w ∷ ws) (m ∷ ms) = (eqb w 0 && sameMove m noMove) && slotsEmpty ws ms
-
--- the first two slots of a count, where nothing stands behind them
-unfoldable pub twoSound : Direction → ℕ → ℕ → List ℕ → List Move → Bool
-twoSound way n first d ms =
-    let one = getD ms 0 noMove in
-    let two = getD ms 1 noMove in
-    slotSound way (ltb 0 n) (value (part first 4 d)) one
-    && (slotSound way (ltb 1 n) (value (part (first + 4) 4 d)) two && leb (one .size + two .size) mostData)
 
 -- the moves that so many words from a place on name, then spare slots
 unfoldable pub movesNamed : Direction → ℕ → ℕ → List ℕ → List Move

@@ -27,7 +27,7 @@ fn wide8(x: u8) -> u64
 }
 
 // The value of eight bytes.
-fn word_of(x: [u8; 8]) -> u64
+pub fn word_of(x: [u8; 8]) -> u64
     ensures { λ r. ⌜ (r ≡ value x) × ((areBytes x ≡ true) × (length x ≡ 8)) ⌝ }
 {
     let high = wide8(x[4]) + 256 * (wide8(x[5]) + 256 * (wide8(x[6]) + 256 * wide8(x[7])));

@@ -7,15 +7,16 @@ use rules_dictionary::Plan;
 ghost use mathlib.Core.Path.{_≡_};
 ghost use mathlib.Core.Bool.{true, false, _&&_};
 ghost use Prim.Native.Nat.{_+_, _<_, _≤_};
-ghost use lib.Dec.{leb};
+ghost use lib.Dec.{eqb, leb};
 ghost use lib.ListN.{length, drop};
 ghost use Rattle.rules_dictionary.specs.Table.{mapCount, mappingPlace, mostMoves};
 ghost use Rattle.rules_dictionary.specs.Values.{read};
-ghost use Rattle.rules_dictionary.specs.Plans.{mapped, planFor};
+ghost use Rattle.rules_dictionary.specs.Numbers.{value, part};
+ghost use Rattle.rules_dictionary.specs.Plans.{mapped, planFor, noMove};
 ghost use Rattle.rules.specs.Outcome.{sameMove, samePlan};
 ghost use Rattle.rules.specs.Sound.{mappingLegal};
 ghost use Rattle.plans.specs.Words.{wayOf};
-ghost use Rattle.plans.specs.Slots.{wordsFrom, slotSound, slotsSound, slotsEmpty, twoSound, movesNamed};
+ghost use Rattle.plans.specs.Slots.{wordsFrom, slotSound, slotsSound, slotsEmpty, movesNamed};
 
 // Where a PDO's mapping stands: its count, and behind it the eight mapping words.
 pub fn mapping_place(p: usize) -> usize
@@ -29,14 +30,14 @@ pub fn mapping_place(p: usize) -> usize
 }
 
 // Whether two moves are the same.
-fn same_move(a: Move, b: Move) -> bool
+pub fn same_move(a: Move, b: Move) -> bool
     ensures { λ r. ⌜ r ≡ sameMove a b ⌝ }
 {
     (a.place == b.place) & (a.size == b.size)
 }
 
 // Whether a mapping word within the count names the move that is kept for it.
-fn mapped_sound(word: u32, kept: Move, transmit: bool) -> bool
+pub fn mapped_sound(word: u32, kept: Move, transmit: bool) -> bool
     ensures { λ r. ⌜ r ≡ slotSound (wayOf transmit) true word kept ⌝ }
 {
     let named = move_of(word, transmit);
@@ -91,54 +92,30 @@ fn all_slots_sound(d: &[u8], first: usize, count: usize, moves: [Move; 8], trans
     used <= 8
 }
 
+// Whether three mapping words in a row are zero.
+fn are_zero(d: &[u8], at: usize) -> bool
+    requires { ⌜ (at + 12 ≤ length (now d)) × (at < 500) ⌝ }
+    ensures { λ r. ⌜ r ≡ (eqb (value (part at 4 (now (d .entry)))) 0 && (eqb (value (part (at + 4) 4 (now (d .entry)))) 0 && eqb (value (part (at + 8) 4 (now (d .entry)))) 0)) ⌝ }
+{
+    (read4(d, at) == 0) & ((read4(d, at + 4) == 0) & (read4(d, at + 8) == 0))
+}
+
+// Whether no move is kept in a slot.
+pub fn is_spare(m: Move) -> bool
+    ensures { λ r. ⌜ r ≡ sameMove m noMove ⌝ }
+{
+    (m.place == 0) & (m.size == 0)
+}
+
 // Whether the slots from the third on are empty: their mapping words zero, and no move kept.
-fn is_rest_empty(d: &[u8], first: usize, moves: [Move; 8]) -> bool
+pub fn is_rest_empty(d: &[u8], first: usize, moves: [Move; 8]) -> bool
     requires { ⌜ (first + 32 ≤ length (now d)) × (first < 400) ⌝ }
     ensures { λ r. ⌜ (r ≡ slotsEmpty (wordsFrom 6 (first + 8) (now (d .entry))) (drop 2 moves)) × (length moves ≡ 8) ⌝ }
 {
-    let mut at = first + 8;
-    let mut words: u64 = 0;
-    let mut spare = true;
-    let mut k: usize = 2;
-    while k < 8 {
-        let kept = moves[k];
-        words += read4(d, at) as u64;
-        spare = spare & same_move(kept, Move { place: 0, size: 0 });
-        at += 4;
-        k += 1;
-    }
-    (words == 0) & spare
-}
-
-// Whether the first two slots go with the count, and map eight bytes at the most.
-fn are_two_sound(d: &[u8], first: usize, count: usize, moves: [Move; 8], transmit: bool) -> bool
-    requires { ⌜ (first + 32 ≤ length (now d)) × (first < 400) ⌝ }
-    ensures { λ r. ⌜ r ≡ twoSound (wayOf transmit) count first (now (d .entry)) moves ⌝ }
-{
-    let one = moves[0];
-    let two = moves[1];
-    if !slot_sound(read4(d, first), one, 0 < count, transmit) {
-        return false;
-    }
-    if !slot_sound(read4(d, first + 4), two, 1 < count, transmit) {
-        return false;
-    }
-    (one.size as usize) + (two.size as usize) <= 8
-}
-
-// Whether the eight mapping words from a place on go with the kept moves, and map eight bytes at the most. Most PDOs map one
-// object or two, and have nothing behind them.
-fn slots_sound(d: &[u8], first: usize, count: usize, moves: [Move; 8], transmit: bool) -> bool
-    requires { ⌜ (first + 32 ≤ length (now d)) × (first < 400) ⌝ }
-    ensures { λ r. ⌜ (r ≡ slotsSound (wayOf transmit) count 0 (wordsFrom 8 first (now (d .entry))) moves) × (length moves ≡ 8) ⌝ }
-{
-    if 2 < count {
-        return all_slots_sound(d, first, count, moves, transmit);
-    }
-    if is_rest_empty(d, first, moves) {
-        return are_two_sound(d, first, count, moves, transmit);
-    }
-    all_slots_sound(d, first, count, moves, transmit)
+    let words = are_zero(d, first + 8) & are_zero(d, first + 20);
+    let near = is_spare(moves[2]) & (is_spare(moves[3]) & is_spare(moves[4]));
+    let far = is_spare(moves[5]) & (is_spare(moves[6]) & is_spare(moves[7]));
+    words & (near & far)
 }
 
 // Whether a PDO's mapping is legal, its count at most eight, and the kept plan the one that it gives.
@@ -155,7 +132,7 @@ pub fn mapping_sound(d: &[u8], p: usize, plan: Plan) -> bool
         return false;
     }
     let moves = plan.moves;
-    slots_sound(d, place + 1, count as usize, moves, 4 <= p)
+    all_slots_sound(d, place + 1, count as usize, moves, 4 <= p)
 }
 
 // The moves that the first mapping words from a place on name, then spare slots.

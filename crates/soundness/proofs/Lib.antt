@@ -4,3 +4,5 @@ pub mod Laws
 pub mod Holding
 pub mod Pending
 pub mod Parts
+pub mod Elements
+pub mod Usually

@@ -91,3 +91,8 @@ module _ (s : State) (d : List ℕ) where
       rw (plans-kept, ← ready-kept)
       (ordered (isNodeId (s .node .id)) (constantsAsListed (s .node .id) d) (valuesInRange d) (mappingsLegal d) (identifiersLegal d) (statusAsMade s d) (modeAsMade s d)
       (plansFresh s d) (readyFresh s d) (driveSound (s .axis .drive) d) (heartbeatSound (s .node .heartbeat) d) (waitingSound s d) (all (fewMoves d) pdos) few-in-range)
+
+  -- the PDOs' clauses are all that is left behind the others
+  pub by-pdos : {r : Bool} → isNodeId (s .node .id) ≡ true → (constantsAsListed (s .node .id) d && (valuesInRange d && identifiersLegal d)) ≡ true → driveClauses s d ≡ true →
+      r ≡ pdoClauses s d → r ≡ sound s d
+  by-pdos i l v e = sym (sound-parts ∙ rw (i, l, v, ← e))

@@ -1,3 +1,4 @@
 pub mod Kept
 pub mod Waiting
 pub mod Parts
+pub mod Usual

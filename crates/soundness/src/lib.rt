@@ -4,6 +4,7 @@
 mod axis; // the drive, 6041h, 6061h and the heartbeat count
 mod kept; // plans and ready frames beside the mappings
 mod pdos; // whether a PDO works, and its type
+mod usual; // what most nodes keep for their PDOs
 mod waiting; // what waits for SYNC: counts, due marks, held frames
 
 use axis::is_drive_clear;
@@ -13,12 +14,18 @@ use legality::dictionary_legal;
 pub use pdos::type_of;
 pub use pdos::works;
 use state::State;
+use usual::are_frames_usual;
+use usual::are_plans_usual;
+use usual::does_nothing_wait;
 use waiting::is_waiting_sound;
 ghost use mathlib.Core.Path.{_≡_};
+ghost use mathlib.Core.Bool.{true};
 ghost use lib.ListN.{length};
 ghost use Rattle.rules_dictionary.specs.TheNode.{isNodeId};
-ghost use Rattle.rules.specs.Sound.{sound};
+ghost use Rattle.rules.specs.Sound.{waitingSound, sound};
+ghost use Rattle.soundness.specs.Kept.{plansKept, readyKept};
 ghost use Rattle.soundness.specs.Parts.{pdoClauses};
+ghost use Rattle.soundness.specs.Usual.{plansUsual};
 
 // Whether mappings are legal, and plans, ready frames and what waits for SYNC as they should be.
 fn are_pdos_clear(s: State, d: &[u8]) -> bool
@@ -42,6 +49,45 @@ fn are_pdos_clear(s: State, d: &[u8]) -> bool
     is_waiting_sound(nmt, d, plans, counts, due, held)
 }
 
+// Whether every mapping is usual, with its kept plan.
+fn has_usual_plans(s: State, d: &[u8]) -> bool
+    requires { ⌜ length (now d) ≡ 389 ⌝ }
+    ensures { λ r. ⌜ (r ≡ true → plansUsual (now (d .entry)) (s .axis .plans) ≡ true) ⌝ }
+{
+    let axis = s.axis;
+    let plans = axis.plans;
+    are_plans_usual(d, plans)
+}
+
+// Whether the ready frames are those of usual mappings.
+fn has_usual_frames(s: State, d: &[u8]) -> bool
+    requires { ⌜ (length (now d) ≡ 389) × (plansUsual (now d) (s .axis .plans) ≡ true) ⌝ }
+    ensures { λ r. ⌜ (r ≡ true → readyKept (now (d .entry)) (s .axis .ready) ≡ true) ⌝ }
+{
+    let axis = s.axis;
+    let plans = axis.plans;
+    let ready = axis.ready;
+    are_frames_usual(d, plans, ready)
+}
+
+// Whether all that waits for SYNC is sound, mostly nothing; the plans are known to be the mappings'.
+fn does_wait_soundly(s: State, d: &[u8]) -> bool
+    requires { ⌜ (length (now d) ≡ 389) × (plansKept (now d) (s .axis .plans) ≡ true) ⌝ }
+    ensures { λ r. ⌜ r ≡ waitingSound s (now (d .entry)) ⌝ }
+{
+    let node = s.node;
+    let nmt = node.nmt;
+    let axis = s.axis;
+    let counts = axis.counts;
+    let due = axis.due;
+    let held = axis.held;
+    if does_nothing_wait(counts, due, held) {
+        return true;
+    }
+    let plans = axis.plans;
+    is_waiting_sound(nmt, d, plans, counts, due, held)
+}
+
 // "N legal": 1 to 127.
 fn is_node_id(n: u8) -> bool
     ensures { λ r. ⌜ r ≡ isNodeId n ⌝ }
@@ -49,7 +95,7 @@ fn is_node_id(n: u8) -> bool
     (1 <= n) & (n <= 127)
 }
 
-// Whether state and dictionary are sound.
+// Whether state and dictionary are sound; what is kept for the PDOs is told in fewer steps where their mappings are usual.
 pub fn is_sound(s: State, d: &[u8]) -> bool
     requires { ⌜ length (now d) ≡ 389 ⌝ }
     ensures { λ r. ⌜ r ≡ sound s (now (d .entry)) ⌝ }
@@ -64,5 +110,11 @@ pub fn is_sound(s: State, d: &[u8]) -> bool
     if !is_drive_clear(s, d) {
         return false;
     }
-    are_pdos_clear(s, d)
+    if !has_usual_plans(s, d) {
+        return are_pdos_clear(s, d);
+    }
+    if !has_usual_frames(s, d) {
+        return are_pdos_clear(s, d);
+    }
+    does_wait_soundly(s, d)
 }

@@ -56,7 +56,7 @@ fn is_mark_sound(m: NmtState, d: &[u8], p: usize, due: bool) -> bool
 }
 
 // Whether no frame is held, nor a byte of one.
-fn is_none_held(frame: PdoData) -> bool
+pub fn is_none_held(frame: PdoData) -> bool
     ensures { λ r. ⌜ r ≡ sameData frame noData ⌝ }
 {
     same_data(

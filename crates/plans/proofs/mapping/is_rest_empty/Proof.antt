@@ -1,88 +1,103 @@
 -- `plans::mapping::is_rest_empty` meets its contract. Assumes nothing.
-use Prim.Native.Nat.{_+_, _*_, _-_, _≤_}
-use mathlib.Core.Path.{_≡_, refl, sym, _∙_}
-use mathlib.Core.Bool.{_&&_}
+use Prim.Native.Nat.{_+_}
+use mathlib.Core.Path.{_≡_}
 use native.Mathlib.Omega.{arith}
+use lib.ListN.{length}
+use Rattle.plans.proofs.Emptied.{rest-empty}
 use borrow.Author.Needs.{needs}
-use lib.Dec.{eqb}
-use lib.ListN.{length, drop}
-use Rattle.plans.specs.Slots.{wordsFrom, slotsEmpty}
-use Rattle.plans.proofs.Emptied.{rest-step, rest-end}
 use Rattle.plans.proofs.mapping.is_rest_empty.Statement.{statement}
 use Rattle.plans.proofs.mapping.is_rest_empty.Tie as tie
 
-abbrev Inv-loop : tie.InvT-loop
-Inv-loop d first moves at₀ words₀ spare₀ k₀ at words spare k =
-    ((eqb words 0 && spare && slotsEmpty (wordsFrom (8 - k) at d) (drop k moves)) ≡ slotsEmpty (wordsFrom 6 (first + 8) d) (drop 2 moves))
-    × ((k ≤ 8) × ((at ≡ first + 4 * k) × (words ≤ 0x100000000 * k)))
+add-are-zero : tie.Need-add-are-zero
+add-are-zero c = search needs
 
-abbrev μ-loop : tie.MeasureT-loop
-μ-loop d first moves at₀ words₀ spare₀ k₀ at words spare k = 8 - k
+are-zero-requires : tie.Need-are-zero-requires
+are-zero-requires c κs = search needs
 
-add-at : tie.Need-add-at Inv-loop μ-loop
-add-at c = search needs
+add-are-zero-2 : tie.Need-add-are-zero-2
+add-are-zero-2 c = search needs
 
-loop-holds : tie.Need-loop-holds Inv-loop μ-loop
-loop-holds c = (refl, search needs)
+are-zero-requires-2 : tie.Need-are-zero-requires-2
+are-zero-requires-2 c κs = search needs
 
-mul-kept : tie.Need-mul-kept Inv-loop μ-loop
-mul-kept c = search needs
+array-copy-out-is-spare : tie.Need-array-copy-out-is-spare
+array-copy-out-is-spare c = search needs
 
-array-copy-out-kept : tie.Need-array-copy-out-kept Inv-loop μ-loop
-array-copy-out-kept c = search needs
+is-spare-requires : tie.Need-is-spare-requires
+is-spare-requires c κs = search needs
 
-read4-requires : tie.Need-read4-requires Inv-loop μ-loop
-read4-requires c κs = search needs
+array-copy-out-is-spare-2 : tie.Need-array-copy-out-is-spare-2
+array-copy-out-is-spare-2 c = search needs
 
-cast-words : tie.Need-cast-words Inv-loop μ-loop
-cast-words c = search needs
+is-spare-requires-2 : tie.Need-is-spare-requires-2
+is-spare-requires-2 c κs = search needs
 
-add-words : tie.Need-add-words Inv-loop μ-loop
-add-words c = search needs
+array-copy-out-is-spare-3 : tie.Need-array-copy-out-is-spare-3
+array-copy-out-is-spare-3 c = search needs
 
-same-move-requires : tie.Need-same-move-requires Inv-loop μ-loop
-same-move-requires c κs = search needs
+is-spare-requires-3 : tie.Need-is-spare-requires-3
+is-spare-requires-3 c κs = search needs
 
-add-at-2 : tie.Need-add-at-2 Inv-loop μ-loop
-add-at-2 c = search needs
+array-copy-out-is-spare-4 : tie.Need-array-copy-out-is-spare-4
+array-copy-out-is-spare-4 c = search needs
 
-add-k : tie.Need-add-k Inv-loop μ-loop
-add-k c = search needs
+is-spare-requires-4 : tie.Need-is-spare-requires-4
+is-spare-requires-4 c κs = search needs
 
-loop-less : tie.Need-loop-less Inv-loop μ-loop
-loop-less c = search needs
+array-copy-out-is-spare-5 : tie.Need-array-copy-out-is-spare-5
+array-copy-out-is-spare-5 c = search needs
 
-loop-again : tie.Need-loop-again Inv-loop μ-loop
-loop-again c =
-    let b = c .before .before .before in
-    let l = b .before .loop in
-    let a = b .before .before .before .args in
-    (rw (c .before .read4 .ensures, c .same-move .ensures) (rest-step (l .words) (l .spare) (l .k) (l .at) (a .d .now) (a .t3) (b .loop-test .taken) (search needs)) ∙ l .inv .0, search needs)
+is-spare-requires-5 : tie.Need-is-spare-requires-5
+is-spare-requires-5 c κs = search needs
 
-returns : tie.Need-returns Inv-loop μ-loop
+array-copy-out-is-spare-6 : tie.Need-array-copy-out-is-spare-6
+array-copy-out-is-spare-6 c = search needs
+
+is-spare-requires-6 : tie.Need-is-spare-requires-6
+is-spare-requires-6 c κs = search needs
+
+returns : tie.Need-returns
 returns c =
-    let l = c .before .loop in
-    let a = c .before .before .before .args in
-    let z : l .k ≡ 8 = omega arith in
-    let n : length (a .t3) ≡ 8 = search needs in
-    (sym (rest-end (eqb (l .words) 0 && l .spare) (l .at) (a .d .now) (a .t3) n) ∙ rw z at (l .inv .0), n)
+    let sixth = c .before .before in
+    let fifth = sixth .before .before in
+    let fourth = fifth .before .before in
+    let third = fourth .before .before in
+    let second = third .before .before in
+    let far = second .before .before in
+    let s = far .before .before .before in
+    let a = s .args in
+    let n : length (a .t3) ≡ 8 = search (s .good) in (
+      rw (
+        far .before .are-zero .ensures,
+        far .are-zero2 .ensures,
+        second .is-spare .ensures,
+        third .is-spare2 .ensures,
+        fourth .is-spare3 .ensures,
+        fifth .is-spare4 .ensures,
+        sixth .is-spare5 .ensures,
+        c .is-spare6 .ensures,
+      ) (rest-empty (a .d .now) (a .t3) n (a .first + 8) (a .first + 20) (omega arith)),
+      n,
+    )
 
 pub is-rest-empty-spec : {M : Type 1} → statement M
 is-rest-empty-spec =
     tie.close
     (tie.spec
-    Inv-loop
-    μ-loop
-    add-at
-    loop-holds
-    mul-kept
-    array-copy-out-kept
-    read4-requires
-    cast-words
-    add-words
-    same-move-requires
-    add-at-2
-    add-k
-    loop-less
-    loop-again
+    add-are-zero
+    are-zero-requires
+    add-are-zero-2
+    are-zero-requires-2
+    array-copy-out-is-spare
+    is-spare-requires
+    array-copy-out-is-spare-2
+    is-spare-requires-2
+    array-copy-out-is-spare-3
+    is-spare-requires-3
+    array-copy-out-is-spare-4
+    is-spare-requires-4
+    array-copy-out-is-spare-5
+    is-spare-requires-5
+    array-copy-out-is-spare-6
+    is-spare-requires-6
     returns)

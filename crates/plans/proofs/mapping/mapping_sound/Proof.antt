@@ -21,21 +21,21 @@ returns-2 c =
     let a = b .before .before .before .args in
     other-count (a .d .now) (a .p) (a .plan) _ _ (b .before .mapping-place .ensures .0) (b .read1 .ensures) (c .before .before .if1 .left) (c .if2 .taken)
 
-add-slots-sound : tie.Need-add-slots-sound
-add-slots-sound c = search needs
+add-all-slots-sound : tie.Need-add-all-slots-sound
+add-all-slots-sound c = search needs
 
-cast-slots-sound : tie.Need-cast-slots-sound
-cast-slots-sound c = search needs
+cast-all-slots-sound : tie.Need-cast-all-slots-sound
+cast-all-slots-sound c = search needs
 
-slots-sound-requires : tie.Need-slots-sound-requires
-slots-sound-requires c κs = search needs
+all-slots-sound-requires : tie.Need-all-slots-sound-requires
+all-slots-sound-requires c κs = search needs
 
 returns-3 : tie.Need-returns-3
 returns-3 c =
     let b = c .before .before .before .before .before in
     let a = b .before .before .before .args in
-    c .slots-sound .ensures .0
-    ∙ same-count (a .d .now) (a .p) (a .plan) _ _ (b .before .mapping-place .ensures .0) (b .read1 .ensures) (c .before .before .before .before .if1 .left) (c .before .before .if2 .left) (c .slots-sound .ensures .1)
+    c .all-slots-sound .ensures .0
+    ∙ same-count (a .d .now) (a .p) (a .plan) _ _ (b .before .mapping-place .ensures .0) (b .read1 .ensures) (c .before .before .before .before .if1 .left) (c .before .before .if2 .left) (c .all-slots-sound .ensures .1)
 
 pub mapping-sound-spec : {M : Type 1} → statement M
 mapping-sound-spec =
@@ -45,7 +45,7 @@ mapping-sound-spec =
     read1-requires
     returns
     returns-2
-    add-slots-sound
-    cast-slots-sound
-    slots-sound-requires
+    add-all-slots-sound
+    cast-all-slots-sound
+    all-slots-sound-requires
     returns-3)

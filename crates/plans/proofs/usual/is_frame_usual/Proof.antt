@@ -1,0 +1,61 @@
+-- `plans::usual::is_frame_usual` meets its contract. Assumes nothing.
+use native.Mathlib.Omega.{arith}
+use Rattle.plans.proofs.Assembly.{are-bytes}
+use Rattle.plans.proofs.UsualFrame.{second-fits, second-short, frame-ready}
+use borrow.Author.Needs.{needs}
+use Rattle.plans.proofs.usual.is_frame_usual.Statement.{statement}
+use Rattle.plans.proofs.usual.is_frame_usual.Tie as tie
+
+array-copy-out-second : tie.Need-array-copy-out-second
+array-copy-out-second c = search needs
+
+read2-requires : tie.Need-read2-requires
+read2-requires c κs = search needs
+
+cast-value : tie.Need-cast-value
+cast-value c = search needs
+
+second-value-requires : tie.Need-second-value-requires
+second-value-requires c κs =
+    let s = c .before .before .before .before .before in
+    let f = second-fits (s .args .plan) (s .pre .1 .0) (s .pre .1 .1) in
+    (rw (s .pre .0) (f .0), f .1)
+
+mul-value : tie.Need-mul-value
+mul-value c = search needs
+
+add-value : tie.Need-add-value
+add-value c = search needs
+
+add-result : tie.Need-add-result
+add-result c =
+    let s = c .before .before .before .before .before .before .before in
+    omega (arith, second-short (s .args .plan) (s .pre .1 .0) (s .pre .1 .1))
+
+word-of-requires : tie.Need-word-of-requires
+word-of-requires c κs = search needs
+
+returns : tie.Need-returns
+returns c =
+    let v = c .before .before .before in
+    let r = v .before in
+    let k = r .before .before .before .before in
+    let s = k .before in
+    let d = s .args .d .now in
+    λ e. frame-ready (s .args .plan) (s .pre .1 .0) (s .pre .1 .1) d (s .pre .0) (are-bytes d (λ i h. omega (arith, k .shared-slice-known .given i)))
+    (s .args .frame) (c .word-of .ensures .1 .0) (c .word-of .ensures .1 .1)
+    (rw (c .word-of .ensures .0, r .read2 .ensures, v .second-value .ensures .0) at e)
+
+pub is-frame-usual-spec : {M : Type 1} → statement M
+is-frame-usual-spec =
+    tie.close
+    (tie.spec
+    array-copy-out-second
+    read2-requires
+    cast-value
+    second-value-requires
+    mul-value
+    add-value
+    add-result
+    word-of-requires
+    returns)

@@ -1,0 +1,98 @@
+-- `plans::usual::is_pair_usual` meets its contract. Assumes nothing.
+use mathlib.Core.Path.{sym, _∙_}
+use borrow.Author.Tests.{eq-eqb, ne-eqb, not-true, not-false}
+use Rattle.plans.specs.Usual.{pairUsual}
+use Rattle.plans.proofs.Legality.{counted-at}
+use borrow.Author.Needs.{needs}
+use Rattle.plans.proofs.usual.is_pair_usual.Statement.{statement}
+use Rattle.plans.proofs.usual.is_pair_usual.Tie as tie
+
+mapping-place-requires : tie.Need-mapping-place-requires
+mapping-place-requires c κs = search needs
+
+read1-requires : tie.Need-read1-requires
+read1-requires c κs = search needs
+
+returns : tie.Need-returns
+unfolding pairUsual
+returns c =
+    let r = c .before .before in
+    let a = r .before .before .before .args in
+    rw (← counted-at (a .d .now) (a .p) _ _ (r .before .mapping-place .ensures .0) (r .read1 .ensures), ne-eqb _ _ (c .if1 .taken))
+
+add-read4 : tie.Need-add-read4
+add-read4 c = search needs
+
+read4-requires : tie.Need-read4-requires
+read4-requires c κs = search needs
+
+array-copy-out-begins-usually : tie.Need-array-copy-out-begins-usually
+array-copy-out-begins-usually c = search needs
+
+begins-usually-requires : tie.Need-begins-usually-requires
+begins-usually-requires c κs = search needs
+
+returns-2 : tie.Need-returns-2
+unfolding pairUsual
+returns-2 c =
+    let b = c .before in
+    let f = b .before .before in
+    let e = f .before .before in
+    let r = e .before .before in
+    let a = r .before .before .before .args in
+    rw (
+      ← counted-at (a .d .now) (a .p) _ _ (r .before .mapping-place .ensures .0) (r .read1 .ensures),
+      eq-eqb _ _ (e .if1 .left),
+      ← r .before .mapping-place .ensures .0,
+      ← f .read4 .ensures,
+      sym (b .begins-usually .ensures) ∙ not-true _ (c .if2 .taken),
+    )
+
+add-read4-2 : tie.Need-add-read4-2
+add-read4-2 c = search needs
+
+read4-requires-2 : tie.Need-read4-requires-2
+read4-requires-2 c κs = search needs
+
+array-copy-out-goes-on-usually : tie.Need-array-copy-out-goes-on-usually
+array-copy-out-goes-on-usually c = search needs
+
+goes-on-usually-requires : tie.Need-goes-on-usually-requires
+goes-on-usually-requires c κs = search needs
+
+returns-3 : tie.Need-returns-3
+unfolding pairUsual
+returns-3 c =
+    let s = c .before .before in
+    let b = s .before .before in
+    let f = b .before .before in
+    let e = f .before .before in
+    let r = e .before .before in
+    let a = r .before .before .before .args in
+    rw (
+      ← counted-at (a .d .now) (a .p) _ _ (r .before .mapping-place .ensures .0) (r .read1 .ensures),
+      eq-eqb _ _ (e .if1 .left),
+      ← r .before .mapping-place .ensures .0,
+      ← f .read4 .ensures,
+      sym (b .begins-usually .ensures) ∙ not-false _ (s .before .if2 .left),
+      ← s .read42 .ensures,
+    )
+    (c .goes-on-usually .ensures)
+
+pub is-pair-usual-spec : {M : Type 1} → statement M
+is-pair-usual-spec =
+    tie.close
+    (tie.spec
+    mapping-place-requires
+    read1-requires
+    returns
+    add-read4
+    read4-requires
+    array-copy-out-begins-usually
+    begins-usually-requires
+    returns-2
+    add-read4-2
+    read4-requires-2
+    array-copy-out-goes-on-usually
+    goes-on-usually-requires
+    returns-3)
