@@ -1,6 +1,6 @@
--- Power-up in code: the defaults give every plan, and what it leaves starts the node anew.
+-- Power-up in code: what it leaves starts the node anew.
 -- Assumes nothing.
-use Prim.Native.Nat.{ℕ, zero, suc, _<_, _≤_}
+use Prim.Native.Nat.{ℕ, _≤_}
 use native.Mathlib.Omega.{arith}
 use mathlib.Core.Path.{_≡_, refl, sym, _∙_, ap, subst}
 use mathlib.Core.Bool.{true, false}
@@ -8,37 +8,19 @@ use mathlib.Core.List.{List, append-nil}
 use borrow.Author.Tests.{le-leb}
 use lib.Dec.{leb, lit≤}
 use lib.ListN.{length}
-use Rattle.state.specs.declared.State.{State}
-use Rattle.rules_dictionary.specs.TheNode.{firstNode, lastNode, isNodeId}
-use Rattle.rules_dictionary.specs.Table.{table, dictionaryLength, pdos}
+use Rattle.rules_dictionary.specs.TheNode.{firstNode, lastNode}
+use Rattle.rules_dictionary.specs.Table.{table, dictionaryLength}
 use Rattle.rules_dictionary.specs.Values.{Write, stored, toDefaults}
-use Rattle.rules_dictionary.specs.Plans.{plansOf}
-use Rattle.rules_dictionary.proofs.Tests.{In, here, there, and-both}
-use Rattle.rules_services.specs.PdoTraffic.{noneHeld}
+use Rattle.rules_dictionary.proofs.Tests.{and-both}
 use Rattle.rules_services.specs.Nmt.{powerUp, freshState, bootUp}
-use Rattle.theorems.proofs.Dictionary.{DictionaryOk}
 use Rattle.theorems.proofs.NmtKept.{LawfulAfter, fresh-lawful}
 use Rattle.output.specs.Laying.{emitted}
-use Rattle.nmt.specs.Fresh.{unworked}
-use Rattle.sdo.proofs.Mappings.{legal-mapping}
-use Rattle.calls.specs.Leaving.{replanned, mostPdos, MapsLegally, StartsAnew}
-use Rattle.calls.proofs.Finish.{starts-anew}
-
--- ---- a legal dictionary gives every plan
-
-in-pdos : (p : ℕ) → p < mostPdos → In p pdos
-in-pdos zero h = here
-in-pdos (suc zero) h = there here
-in-pdos (suc (suc zero)) h = there (there here)
-in-pdos (suc (suc (suc zero))) h = there (there (there here))
-in-pdos (suc (suc (suc (suc zero)))) h = there (there (there (there here)))
-in-pdos (suc (suc (suc (suc (suc zero))))) h = there (there (there (there (there here))))
-in-pdos (suc (suc (suc (suc (suc (suc zero)))))) h = there (there (there (there (there (there here)))))
-in-pdos (suc (suc (suc (suc (suc (suc (suc zero))))))) h = there (there (there (there (there (there (there here))))))
-in-pdos (suc (suc (suc (suc (suc (suc (suc (suc p)))))))) h = absurd (omega arith)
-
-pub maps-legally : {n : ℕ} {d : List ℕ} → DictionaryOk n d → MapsLegally d
-maps-legally ok p h = legal-mapping ok (in-pdos p h)
+use Rattle.output.proofs.Laws.{length-emitted}
+use Rattle.effects.specs.declared.Parts.{Parts}
+use Rattle.effects.specs.Leaves.{partsOf}
+use Rattle.rules.specs.Calls.{outputLength}
+use Rattle.answers.proofs.Concluding.{starts-anew}
+use Rattle.calls.specs.Frames.{StartsAnew}
 
 -- ---- power-up
 
@@ -50,11 +32,12 @@ module _ (n : ℕ) (d d′ : List ℕ) (first : firstNode ≤ n) (last : n ≤ l
   unfolding powerUp
   all-written = written ∙ ap (λ (ws : List Write). stored ws d) (sym (append-nil (toDefaults n table)))
 
-  pub fresh-maps : MapsLegally d′
+  pub powered : (o o′ : List ℕ) (k : ℕ) (p : Parts) → outputLength ≤ length o → p ≡ partsOf (freshState n) → (k ≡ 1) × (o′ ≡ emitted 0 (bootUp n) o) →
+      StartsAnew n d o (record { parts = p; frames = k; touched = true; remapped = true; synced = false; quiet = false }) d′ o′
   unfolding powerUp freshState
-  fresh-maps = subst MapsLegally (sym all-written) (maps-legally (fresh .dictionary))
-
-  pub powered : (o o′ : List ℕ) (k : ℕ) (t : State) → (k ≡ 1) × (o′ ≡ emitted 0 (bootUp n) o) → t ≡ replanned (plansOf d′) (unworked (freshState n)) →
-      StartsAnew n d o (record { state = t; frames = k; touched = true; synced = false }) d′ o′
-  unfolding powerUp freshState
-  powered o o′ k t sent is = starts-anew d o (powerUp n) noneHeld d′ o′ refl all-written (sent .1) k (sent .0) (lit≤ tt) t is fresh
+  powered o o′ k p room is sent =
+      let long : length o′ ≡ length o = ap length (sent .1) ∙ length-emitted 0 (bootUp n) o (omega (arith, room)) in (
+        λ s. starts-anew d o (powerUp n) (record { parts = p; frames = k; touched = true; remapped = true; synced = false; quiet = false }) d′ o′
+            refl is (sent .0) refl refl refl all-written (sent .1) (subst (λ (m : ℕ). outputLength ≤ m) (sym long) room) (lit≤ tt) fresh s,
+        refl,
+      )

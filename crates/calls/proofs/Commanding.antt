@@ -1,10 +1,10 @@
 -- An NMT frame in code: which frames are commands for this node, and what a command leaves.
 -- Assumes nothing.
-use Prim.Native.Nat.{ℕ, _+_}
+use Prim.Native.Nat.{ℕ}
 use native.Mathlib.Omega.{arith}
-use mathlib.Core.Path.{_≡_, refl, sym, _∙_, ap, ap₂, subst}
+use mathlib.Core.Path.{_≡_, refl, sym, _∙_, ap}
 use mathlib.Core.Bool.{Bool, true, false, cond, _&&_, _||_}
-use mathlib.Core.List.{List, [], _∷_}
+use mathlib.Core.List.{List}
 use borrow.Author.Tests.{eqb-true}
 use lib.Dec.{eqb}
 use lib.ListN.{length, getD, take}
@@ -12,19 +12,19 @@ use lib.Seq.{getD-take}
 use Rattle.rules_dictionary.specs.declared.PdoData.{PdoData}
 use Rattle.state.specs.declared.State.{State}
 use Rattle.rules_dictionary.specs.Values.{stored}
-use Rattle.rules_dictionary.specs.Plans.{plansOf, readyOf}
-use Rattle.rules_services.specs.Effects.{Effect, Frame, becomes, isOperational, isPreOperational, withNmt}
+use Rattle.rules_services.specs.Effects.{Effect, becomes, isOperational, isPreOperational, withNmt}
 use Rattle.rules_dictionary.proofs.Tests.{and-left}
 use Rattle.state.specs.declared.NmtState.the-variants.{PreOperational, Operational}
 use Rattle.rules_services.specs.Nmt.{nmt, nmtLength, everyNode, Command, start, stop, enterPreOperational, resetNode, resetCommunication, unknown, commandOf, commanded, powerUp, left, voltageDisabled}
 use Rattle.output.specs.Laying.{IsData}
 use Rattle.output.proofs.Laws.{length-data, emitted-none}
 use Rattle.effects.specs.declared.Done.{Done}
-use Rattle.effects.specs.Leaves.{Did}
+use Rattle.effects.specs.Leaves.{Rests}
+use Rattle.nmt.specs.Renewing.{Renewed}
 use Rattle.theorems.proofs.Booleans.{clash}
 use Rattle.calls.specs.Promise.{isForNode}
-use Rattle.calls.specs.Leaving.{replanned, Leaves}
-use Rattle.calls.proofs.Services.{SameKept}
+use Rattle.answers.specs.Leaving.{Leaves, unchanged}
+use Rattle.answers.proofs.Concluding.{Paces}
 
 -- ---- a frame of the bus as data
 
@@ -66,52 +66,55 @@ module _ (content : PdoData) (is : IsData content) (s : State) where
 sends-none : (s t : State) (c : Command) → becomes t ≡ commanded c s → length (commanded c s .sent) ≡ 0
 sends-none s t c e = ap (λ (x : Effect). length (x .sent)) (sym e)
 
-pub command-same : (c : Command) (s t : State) → becomes t ≡ commanded c s → SameKept s t
+pub command-keeps : (c : Command) (s t : State) → becomes t ≡ commanded c s → (t .axis .ready ≡ s .axis .ready) × Paces s t
 unfolding commanded left voltageDisabled powerUp
-command-same start s t e = go (isOperational (s .node .nmt)) (ap (λ (x : Effect). x .state) e)
+command-keeps start s t e = go (isOperational (s .node .nmt)) (ap (λ (x : Effect). x .state) e)
   where
-    go : (b : Bool) → t ≡ cond b (becomes s) (becomes (withNmt Operational s)) .state → SameKept s t
-    go true q = (ap (λ (x : State). x .axis .plans) q, ap (λ (x : State). x .axis .ready) q)
-    go false q = (ap (λ (x : State). x .axis .plans) q, ap (λ (x : State). x .axis .ready) q)
-command-same stop s t e = (ap (λ (x : Effect). x .state .axis .plans) e, ap (λ (x : Effect). x .state .axis .ready) e)
-command-same enterPreOperational s t e = go (isPreOperational (s .node .nmt)) (ap (λ (x : Effect). x .state) e)
+    go : (b : Bool) → t ≡ cond b (becomes s) (becomes (withNmt Operational s)) .state → (t .axis .ready ≡ s .axis .ready) × Paces s t
+    go true q = (ap (λ (x : State). x .axis .ready) q, λ on. (ap (λ (x : State). x .axis .counts) q, ap (λ (x : State). x .axis .due) q))
+    go false q = (ap (λ (x : State). x .axis .ready) q, λ on. (ap (λ (x : State). x .axis .counts) q, ap (λ (x : State). x .axis .due) q))
+command-keeps stop s t e =
+    (ap (λ (x : Effect). x .state .axis .ready) e, λ on. clash (isOperational (t .node .nmt)) on (ap (λ (x : Effect). isOperational (x .state .node .nmt)) e))
+command-keeps enterPreOperational s t e = go (isPreOperational (s .node .nmt)) (ap (λ (x : Effect). x .state) e)
   where
-    go : (b : Bool) → t ≡ cond b (becomes s) (becomes (withNmt PreOperational (left s))) .state → SameKept s t
-    go true q = (ap (λ (x : State). x .axis .plans) q, ap (λ (x : State). x .axis .ready) q)
-    go false q = (ap (λ (x : State). x .axis .plans) q, ap (λ (x : State). x .axis .ready) q)
-command-same resetNode s t e = let n : _≡_ {A = ℕ} 1 0 = sends-none s t resetNode e in absurd (omega (arith, n))
-command-same resetCommunication s t e = let n : _≡_ {A = ℕ} 1 0 = sends-none s t resetCommunication e in absurd (omega (arith, n))
-command-same unknown s t e = (ap (λ (x : Effect). x .state .axis .plans) e, ap (λ (x : Effect). x .state .axis .ready) e)
+    go : (b : Bool) → t ≡ cond b (becomes s) (becomes (withNmt PreOperational (left s))) .state → (t .axis .ready ≡ s .axis .ready) × Paces s t
+    go true q = (ap (λ (x : State). x .axis .ready) q, λ on. (ap (λ (x : State). x .axis .counts) q, ap (λ (x : State). x .axis .due) q))
+    go false q = (ap (λ (x : State). x .axis .ready) q, λ on. clash (isOperational (t .node .nmt)) on (ap (λ (x : State). isOperational (x .node .nmt)) q))
+command-keeps resetNode s t e = let n : _≡_ {A = ℕ} 1 0 = sends-none s t resetNode e in absurd (omega (arith, n))
+command-keeps resetCommunication s t e = let n : _≡_ {A = ℕ} 1 0 = sends-none s t resetCommunication e in absurd (omega (arith, n))
+command-keeps unknown s t e =
+    (ap (λ (x : Effect). x .state .axis .ready) e, λ on. (ap (λ (x : Effect). x .state .axis .counts) e, ap (λ (x : Effect). x .state .axis .due) e))
 
--- THE LAW: a changed state is left, with plans that are still those of the dictionary
-pub changed-leaves : (s t : State) (d o : List ℕ) → SameKept s t → s .axis .plans ≡ plansOf d →
-    Leaves (becomes t) d o (record { state = t; frames = 0; touched = false; synced = false }) d o
+-- THE LAW: a changed state is left
+pub changed-leaves : (s t : State) (quiet : Bool) (d o : List ℕ) → Rests s (becomes t) (unchanged t quiet) → Leaves s (becomes t) d o (unchanged t quiet) d o
 unfolding stored
-changed-leaves s t d o same fresh =
+changed-leaves s t quiet d o rests =
     record {
-      state = ap (λ ps. replanned ps t) (same .0 ∙ fresh);
+      parts = refl;
       frames = refl;
       synced = refl;
-      ready = λ h. refl;
+      quiet = rests;
+      calm = λ q. refl;
+      plans = λ q. refl;
+      idle = λ q. clash false q refl;
+      ready = λ q. refl;
       dictionary = refl;
       output = sym (emitted-none 0 o);
     }
 
--- THE LAW: all plans worked afresh are left
-pub renewed-leaves : (e : Effect) (d o : List ℕ) (r : Done) (t : State) (d′ o′ : List ℕ) → Did e 0 d o r d′ o′ → e .synced ≡ false → t ≡ replanned (plansOf d′) (r .state) →
-    Leaves e d o (record { state = t; frames = r .frames; touched = true; synced = false }) d′ o′
-renewed-leaves e d o r t d′ o′ did quiet is =
+-- THE LAW: mappings were written, outside Operational
+pub renewed-leaves : (s : State) (e : Effect) (d o : List ℕ) (r : Done) (d′ o′ : List ℕ) → Renewed e d o r d′ o′ → e .synced ≡ false → isOperational (e .state .node .nmt) ≡ false →
+    Leaves s e d o r d′ o′
+renewed-leaves s e d o r d′ o′ new synced off =
     record {
-      state = is ∙ ap (replanned (plansOf d′)) (did .state);
-      frames = did .frames ∙ zero-more (length (e .sent));
-      synced = sym quiet;
-      ready = λ h. never h;
-      dictionary = did .dictionary;
-      output = did .output;
+      parts = new .parts;
+      frames = new .frames;
+      synced = new .synced ∙ sym synced;
+      quiet = λ q. clash (r .quiet) q (new .quiet);
+      calm = λ q. clash (r .quiet) q (new .quiet);
+      plans = λ q. clash (r .remapped) (new .remapped) q;
+      idle = λ q. off;
+      ready = λ q. clash (r .touched) (new .touched) q;
+      dictionary = new .dictionary;
+      output = new .output;
     }
-  where
-    zero-more : (k : ℕ) → 0 + k ≡ k
-    zero-more k = omega arith
-
-    never : true ≡ false → readyOf d′ ≡ readyOf d
-    never h = clash true refl h

@@ -1,6 +1,7 @@
+pub mod Mappings
 pub mod Services
 pub mod Stays
-pub mod Finish
+pub mod Briefly
 pub mod Refusals
 pub mod Commanding
 pub mod Anew

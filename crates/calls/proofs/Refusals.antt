@@ -1,7 +1,7 @@
 -- What the rules answer on each way through a call, from the tests that the code makes: the refusals, lowest number first.
 -- Assumes nothing.
 use Prim.Native.Nat.{ℕ, _<_, _≤_}
-use mathlib.Core.Path.{_≡_, refl, sym, _∙_, ap}
+use mathlib.Core.Path.{_≡_, sym, _∙_, ap}
 use mathlib.Core.Bool.{Bool, true, false, _&&_, and-false}
 use mathlib.Core.List.{List}
 use borrow.Author.Tests.{eq-eqb, ne-eqb, le-leb, lt-leb}
@@ -9,17 +9,17 @@ use lib.Dec.{eqb, leb}
 use lib.ListN.{length}
 use Rattle.state.specs.declared.State.{State}
 use Rattle.state.specs.declared.Refusal.{Refusal}
-use Rattle.state.specs.declared.Refusal.the-variants.{DictionaryLength, OutputLength, NodeId, NotSound, BadFrame, BadEvent, OutOfPlace}
+use Rattle.state.specs.declared.Refusal.the-variants.{DictionaryLength, OutputLength, NodeId, NotSound, BadFrame}
 use Rattle.rules_dictionary.specs.TheNode.{firstNode, lastNode, isNodeId}
 use Rattle.rules_dictionary.specs.Table.{dictionaryLength}
 use Rattle.rules_dictionary.proofs.Tests.{and-both}
 use Rattle.rules_services.specs.Nmt.{powerUp}
-use Rattle.rules_services.specs.Events.{eventOf}
+use Rattle.rules_services.specs.Events.{Told, eventOf}
 use Rattle.rules.specs.Outcome.{mostData}
 use Rattle.rules.specs.Sound.{sound}
 use Rattle.rules.specs.Calls.{Call, powerUpCall, frameCall, eventCall, Decision, refuses, does, framed, eventDecision, decision, decided, refused, answered, answer, outputLength, lastIdentifier}
 use Rattle.theorems.proofs.Runs.{passed}
-use Rattle.calls.specs.Promise.{outcome, refusal}
+use Rattle.answers.specs.Briefs.{outcome, whole, refusal}
 
 -- ---- a decision, where its test is known
 
@@ -29,7 +29,7 @@ fails b x y e = ap (λ (c : Bool). elim c [ true ↦ x | false ↦ y ]) e
 -- ---- of every call: the lengths
 
 module _ (c : Call) (s : State) (d o : List ℕ) where
-  pub no-dictionary : (length d ≡ dictionaryLength → ⊥) → outcome (refusal DictionaryLength s) d o ≡ answer c s d o
+  pub no-dictionary : (length d ≡ dictionaryLength → ⊥) → outcome (whole s d (refusal DictionaryLength s)) d o ≡ answer c s d o
   unfolding answer decided answered refused
   no-dictionary p = ap (λ (x : Decision). answered x s d o) (sym (fails (eqb (length d) dictionaryLength) _ (refuses DictionaryLength) (ne-eqb (length d) dictionaryLength p)))
 
@@ -39,7 +39,7 @@ module _ (c : Call) (s : State) (d o : List ℕ) where
     unfolding decided
     room = sym (passed (eqb (length d) dictionaryLength) _ (refuses DictionaryLength) (eq-eqb (length d) dictionaryLength p))
 
-    pub no-room : length o < outputLength → outcome (refusal OutputLength s) d o ≡ answer c s d o
+    pub no-room : length o < outputLength → outcome (whole s d (refusal OutputLength s)) d o ≡ answer c s d o
     unfolding answer answered refused
     no-room q =
         ap (λ (x : Decision). answered x s d o)
@@ -52,7 +52,7 @@ module _ (c : Call) (s : State) (d o : List ℕ) where
         ap (λ (y : Decision). answered y s d o)
         (sym room ∙ passed (leb outputLength (length o)) (decision c s d) (refuses OutputLength) (le-leb outputLength (length o) q) ∙ e)
 
-    pub decides-not : outputLength ≤ length o → (why : Refusal) → decision c s d ≡ refuses why → outcome (refusal why s) d o ≡ answer c s d o
+    pub decides-not : outputLength ≤ length o → (why : Refusal) → decision c s d ≡ refuses why → outcome (whole s d (refusal why s)) d o ≡ answer c s d o
     unfolding answered refused
     decides-not q why e = sym (decides q (refuses why) e)
 
@@ -104,6 +104,10 @@ module _ (k : ℕ) (xs : List ℕ) (s : State) (d : List ℕ) where
   unfolding decision
   unsound-event h = fails (sound s d) (eventDecision (eventOf k xs) s d) (refuses NotSound) h
 
-  pub an-event : sound s d ≡ true → decision (eventCall k xs) s d ≡ eventDecision (eventOf k xs) s d
+  an-event : sound s d ≡ true → decision (eventCall k xs) s d ≡ eventDecision (eventOf k xs) s d
   unfolding decision
   an-event h = passed (sound s d) (eventDecision (eventOf k xs) s d) (refuses NotSound) h
+
+  -- by the event that was told
+  pub told-event : sound s d ≡ true → (t : Told) → t ≡ eventOf k xs → decision (eventCall k xs) s d ≡ eventDecision t s d
+  told-event h t e = an-event h ∙ ap (λ (x : Told). eventDecision x s d) (sym e)

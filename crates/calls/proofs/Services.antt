@@ -1,29 +1,32 @@
--- What every service leaves of the call's start: the kept plans and ready frames; and which of them write no row of a PDO.
+-- What every service leaves of the call's start: the ready frames, SYNC counts and due marks; which of them write no row of a PDO; and that
+-- a mapping is written in Pre-operational alone.
 -- Assumes nothing.
 use Prim.Native.Nat.{ℕ, suc}
 use mathlib.Core.Path.{_≡_, refl, sym, _∙_, ap, subst}
 use mathlib.Core.Logic.{_⊎_, inl, inr}
-use mathlib.Core.Bool.{Bool, true, false, cond, not}
-use mathlib.Core.List.{List, [], _∷_}
+use mathlib.Core.Bool.{Bool, true, false, cond, not, _||_, false≢true, true≢false}
+use mathlib.Core.List.{List, [], _∷_, _++_}
 use lib.Dec.{eqb, ltb}
 use lib.ListN.{length, getD, set, take}
+use Rattle.state.specs.declared.NmtState.{NmtState}
+use Rattle.state.specs.declared.NmtState.the-variants.{PreOperational, Operational, Stopped}
 use Rattle.state.specs.declared.State.{State}
 use Rattle.rules_dictionary.specs.declared.PdoData.{PdoData}
-use Rattle.rules_dictionary.specs.Table.{Row, table, receivePdos, Found, found, noObject, noSubindex, lookup}
-use Rattle.rules_dictionary.specs.Values.{Write, read, stored, unpacked}
+use Rattle.rules_dictionary.specs.Table.{Row, Role, plain, modeOfOperation, pdoIdentifier, pdoType, mappingCount, mappingEntry, table, receivePdos, Found, found, noObject, noSubindex, lookup}
+use Rattle.rules_dictionary.specs.Values.{Write, write, read, stored, unpacked}
 use Rattle.rules_dictionary.specs.Aborts.{Verdict, good, bad}
 use Rattle.rules_dictionary.specs.Legal.{isSynchronous}
 use Rattle.rules_dictionary.specs.Plans.{mapped, pdoData}
 use Rattle.rules_dictionary.specs.Numbers.{any}
-use Rattle.rules_dictionary.specs.Table.{same, controlWord, mode, heartbeatTime, errorCode, errorRegister, position, velocity}
-use Rattle.rules_dictionary.proofs.Tests.{In, here, there, none-in}
+use Rattle.rules_dictionary.specs.Table.{same, controlWord, mode, heartbeatTime, errorRegister}
+use Rattle.rules_dictionary.proofs.Tests.{In, none-in}
 use Rattle.rules_dictionary.proofs.Packing.{found-in}
 use Rattle.drive.specs.declared.Controlled.{Controlled}
 use Rattle.drive.specs.SetPoints.{modeWritten, controlWritten}
-use Rattle.rules_services.specs.Effects.{Effect, becomes, sends, syncs, andThen, isStopped, isOperational, isPreOperational, withDrive, withHeld, withHeartbeat}
+use Rattle.rules_services.specs.Effects.{Effect, becomes, sends, syncs, andThen, isStopped, isOperational, withDrive, withHeld, withHeartbeat}
 use Rattle.rules_services.specs.Emergency.{emergency, pdoTooShort, pdoTooLong, valueRefused, syncLength}
 use Rattle.rules_services.specs.Written.{wrote, countRestarted, modeActed, faultReset, controlActed, applied}
-use Rattle.rules_services.specs.Sdo.{Command, download, upload, clientAbort, unknown, commandOf, commandByte, askedIndex, askedSubindex, downloadVerdict, decided, toRow, toObject, asked, sdo, abort}
+use Rattle.rules_services.specs.Sdo.{Command, download, upload, clientAbort, unknown, commandOf, commandByte, askedIndex, askedSubindex, askedValue, isWrongTime, downloadVerdict, decided, toRow, toObject, asked, sdo, abort}
 use Rattle.rules_services.specs.PdoTraffic.{typeOf, mappedLength, areLegal, heldOrApplied, received, listens, receivedBy, noData, isHeld, release, releaseAll, sync}
 use Rattle.rules_services.specs.Nmt.{tick as ticked, heartbeat}
 use Rattle.rules_services.specs.Events.{Event, started, quickStopDone, reactionDone, setPointReached, tick, causeGone, fault, feedback, voltage, happens, faulted}
@@ -31,17 +34,24 @@ use Rattle.theorems.specs.Promises.{orReset, bySdo, byPdos, byEvent}
 use Rattle.theorems.proofs.Alike.{isPdo}
 use Rattle.theorems.proofs.Lawful.{Lawful}
 use Rattle.theorems.proofs.NmtKept.{in-cons}
+use Rattle.theorems.proofs.SdoKept.{good-passes}
 use Rattle.theorems.proofs.EventsKept.{PlainRow, code-row, register-row, position-row, velocity-row}
 use Rattle.theorems.proofs.Writes.{InTable}
+use Rattle.sdo.specs.Serving.{isMapping, remaps}
+use Rattle.answers.proofs.Concluding.{Paces}
 use Rattle.theorems.proofs.Changes.{asked-within, received-by-within, sync-within, event-within, received-quiet, quiet-reset}
 
--- ---- plans and ready frames stay those of the call's start
+-- ---- ready frames, SYNC counts and due marks stay those of the call's start
 
 abbrev pub SameKept : State → State → Type 0
-SameKept s t = (t .axis .plans ≡ s .axis .plans) × (t .axis .ready ≡ s .axis .ready)
+SameKept s t = (t .axis .ready ≡ s .axis .ready) × ((t .axis .counts ≡ s .axis .counts) × (t .axis .due ≡ s .axis .due))
 
 abbrev pub Keeps : State → Effect → Type 0
 Keeps s e = SameKept s (e .state)
+
+-- in Operational or not
+pub kept-paces : (s t : State) → SameKept s t → (t .axis .ready ≡ s .axis .ready) × Paces s t
+kept-paces s t k = (k .0, λ on. k .1)
 
 applied-keeps : (ws : List Write) (s : State) (d : List ℕ) → Keeps s (applied ws s d)
 unfolding applied controlActed modeActed countRestarted faultReset
@@ -61,10 +71,10 @@ applied-keeps ws s d = go (wrote heartbeatTime ws) (wrote mode ws) (wrote contro
         cond c (cond r (faultReset (withDrive (controlled a b .drive) (moded a b)) (stored ws d)) (becomes (withDrive (controlled a b .drive) (moded a b)))) (becomes (moded a b))
 
     moded-keeps : (a b : Bool) → SameKept s (moded a b)
-    moded-keeps true true = (refl, refl)
-    moded-keeps true false = (refl, refl)
-    moded-keeps false true = (refl, refl)
-    moded-keeps false false = (refl, refl)
+    moded-keeps true true = (refl, (refl, refl))
+    moded-keeps true false = (refl, (refl, refl))
+    moded-keeps false true = (refl, (refl, refl))
+    moded-keeps false false = (refl, (refl, refl))
 
     go : (a b c : Bool) → Keeps s (act a b c (controlled a b .reset))
     go a b false = moded-keeps a b
@@ -84,14 +94,14 @@ received-keeps p bs s d = go (ltb (length bs) k) (areLegal d (unpacked (mapped d
     go : (a b c : Bool) → Keeps s (cond a (sends (emergency pdoTooShort s d) (becomes s))
         (sends (cond (ltb k (length bs)) (emergency pdoTooLong s d) [])
         (cond b (cond c (becomes (withHeld (set (s .axis .held) p (pdoData (take k bs))) s)) (applied (unpacked (mapped d p) (take k bs)) s d)) (sends (emergency valueRefused s d) (becomes s)))))
-    go true b c = (refl, refl)
-    go false false c = (refl, refl)
-    go false true true = (refl, refl)
+    go true b c = (refl, (refl, refl))
+    go false false c = (refl, (refl, refl))
+    go false true true = (refl, (refl, refl))
     go false true false = applied-keeps (unpacked (mapped d p) (take k bs)) s d
 
 pub received-by-keeps : (ps : List ℕ) (i : ℕ) (bs : List ℕ) (s : State) (d : List ℕ) → Keeps s (receivedBy ps i bs s d)
 unfolding receivedBy
-received-by-keeps [] i bs s d = (refl, refl)
+received-by-keeps [] i bs s d = (refl, (refl, refl))
 received-by-keeps (p ∷ ps) i bs s d = go (listens i (s .node .nmt) d p) (received-by-keeps ps i bs s d)
   where
     go : (b : Bool) → Keeps s (receivedBy ps i bs s d) → Keeps s (elim b [ true ↦ received p bs s d | false ↦ receivedBy ps i bs s d ])
@@ -107,26 +117,26 @@ release-keeps p s d = go (isHeld f)
 
     go : (b : Bool) → Keeps s (elim b [ true ↦ applied (unpacked (mapped d p) (f .bytes)) (withHeld (set (s .axis .held) p noData) s) d | false ↦ becomes s ])
     go true = applied-keeps (unpacked (mapped d p) (f .bytes)) (withHeld (set (s .axis .held) p noData) s) d
-    go false = (refl, refl)
+    go false = (refl, (refl, refl))
 
 release-all-keeps : (ps : List ℕ) (s : State) (d : List ℕ) → Keeps s (releaseAll ps s d)
 unfolding releaseAll andThen
-release-all-keeps [] s d = (refl, refl)
+release-all-keeps [] s d = (refl, (refl, refl))
 release-all-keeps (p ∷ ps) s d =
     let e = release p s d in
     let later = release-all-keeps ps (e .state) (stored (e .writes) d) in
     let first = release-keeps p s d in
-    (later .0 ∙ first .0, later .1 ∙ first .1)
+    (later .0 ∙ first .0, (later .1 .0 ∙ first .1 .0, later .1 .1 ∙ first .1 .1))
 
 pub sync-keeps : (bs : List ℕ) (s : State) (d : List ℕ) → Keeps s (sync bs s d)
 unfolding sync
 sync-keeps bs s d = go (isStopped (s .node .nmt)) (not (eqb (length bs) 0)) (isOperational (s .node .nmt))
   where
     go : (a b c : Bool) → Keeps s (cond a (becomes s) (cond b (sends (emergency syncLength s d) (becomes s)) (cond c (syncs (releaseAll receivePdos s d)) (becomes s))))
-    go true b c = (refl, refl)
-    go false true c = (refl, refl)
+    go true b c = (refl, (refl, refl))
+    go false true c = (refl, (refl, refl))
     go false false true = release-all-keeps receivePdos s d
-    go false false false = (refl, refl)
+    go false false false = (refl, (refl, refl))
 
 object-keeps : (w : Bool) (rq : List ℕ) (f : Found) (s : State) (d : List ℕ) → Keeps s (toObject w rq f s d)
 unfolding toObject toRow decided abort
@@ -134,10 +144,10 @@ object-keeps true rq (found x) s d = go (downloadVerdict rq (s .node .nmt) d x)
   where
     go : (v : Verdict) → Keeps s (decided v rq x s d)
     go good = applied-keeps _ s d
-    go (bad a) = (refl, refl)
-object-keeps false rq (found x) s d = (refl, refl)
-object-keeps w rq noObject s d = (refl, refl)
-object-keeps w rq noSubindex s d = (refl, refl)
+    go (bad a) = (refl, (refl, refl))
+object-keeps false rq (found x) s d = (refl, (refl, refl))
+object-keeps w rq noObject s d = (refl, (refl, refl))
+object-keeps w rq noSubindex s d = (refl, (refl, refl))
 
 pub sdo-keeps : (rq : List ℕ) (s : State) (d : List ℕ) → Keeps s (sdo rq s d)
 unfolding sdo asked abort
@@ -146,29 +156,29 @@ sdo-keeps rq s d = go (commandOf (commandByte rq))
     go : (c : Command) → Keeps s (asked c rq s d)
     go download = object-keeps true rq (lookup (askedIndex rq) (askedSubindex rq)) s d
     go upload = object-keeps false rq (lookup (askedIndex rq) (askedSubindex rq)) s d
-    go clientAbort = (refl, refl)
-    go unknown = (refl, refl)
+    go clientAbort = (refl, (refl, refl))
+    go unknown = (refl, (refl, refl))
 
 tick-keeps : (s : State) (d : List ℕ) → Keeps s (ticked s d)
 unfolding ticked
 tick-keeps s d = go (eqb (read d heartbeatTime) 0) (ltb (suc (s .node .heartbeat)) (read d heartbeatTime))
   where
     go : (a b : Bool) → Keeps s (cond a (becomes s) (cond b (becomes (withHeartbeat (suc (s .node .heartbeat)) s)) (sends (heartbeat s) (becomes (withHeartbeat 0 s)))))
-    go true b = (refl, refl)
-    go false true = (refl, refl)
-    go false false = (refl, refl)
+    go true b = (refl, (refl, refl))
+    go false true = (refl, (refl, refl))
+    go false false = (refl, (refl, refl))
 
 pub event-keeps : (e : Event) (s : State) (d : List ℕ) → Keeps s (happens e s d)
 unfolding happens faulted
-event-keeps started s d = (refl, refl)
-event-keeps quickStopDone s d = (refl, refl)
-event-keeps reactionDone s d = (refl, refl)
-event-keeps setPointReached s d = (refl, refl)
+event-keeps started s d = (refl, (refl, refl))
+event-keeps quickStopDone s d = (refl, (refl, refl))
+event-keeps reactionDone s d = (refl, (refl, refl))
+event-keeps setPointReached s d = (refl, (refl, refl))
 event-keeps tick s d = tick-keeps s d
-event-keeps causeGone s d = (refl, refl)
-event-keeps (fault code register) s d = (refl, refl)
-event-keeps (feedback at speed) s d = (refl, refl)
-event-keeps (voltage b) s d = (refl, refl)
+event-keeps causeGone s d = (refl, (refl, refl))
+event-keeps (fault code register) s d = (refl, (refl, refl))
+event-keeps (feedback at speed) s d = (refl, (refl, refl))
+event-keeps (voltage b) s d = (refl, (refl, refl))
 
 -- ---- rows of the table, and of no PDO
 
@@ -280,3 +290,93 @@ sdo-unsynced rq s d = go (commandOf (commandByte rq))
     go upload = object-unsynced false rq (lookup (askedIndex rq) (askedSubindex rq)) s d
     go clientAbort = refl
     go unknown = refl
+
+-- ---- a mapping is written in Pre-operational alone
+
+applied-nmt : (ws : List Write) (s : State) (d : List ℕ) → applied ws s d .state .node .nmt ≡ s .node .nmt
+unfolding applied controlActed modeActed countRestarted faultReset
+applied-nmt ws s d = go (wrote heartbeatTime ws) (wrote mode ws) (wrote controlWord ws)
+  where
+    restarted : Bool → State
+    restarted a = cond a (withHeartbeat 0 s) s
+
+    moded : Bool → Bool → State
+    moded a b = cond b (withDrive (modeWritten (stored ws d) (restarted a .axis .drive)) (restarted a)) (restarted a)
+
+    controlled : Bool → Bool → Controlled
+    controlled a b = controlWritten (stored ws d) (read d controlWord) (moded a b .axis .drive)
+
+    same : (a b : Bool) → moded a b .node .nmt ≡ s .node .nmt
+    same true true = refl
+    same true false = refl
+    same false true = refl
+    same false false = refl
+
+    go : (a b c : Bool) → cond c (cond (controlled a b .reset) (faultReset (withDrive (controlled a b .drive) (moded a b)) (stored ws d)) (becomes (withDrive (controlled a b .drive) (moded a b)))) (becomes (moded a b)) .state .node .nmt ≡ s .node .nmt
+    go a b false = same a b
+    go a b true = reset (controlled a b .reset)
+      where
+        reset : (r : Bool) → cond r (faultReset (withDrive (controlled a b .drive) (moded a b)) (stored ws d)) (becomes (withDrive (controlled a b .drive) (moded a b))) .state .node .nmt ≡ s .node .nmt
+        reset true = same a b
+        reset false = same a b
+
+-- what is written beside a value is no mapping
+applied-remaps : (x : Row) (v : ℕ) (s : State) (d : List ℕ) → remaps (applied (write x v ∷ []) s d .writes) ≡ true → isMapping (x .role) ≡ true
+unfolding applied controlActed faultReset
+applied-remaps x v s d = go (wrote controlWord ws) (controlled .reset)
+  where
+    ws : List Write
+    ws = write x v ∷ []
+
+    acted : State
+    acted = modeActed ws (countRestarted ws s) (stored ws d)
+
+    controlled : Controlled
+    controlled = controlWritten (stored ws d) (read d controlWord) (acted .axis .drive)
+
+    only : (b : Bool) → (b || false) ≡ true → b ≡ true
+    only true h = refl
+    only false h = h
+
+    go : (b c : Bool) → remaps (ws ++ cond b (cond c (faultReset (withDrive (controlled .drive) acted) (stored ws d)) (becomes (withDrive (controlled .drive) acted))) (becomes acted) .writes) ≡ true → isMapping (x .role) ≡ true
+    go true true h = only (isMapping (x .role)) h
+    go true false h = only (isMapping (x .role)) h
+    go false c h = only (isMapping (x .role)) h
+
+mapping-time : (m : NmtState) (d : List ℕ) (r : Role) → isMapping r ≡ true → isWrongTime m d r ≡ false → isOperational m ≡ false
+unfolding isWrongTime
+mapping-time PreOperational d r h w = refl
+mapping-time Stopped d r h w = refl
+mapping-time Operational d plain h w = absurd (false≢true h)
+mapping-time Operational d modeOfOperation h w = absurd (false≢true h)
+mapping-time Operational d (pdoIdentifier p) h w = absurd (false≢true h)
+mapping-time Operational d (pdoType p) h w = absurd (false≢true h)
+mapping-time Operational d (mappingCount p) h w = absurd (true≢false w)
+mapping-time Operational d (mappingEntry p) h w = absurd (true≢false w)
+
+object-idle : (w : Bool) (rq : List ℕ) (f : Found) (s : State) (d : List ℕ) → remaps (toObject w rq f s d .writes) ≡ true → isOperational (toObject w rq f s d .state .node .nmt) ≡ false
+unfolding toObject toRow decided abort downloadVerdict
+object-idle true rq (found x) s d h = go (downloadVerdict rq (s .node .nmt) d x) refl h
+  where
+    go : (v : Verdict) → downloadVerdict rq (s .node .nmt) d x ≡ v → remaps (decided v rq x s d .writes) ≡ true → isOperational (decided v rq x s d .state .node .nmt) ≡ false
+    go good e h =
+        let a = good-passes _ _ _ e in
+        let b = good-passes _ _ _ (a .1) in
+        let c = good-passes _ _ _ (b .1) in
+        let t = good-passes _ _ _ (c .1) in
+        ap isOperational (applied-nmt (write x (askedValue rq x) ∷ []) s d)
+        ∙ mapping-time (s .node .nmt) d (x .role) (applied-remaps x (askedValue rq x) s d h) (t .0)
+    go (bad k) e h = absurd (false≢true h)
+object-idle false rq (found x) s d h = absurd (false≢true h)
+object-idle w rq noObject s d h = absurd (false≢true h)
+object-idle w rq noSubindex s d h = absurd (false≢true h)
+
+pub sdo-idle : (rq : List ℕ) (s : State) (d : List ℕ) → remaps (sdo rq s d .writes) ≡ true → isOperational (sdo rq s d .state .node .nmt) ≡ false
+unfolding sdo asked abort
+sdo-idle rq s d h = go (commandOf (commandByte rq)) h
+  where
+    go : (c : Command) → remaps (asked c rq s d .writes) ≡ true → isOperational (asked c rq s d .state .node .nmt) ≡ false
+    go download h = object-idle true rq (lookup (askedIndex rq) (askedSubindex rq)) s d h
+    go upload h = object-idle false rq (lookup (askedIndex rq) (askedSubindex rq)) s d h
+    go clientAbort h = absurd (false≢true h)
+    go unknown h = absurd (false≢true h)

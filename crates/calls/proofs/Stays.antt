@@ -4,7 +4,7 @@ use Prim.Native.Nat.{ℕ, _+_}
 use native.Mathlib.Omega.{arith}
 use mathlib.Core.Path.{_≡_, refl, sym, _∙_, ap, ap₂}
 use mathlib.Core.Logic.{_⊎_, inl, inr}
-use mathlib.Core.Bool.{Bool, true, false}
+use mathlib.Core.Bool.{true, false}
 use mathlib.Core.List.{List, [], _∷_, _++_}
 use lib.ListN.{length}
 use Rattle.state.specs.declared.State.{State}
@@ -16,17 +16,17 @@ use Rattle.rules_dictionary.proofs.Tests.{In, here, there, each-in}
 use Rattle.rules_dictionary.proofs.Members.{all-of, in-right}
 use Rattle.rules_dictionary.proofs.Packing.{apart, same-or-apart}
 use Rattle.rules_dictionary.proofs.Rows.{field-stored}
-use Rattle.rules_services.specs.Effects.{Effect, withAxis}
+use Rattle.rules_services.specs.Effects.{Effect}
 use Rattle.theorems.proofs.Alike.{isPdo, mapped-in}
 use Rattle.theorems.proofs.Booleans.{clash, any-false-in}
 use Rattle.theorems.proofs.Dictionary.{DictionaryOk, map-same}
 use Rattle.theorems.proofs.Mapped.{mapped-way}
 use Rattle.theorems.proofs.Writes.{InTable}
 use Rattle.effects.specs.declared.Done.{Done}
-use Rattle.effects.specs.Leaves.{touches, Did}
-use Rattle.sdo.proofs.Mappings.{maps, Spares, mapped-stays, plans-stay}
-use Rattle.calls.specs.Leaving.{replanned, Leaves}
-use Rattle.calls.proofs.Services.{Keeps, QuietWrites}
+use Rattle.effects.specs.Leaves.{touches, Rests, Did}
+use Rattle.calls.proofs.Mappings.{maps, Spares, mapped-stays, plans-stay}
+use Rattle.answers.specs.Leaving.{Leaves}
+use Rattle.calls.proofs.Services.{QuietWrites}
 
 -- ---- the ready frames
 
@@ -71,16 +71,19 @@ no-pdo q (mappingCount p) h = clash true refl h
 no-pdo q (mappingEntry p) h = clash true refl h
 
 -- THE LAW: what it did is what it leaves
-pub quiet-leaves : (s : State) (d o : List ℕ) (e : Effect) (r : Done) (d′ o′ : List ℕ) → Did e 0 d o r d′ o′ → QuietWrites e → Keeps s e →
-    s .axis .plans ≡ plansOf d → {n : ℕ} → DictionaryOk n d → Leaves e d o r d′ o′
-quiet-leaves s d o e r d′ o′ did quiet keeps fresh ok =
+pub quiet-leaves : (s : State) (d o : List ℕ) (e : Effect) (r : Done) (d′ o′ : List ℕ) → Did e 0 d o r d′ o′ → Rests s e r → QuietWrites e → {n : ℕ} → DictionaryOk n d →
+    Leaves s e d o r d′ o′
+quiet-leaves s d o e r d′ o′ did rests quiet ok =
     let rows : InTable (e .writes) = λ w i. quiet w i .0 in
     let spares : (q : ℕ) → Spares q (e .writes) = λ q w i. no-pdo q (w .row .role) (quiet w i .1) in
-    let plans : e .state .axis .plans ≡ plansOf d′ = keeps .0 ∙ fresh ∙ sym (plans-stay (e .writes) d rows spares) ∙ ap plansOf (sym (did .dictionary)) in
     record {
-      state = did .state ∙ ap (λ ps. replanned ps (e .state)) plans;
+      parts = did .parts;
       frames = did .frames ∙ zero-more (length (e .sent));
       synced = did .synced;
+      quiet = rests;
+      calm = λ q. did .remapped;
+      plans = λ q. ap plansOf (did .dictionary) ∙ plans-stay (e .writes) d rows spares;
+      idle = λ q. clash (r .remapped) q (did .remapped);
       ready = λ untouched. ap readyOf (did .dictionary) ∙ ready-stays (e .writes) d rows (sym (did .touched) ∙ untouched) ok spares;
       dictionary = did .dictionary;
       output = did .output;

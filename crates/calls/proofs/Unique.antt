@@ -2,7 +2,7 @@
 -- the contract as Rattle reads it (`Reads`), and not of a copy.
 -- Assumes nothing.
 use Prim.Native.Nat.{ℕ}
-use mathlib.Core.Path.{_≡_, refl, sym, _∙_, ap}
+use mathlib.Core.Path.{_≡_, sym, _∙_, ap}
 use mathlib.Core.List.{List}
 use borrow.Fn.World.{ArgsD, ResD}
 use borrow.Fn.Kinds.{endedOf}
@@ -13,7 +13,7 @@ use Rattle.state.specs.declared.State.{State}
 use Rattle.state.specs.declared.Refusal.{Refusal}
 use Rattle.state.specs.declared.Answer.{Answer}
 use Rattle.rules.specs.Calls.{Outcome}
-use Rattle.calls.specs.Promise.{outcome}
+use Rattle.answers.specs.Briefs.{outcome}
 use Rattle.calls.proofs.power_up as power-up
 use Rattle.calls.proofs.power_up.Kinds as power-up-kinds
 use Rattle.calls.proofs.power_up.Reads as power-up-reads

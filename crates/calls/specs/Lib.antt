@@ -1,3 +1,3 @@
 pub mod Promise
-pub mod Leaving
+pub mod Frames
 pub mod Traces

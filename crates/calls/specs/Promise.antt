@@ -1,38 +1,20 @@
--- What a public call answers, as the rules' outcome: the refusal, the number of frames, the state, and every byte of what is lent.
--- Each promise is one equation between this and `Calls.answer`.
+-- The promise of a call in brief; that of a public call is its `ensures`: one equation between its outcome and `Calls.answer`.
 -- Assumes nothing.
 use Prim.Native.Nat.{ℕ}
-use mathlib.Core.Path.{_≡_}
 use mathlib.Core.List.{List}
 use mathlib.Core.Bool.{Bool, _&&_, _||_}
 use lib.Dec.{eqb}
 use lib.ListN.{getD}
 use Rattle.rules_dictionary.specs.declared.PdoData.{PdoData}
 use Rattle.state.specs.declared.State.{State}
-use Rattle.state.specs.declared.Refusal.{Refusal}
-use Rattle.state.specs.declared.Answer.{Answer}
-use Rattle.rules_services.specs.Effects.{Effect}
 use Rattle.rules_services.specs.Nmt.{nmtLength, everyNode}
-use Rattle.rules.specs.Outcome.{ended}
-use Rattle.rules.specs.Calls.{Outcome, accepted}
+use Rattle.rules.specs.Calls.{Call, answer}
+use Rattle.answers.specs.declared.Brief.{Brief}
+use Rattle.answers.specs.Briefs.{Gives}
 
-abbrev pub outcome : Answer → List ℕ → List ℕ → Outcome
-outcome a dictionary output =
-    record { refusal = a .refusal; frames = a .frames; state = a .state; dictionary = dictionary; output = output }
-
--- the answer of a refused call
-abbrev pub refusal : Refusal → State → Answer
-refusal why s = record { refusal = why; frames = 0; state = s }
-
--- ---- between the calls and their parts
-
--- the answer of an accepted call with that effect
-abbrev pub Accepts : Effect → State → List ℕ → List ℕ → Answer → List ℕ → List ℕ → Type 0
-Accepts e s d o r d′ o′ = outcome r d′ o′ ≡ accepted (ended s d e) o
-
--- whatever the state was
-abbrev pub AcceptsAnew : Effect → List ℕ → List ℕ → Answer → List ℕ → List ℕ → Type 0
-AcceptsAnew e d o r d′ o′ = (s : State) → Accepts e s d o r d′ o′
+-- THE PROMISE of a call in brief
+abbrev pub InBrief : Call → State → List ℕ → List ℕ → Brief → List ℕ → List ℕ → Type 0
+InBrief c s d o b d′ o′ = Gives (answer c s d o) s b d′ o′
 
 -- "length 2, node 0 or N"
 abbrev pub isForNode : PdoData → ℕ → Bool

@@ -1,11 +1,12 @@
 // An NMT frame: "Identifier 0, length 2, node 0 or N".
 ghost use mathlib.Core.Path.{_≡_};
-ghost use Rattle.rules_services.specs.Nmt.{nmt, commandOf, commanded, resetCommunication};
+ghost use Rattle.rules_services.specs.Nmt.{nmt, commandOf, commanded};
 ghost use Rattle.calls.specs.Promise.{isForNode};
-ghost use Rattle.calls.specs.Leaving.{Stands, OnBus, dataOf, Finishes, unchanged};
-use crate::powering::planned;
+ghost use Rattle.answers.specs.Leaving.{Stands, Finishes, unchanged};
+ghost use Rattle.calls.specs.Frames.{OnBus, dataOf};
 use crate::powering::start;
 use effects::Done;
+use effects::parts_of;
 use nmt::commanded;
 use nmt::reset_communication;
 use rules_dictionary::PdoData;
@@ -19,30 +20,17 @@ const RESET_NODE: u8 = 0x81;
 
 const RESET_COMMUNICATION: u8 = 0x82;
 
-// Nothing written and nothing sent.
-pub fn changed(s: State) -> Done
-    ensures { λ r. ⌜ r ≡ unchanged s ⌝ }
+// That state, nothing written and nothing sent; quiet where it is the state of the call's start.
+pub fn changed(s: State, quiet: bool) -> Done
+    ensures { λ r. ⌜ r ≡ unchanged s quiet ⌝ }
 {
     Done {
-        state: s,
+        parts: parts_of(s),
         frames: 0,
         touched: false,
+        remapped: false,
         synced: false,
-    }
-}
-
-// 82h: every plan is worked afresh.
-fn reset(s: State, d: &mut [u8], output: &mut [u8]) -> Done
-    requires { ⌜ Stands s (now d) (now output) ⌝ }
-    ensures { λ r. ⌜ Finishes (commanded resetCommunication s) s (now (d .entry)) (now (output .entry)) r (now (d .exit)) (now (output .exit)) ⌝ }
-{
-    let done = reset_communication(s, d, output);
-    let next = done.state;
-    Done {
-        state: planned(next, d),
-        frames: done.frames,
-        touched: true,
-        synced: false,
+        quiet: quiet,
     }
 }
 
@@ -55,9 +43,9 @@ fn command(c: u8, s: State, d: &mut [u8], output: &mut [u8]) -> Done
         return start(d, output, s.node.id);
     }
     if c == RESET_COMMUNICATION {
-        return reset(s, d, output);
+        return reset_communication(s, d, output);
     }
-    changed(commanded(c, s))
+    changed(commanded(c, s), false)
 }
 
 // Whether the frame is a command for this node.
@@ -76,5 +64,5 @@ pub fn nmt_frame(content: PdoData, s: State, d: &mut [u8], output: &mut [u8]) ->
     if is_for_node(content, s.node.id) {
         return command(content.bytes[0], s, d, output);
     }
-    changed(s)
+    changed(s, true)
 }

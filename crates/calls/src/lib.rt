@@ -1,31 +1,35 @@
 // The three public calls: power-up, one frame, one event. Each takes the state and hands it back by value; dictionary and output are
 // lent. None asks anything of its caller, and each promise is one equation with the rules' answer (`Calls.answer`): it determines the
 // refusal, the number of frames, the state and every byte of what is lent. proofs/Unique.antt says so.
+// Each stands upon the same call in brief, which leaves out the plans: a caller that keeps the state where it is need not copy them.
 
-mod refusing; // a refused call
 mod powering; // power-up and 81h
 mod commands; // an NMT frame
 mod served; // a frame, by its identifier
 mod told; // an event
-mod ended; // from a service to the answer
 
-use ended::finish;
+use answers::Brief;
+use answers::anew;
+use answers::refuse;
+use answers::with_plans;
 use events::event_of;
+use events::is_bad;
+use events::is_in_place;
 use powering::start;
-use refusing::refuse;
 use rules_dictionary::PdoData;
 use served::take_frame;
 use soundness::is_sound;
 use state::Answer;
 use state::Refusal;
 use state::State;
-use told::tell;
+use told::happen;
 ghost use mathlib.Core.Path.{_≡_};
 ghost use Prim.Native.Nat.{_≤_};
 ghost use lib.ListN.{length};
 ghost use Rattle.rules_dictionary.specs.Plans.{pdoData};
 ghost use Rattle.rules.specs.Calls.{powerUpCall, frameCall, eventCall, answer};
-ghost use Rattle.calls.specs.Promise.{outcome};
+ghost use Rattle.answers.specs.Briefs.{outcome};
+ghost use Rattle.calls.specs.Promise.{InBrief};
 
 // The bytes of a dictionary, and the fewest of an output.
 const DICTIONARY: usize = 389;
@@ -42,9 +46,9 @@ const LAST_IDENTIFIER: u32 = 0x7FF;
 
 const MOST_DATA: usize = 8;
 
-// Power-up as node n.
-pub fn power_up(s: State, d: &mut [u8], output: &mut [u8], n: u32) -> Answer
-    ensures { λ r. ⌜ outcome r (now (d .exit)) (now (output .exit)) ≡ answer (powerUpCall n) s (now (d .entry)) (now (output .entry)) ⌝ }
+// Power-up as node n, in brief.
+pub fn brief_power_up(s: State, d: &mut [u8], output: &mut [u8], n: u32) -> Brief
+    ensures { λ r. ⌜ InBrief (powerUpCall n) s (now (d .entry)) (now (output .entry)) r (now (d .exit)) (now (output .exit)) ⌝ }
 {
     if d.len() != DICTIONARY {
         return refuse(Refusal::DictionaryLength, s);
@@ -59,9 +63,7 @@ pub fn power_up(s: State, d: &mut [u8], output: &mut [u8], n: u32) -> Answer
         return refuse(Refusal::NodeId, s);
     }
     let done = start(d, output, n as u8);
-    let node = s.node;
-    let nmt = node.nmt;
-    finish(done, nmt, d, output)
+    anew(done, d)
 }
 
 // The data of a frame.
@@ -81,9 +83,15 @@ fn content_of(bytes: &[u8]) -> PdoData
     }
 }
 
-// One frame of the bus.
-pub fn frame(s: State, d: &mut [u8], output: &mut [u8], identifier: u32, bytes: &[u8]) -> Answer
-    ensures { λ r. ⌜ outcome r (now (d .exit)) (now (output .exit)) ≡ answer (frameCall identifier (now (bytes .entry))) s (now (d .entry)) (now (output .entry)) ⌝ }
+// One frame of the bus, in brief.
+pub fn brief_frame(
+    s: State,
+    d: &mut [u8],
+    output: &mut [u8],
+    identifier: u32,
+    bytes: &[u8],
+) -> Brief
+    ensures { λ r. ⌜ InBrief (frameCall identifier (now (bytes .entry))) s (now (d .entry)) (now (output .entry)) r (now (d .exit)) (now (output .exit)) ⌝ }
 {
     if d.len() != DICTIONARY {
         return refuse(Refusal::DictionaryLength, s);
@@ -103,9 +111,15 @@ pub fn frame(s: State, d: &mut [u8], output: &mut [u8], identifier: u32, bytes: 
     take_frame(identifier as u16, content_of(bytes), s, d, output)
 }
 
-// One event of the amplifier.
-pub fn event(s: State, d: &mut [u8], output: &mut [u8], number: u32, arguments: &[u8]) -> Answer
-    ensures { λ r. ⌜ outcome r (now (d .exit)) (now (output .exit)) ≡ answer (eventCall number (now (arguments .entry))) s (now (d .entry)) (now (output .entry)) ⌝ }
+// One event of the amplifier, in brief.
+pub fn brief_event(
+    s: State,
+    d: &mut [u8],
+    output: &mut [u8],
+    number: u32,
+    arguments: &[u8],
+) -> Brief
+    ensures { λ r. ⌜ InBrief (eventCall number (now (arguments .entry))) s (now (d .entry)) (now (output .entry)) r (now (d .exit)) (now (output .exit)) ⌝ }
 {
     if d.len() != DICTIONARY {
         return refuse(Refusal::DictionaryLength, s);
@@ -116,5 +130,36 @@ pub fn event(s: State, d: &mut [u8], output: &mut [u8], number: u32, arguments: 
     if !is_sound(s, d) {
         return refuse(Refusal::NotSound, s);
     }
-    tell(event_of(number, arguments), s, d, output)
+    let e = event_of(number, arguments);
+    if is_bad(e) {
+        return refuse(Refusal::BadEvent, s);
+    }
+    if !is_in_place(e, s) {
+        return refuse(Refusal::OutOfPlace, s);
+    }
+    happen(e, s, d, output)
+}
+
+// Power-up as node n.
+pub fn power_up(s: State, d: &mut [u8], output: &mut [u8], n: u32) -> Answer
+    ensures { λ r. ⌜ outcome r (now (d .exit)) (now (output .exit)) ≡ answer (powerUpCall n) s (now (d .entry)) (now (output .entry)) ⌝ }
+{
+    let b = brief_power_up(s, d, output, n);
+    with_plans(s, b, d)
+}
+
+// One frame of the bus.
+pub fn frame(s: State, d: &mut [u8], output: &mut [u8], identifier: u32, bytes: &[u8]) -> Answer
+    ensures { λ r. ⌜ outcome r (now (d .exit)) (now (output .exit)) ≡ answer (frameCall identifier (now (bytes .entry))) s (now (d .entry)) (now (output .entry)) ⌝ }
+{
+    let b = brief_frame(s, d, output, identifier, bytes);
+    with_plans(s, b, d)
+}
+
+// One event of the amplifier.
+pub fn event(s: State, d: &mut [u8], output: &mut [u8], number: u32, arguments: &[u8]) -> Answer
+    ensures { λ r. ⌜ outcome r (now (d .exit)) (now (output .exit)) ≡ answer (eventCall number (now (arguments .entry))) s (now (d .entry)) (now (output .entry)) ⌝ }
+{
+    let b = brief_event(s, d, output, number, arguments);
+    with_plans(s, b, d)
 }

@@ -3,17 +3,17 @@ ghost use mathlib.Core.Path.{_≡_};
 ghost use Rattle.rules_services.specs.Effects.{isStopped};
 ghost use Rattle.rules_services.specs.Nmt.{nmtIdentifier};
 ghost use Rattle.rules.specs.Calls.{framed};
-ghost use Rattle.calls.specs.Promise.{Accepts};
-ghost use Rattle.calls.specs.Leaving.{Finishes, Stands, OnBus, dataOf, requested, serviced};
+ghost use Rattle.answers.specs.Leaving.{Finishes, Takes, Stands};
+ghost use Rattle.calls.specs.Frames.{OnBus, dataOf, requested, serviced};
 use crate::commands::changed;
 use crate::commands::nmt_frame;
-use crate::ended::finish;
+use answers::Brief;
+use answers::finish;
 use effects::Done;
 use pdo::receive;
 use pdo::sync;
 use rules_dictionary::PdoData;
 use sdo::serve;
-use state::Answer;
 use state::NmtState;
 use state::State;
 
@@ -45,10 +45,10 @@ fn request(content: PdoData, s: State, d: &mut [u8], output: &mut [u8]) -> Done
     let node = s.node;
     let nmt = node.nmt;
     if is_stopped(nmt) {
-        return changed(s);
+        return changed(s, true);
     }
     if content.length != REQUEST_LENGTH {
-        return changed(s);
+        return changed(s, true);
     }
     let bytes = content.bytes;
     serve(bytes, s, d, output)
@@ -86,12 +86,10 @@ pub fn take_frame(
     s: State,
     d: &mut [u8],
     output: &mut [u8],
-) -> Answer
+) -> Brief
     requires { ⌜ Stands s (now d) (now output) × OnBus content ⌝ }
-    ensures { λ r. ⌜ Accepts (framed identifier (dataOf content) s (now (d .entry))) s (now (d .entry)) (now (output .entry)) r (now (d .exit)) (now (output .exit)) ⌝ }
+    ensures { λ r. ⌜ Takes (framed identifier (dataOf content) s (now (d .entry))) s (now (d .entry)) (now (output .entry)) r (now (d .exit)) (now (output .exit)) ⌝ }
 {
     let done = serve_frame(identifier, content, s, d, output);
-    let node = s.node;
-    let nmt = node.nmt;
-    finish(done, nmt, d, output)
+    finish(done, s, d, output)
 }

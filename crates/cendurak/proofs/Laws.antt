@@ -3,19 +3,28 @@
 use Prim.Native.Nat.{ℕ, _+_, _*_, _<_, _≤_}
 use native.Mathlib.Omega.{arith}
 use mathlib.Core.Path.{_≡_, refl, sym, _∙_, ap}
-use mathlib.Core.Bool.{Bool, true, false, _&&_, and-false}
+use mathlib.Core.Bool.{Bool, true, false, cond, _&&_, and-false}
 use mathlib.Core.List.{List}
 use borrow.Author.Tests.{eq-eqb, ne-eqb, le-leb, lt-leb}
 use lib.Dec.{eqb, leb}
 use lib.ListN.{length}
+use lib.Seq.{sets}
 use Rattle.state.specs.declared.Refusal.{Refusal}
 use Rattle.state.specs.declared.Refusal.the-variants.{Accepted, DictionaryLength, OutputLength, NodeId, NotSound, BadFrame, BadEvent, OutOfPlace}
 use Rattle.state.specs.declared.Answer.{Answer}
+use Rattle.state.specs.declared.State.{State}
 use Rattle.rules_dictionary.specs.TheNode.{firstNode, lastNode, isNodeId}
-use Rattle.rules_dictionary.specs.Table.{dictionaryLength}
+use Rattle.rules_dictionary.specs.declared.Plan.{Plan}
+use Rattle.rules_dictionary.specs.Table.{dictionaryLength, eachWay}
 use Rattle.rules.specs.Calls.{Call, powerUpCall, frameCall, eventCall, Outcome, answer, refusalNumber, outputLength}
-use Rattle.form.specs.Form.{stateLength, stateOf, form, isForm}
-use Rattle.calls.specs.Promise.{outcome, refusal}
+use Rattle.form.specs.Form.{joined, planForm, plansPlace, stateLength, stateOf, form, isForm, HoldsPlans}
+use Rattle.form.specs.Typed.{Many, PlanTyped}
+use Rattle.form.proofs.Rows.{plans-written}
+use Rattle.form.proofs.Laws.{plans-held}
+use Rattle.rules_dictionary.specs.Plans.{plansOf}
+use Rattle.answers.specs.declared.Brief.{Brief}
+use Rattle.answers.specs.Briefs.{outcome, refusal, whole}
+use Rattle.calls.specs.Promise.{InBrief}
 use Rattle.calls.proofs.Refusals.{no-dictionary, no-room, decides-not, too-low, too-high}
 use Rattle.cendurak.specs.Boundary.{Left, status, stateAfter, leftBy, refusedWith, isGiven, hasNode, without, lentAnswer, left}
 
@@ -25,7 +34,7 @@ module _ (c : Call) (bs d o : List ℕ) where
   lent-by b = elim b [ true ↦ leftBy (answer c (stateOf bs) d o) bs | false ↦ refusedWith (without c d o) bs d o ]
 
   -- a refusal that does not look at the state
-  blind : (why : Refusal) → outcome (refusal why (stateOf bs)) d o ≡ answer c (stateOf bs) d o → without c d o ≡ why →
+  blind : (why : Refusal) → outcome (whole (stateOf bs) d (refusal why (stateOf bs))) d o ≡ answer c (stateOf bs) d o → without c d o ≡ why →
       stateAfter why (form (stateOf bs)) bs ≡ bs → left (status why 0) bs d o ≡ lentAnswer c bs d o
   unfolding lentAnswer lent-by leftBy refusedWith
   blind why answered w stays = go (isGiven c bs)
@@ -61,7 +70,7 @@ module _ (c : Call) (bs d o : List ℕ) where
           ap (λ (r : Refusal). refusedWith r bs d o) (sym (node ∙ ap (λ (b : Bool). elim b [ true ↦ NotSound | false ↦ NodeId ]) n)) ∙ ap lent-by (sym g)
 
       -- a bad node-ID
-      pub bad-node : hasNode c ≡ false → outcome (refusal NodeId (stateOf bs)) d o ≡ answer c (stateOf bs) d o → left (status NodeId 0) bs d o ≡ lentAnswer c bs d o
+      pub bad-node : hasNode c ≡ false → outcome (whole (stateOf bs) d (refusal NodeId (stateOf bs))) d o ≡ answer c (stateOf bs) d o → left (status NodeId 0) bs d o ≡ lentAnswer c bs d o
       bad-node n a = blind NodeId a (node ∙ ap (λ (b : Bool). elim b [ true ↦ NotSound | false ↦ NodeId ]) n) refl
 
   -- the call was made
@@ -70,6 +79,13 @@ module _ (c : Call) (bs d o : List ℕ) where
   unfolding lentAnswer lent-by leftBy
   made g r k bs′ d′ o′ a l =
       rw (l .0, l .1) (ap (λ (x : Outcome). leftBy x bs) a ∙ ap lent-by (sym g))
+
+  -- and answered in brief, on the state that the bytes hold
+  pub made-brief : isGiven c bs ≡ true → (s : State) → s ≡ stateOf bs → (b : Brief) (k : ℕ) (bs′ d′ o′ : List ℕ) → InBrief c s d o b d′ o′ →
+      (k ≡ status (b .refusal) (b .frames)) × (bs′ ≡ stateAfter (b .refusal) (form (whole (stateOf bs) d′ b .state)) bs) → left k bs′ d′ o′ ≡ lentAnswer c bs d o
+  made-brief g s e b k bs′ d′ o′ a l =
+      made g (whole (stateOf bs) d′ b) k bs′ d′ o′
+      (sym (ap (λ (x : State). outcome (whole x d′ b) d′ o′) e) ∙ a .0 ∙ ap (λ (x : State). answer c x d o) e) l
 
 -- ---- the tests of the state's bytes
 
@@ -92,6 +108,16 @@ node-high n h = ap (λ (b : Bool). leb firstNode n && b) (lt-leb n lastNode h) �
 
 pub a-node-id : (n : ℕ) → firstNode ≤ n → n ≤ lastNode → isNodeId n ≡ true
 a-node-id n l h = ap (λ (b : Bool). b && leb n lastNode) (le-leb firstNode n l) ∙ le-leb n lastNode h
+
+-- ---- the plans' bytes after the call
+
+module _ (remapped : Bool) (bs d : List ℕ) where
+  pub new-plans : remapped ≡ true → length bs ≡ stateLength → (plans : List Plan) → plans ≡ plansOf d → (bs′ : List ℕ) →
+      (bs′ ≡ sets bs plansPlace (joined planForm plans)) × Many PlanTyped (2 * eachWay) plans → HoldsPlans bs′ (cond remapped (plansOf d) (stateOf bs .axis .plans))
+  new-plans t l plans e bs′ w = rw (w .0, t, ← e) (plans-written bs plans l (w .1))
+
+  pub old-plans : remapped ≡ false → isForm bs ≡ true → HoldsPlans bs (cond remapped (plansOf d) (stateOf bs .axis .plans))
+  old-plans t f = rw t (plans-held bs f)
 
 -- ---- the state's bytes after the call
 

@@ -1,10 +1,17 @@
 // An answer, left to C: as a number, and its state as bytes.
 ghost use mathlib.Core.Path.{_≡_};
+ghost use mathlib.Core.Bool.{true, cond};
 ghost use Prim.Native.Nat.{_+_, _*_, _≤_};
 ghost use lib.ListN.{length};
+ghost use Rattle.rules_dictionary.specs.Plans.{plansOf};
 ghost use Rattle.rules.specs.Calls.{refusalNumber};
-ghost use Rattle.form.specs.Form.{stateLength, form};
+ghost use Rattle.answers.specs.Briefs.{whole, GivesPlans};
+ghost use Rattle.form.specs.Form.{stateLength, stateOf, form, isForm, HoldsPlans};
 ghost use Rattle.cendurak.specs.Boundary.{status, stateAfter};
+use answers::Brief;
+use answers::all_plans;
+use form::write_head;
+use form::write_plans;
 use form::write_state;
 use state::Answer;
 use state::Refusal;
@@ -46,4 +53,37 @@ pub fn leave(answer: Answer, state: &mut [u8]) -> u32
         return number_of(number, answer.frames);
     }
     number_of(number, answer.frames)
+}
+
+// The plans that the dictionary gives into the state's bytes, where a mapping was written; else they hold the plans of before.
+fn write_new_plans(remapped: bool, state: &mut [u8], d: &[u8])
+    requires { ⌜ (length (now state) ≡ stateLength) × ((isForm (now state) ≡ true) × (remapped ≡ true → GivesPlans (now d))) ⌝ }
+    ensures { λ r. ⌜ HoldsPlans (now (state .exit)) (cond remapped (plansOf (now (d .entry))) (stateOf (now (state .entry)) .axis .plans)) ⌝ }
+{
+    if remapped {
+        write_plans(state, all_plans(d));
+    }
+}
+
+// The same of an answer in brief: the plans' bytes are written only where a mapping was. The state's bytes are a form, and d is the
+// dictionary that the call left.
+pub fn leave_brief(b: Brief, state: &mut [u8], d: &[u8]) -> u32
+    requires { ⌜ (length (now state) ≡ stateLength) × ((isForm (now state) ≡ true) × (b .remapped ≡ true → GivesPlans (now d))) ⌝ }
+    ensures { λ r. ⌜ (r ≡ status (b .refusal) (b .frames)) × (now (state .exit) ≡ stateAfter (b .refusal) (form (whole (stateOf (now (state .entry))) (now (d .entry)) b .state)) (now (state .entry))) ⌝ }
+{
+    let why = b.refusal;
+    let refused = refusal_number(why);
+    if refused == 0 {
+        let parts = b.parts;
+        let node = parts.node;
+        let drive = parts.drive;
+        let held = parts.held;
+        let ready = b.ready;
+        let counts = b.counts;
+        let due = b.due;
+        write_new_plans(b.remapped, state, d);
+        write_head(state, node, drive, ready, held, counts, due);
+        return number_of(refused, b.frames);
+    }
+    number_of(refused, b.frames)
 }

@@ -4,8 +4,9 @@
 mod answering; // the answer as a number, the state as bytes
 
 use answering::leave;
-use calls::event;
-use calls::frame;
+use answering::leave_brief;
+use calls::brief_event;
+use calls::brief_frame;
 use calls::power_up;
 use form::is_form;
 use form::read_state;
@@ -86,8 +87,8 @@ pub extern "C" fn cendurak_frame(
     if !is_form(state) {
         return NO_STATE;
     }
-    let answer = frame(read_state(state), dict, out, identifier, bytes);
-    leave(answer, state)
+    let b = brief_frame(read_state(state), dict, out, identifier, bytes);
+    leave_brief(b, state, dict)
 }
 
 // One event of the amplifier.
@@ -113,6 +114,6 @@ pub extern "C" fn cendurak_event(
     if !is_form(state) {
         return NO_STATE;
     }
-    let answer = event(read_state(state), dict, out, number, arguments);
-    leave(answer, state)
+    let b = brief_event(read_state(state), dict, out, number, arguments);
+    leave_brief(b, state, dict)
 }

@@ -4,13 +4,14 @@ use Prim.Native.Nat.{ℕ}
 use mathlib.Core.List.{List}
 use mathlib.Core.Bool.{Bool, cond}
 use Rattle.state.specs.declared.State.{State}
+use Rattle.drive.specs.declared.Drive.{Drive}
 use Rattle.drive.specs.SetPoints.{modeWritten, controlWritten}
 use Rattle.rules_services.specs.Effects.{Effect, becomes, withDrive}
 use Rattle.rules_services.specs.Written.{faultReset}
 
 -- 6060h acted on, where it was written
-abbrev pub modeActs : Bool → State → List ℕ → State
-modeActs written s d = cond written (withDrive (modeWritten d (s .axis .drive)) s) s
+abbrev pub modeActs : Bool → Drive → List ℕ → Drive
+modeActs written v d = cond written (modeWritten d v) v
 
 -- 6040h acted on; `old` is what stood there before the write
 unfoldable pub controlActs : ℕ → State → List ℕ → Effect
@@ -22,5 +23,5 @@ controlActs old s d =
 -- then 6060h, then 6040h, each where it was written
 unfoldable pub acts : ℕ → Bool → Bool → State → List ℕ → Effect
 acts old mode control s d =
-    let s′ = modeActs mode s d in
+    let s′ = withDrive (modeActs mode (s .axis .drive) d) s in
     cond control (controlActs old s′ d) (becomes s′)

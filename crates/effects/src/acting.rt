@@ -1,17 +1,18 @@
 // What the node does once values are stored: 6060h acted on, then 6040h; a fault reset.
 ghost use mathlib.Core.Path.{_≡_};
+ghost use mathlib.Core.Bool.{false};
 ghost use Prim.Native.Nat.{_<_, _≤_};
 ghost use lib.ListN.{length};
 ghost use Rattle.rules_services.specs.Written.{faultReset};
 ghost use Rattle.rules.specs.Calls.{outputLength};
 ghost use Rattle.output.specs.Laying.{mostFrames};
-ghost use Rattle.effects.specs.Leaves.{Did};
+ghost use Rattle.effects.specs.Leaves.{bare, Did};
 ghost use Rattle.effects.specs.Acts.{modeActs, controlActs, acts};
 use crate::Done;
+use crate::Parts;
 use crate::emergencies::emergency;
-use crate::parts::with_drive;
 use dictionary::write1;
-use state::State;
+use drive::Drive;
 
 // Where 1001h stands.
 const ERROR_REGISTER: usize = 4;
@@ -20,52 +21,60 @@ const ERROR_REGISTER: usize = 4;
 const FAULT_GONE: u16 = 0x0000;
 
 // "1001h to 0, emergency 0000h; 603Fh stays".
-fn fault_reset(s: State, d: &mut [u8], output: &mut [u8], n: usize) -> Done
-    requires { ⌜ (length (now d) ≡ 389) × ((outputLength ≤ length (now output)) × ((n < mostFrames) × (s .node .id ≤ 127))) ⌝ }
-    ensures { λ r. ⌜ Did (faultReset s (now (d .entry))) n (now (d .entry)) (now (output .entry)) r (now (d .exit)) (now (output .exit)) ⌝ }
+fn fault_reset(parts: Parts, d: &mut [u8], output: &mut [u8], n: usize) -> Done
+    requires { ⌜ (length (now d) ≡ 389) × ((outputLength ≤ length (now output)) × ((n < mostFrames) × (parts .node .id ≤ 127))) ⌝ }
+    ensures { λ r. ⌜ Did (faultReset (bare parts) (now (d .entry))) n (now (d .entry)) (now (output .entry)) r (now (d .exit)) (now (output .exit)) × (r .quiet ≡ false) ⌝ }
 {
     write1(d, ERROR_REGISTER, 0);
-    let frames = emergency(FAULT_GONE, s, d, output, n);
+    let node = parts.node;
+    let frames = emergency(FAULT_GONE, node, d, output, n);
     Done {
-        state: s,
+        parts: parts,
         frames: frames,
         touched: true,
+        remapped: false,
         synced: false,
+        quiet: false,
     }
 }
 
 // 6060h acted on, where it was written.
-fn mode_acted(s: State, d: &[u8], written: bool) -> State
+fn mode_acted(drive: Drive, d: &[u8], written: bool) -> Drive
     requires { ⌜ length (now d) ≡ 389 ⌝ }
-    ensures { λ r. ⌜ r ≡ modeActs written s (now (d .entry)) ⌝ }
+    ensures { λ r. ⌜ r ≡ modeActs written drive (now (d .entry)) ⌝ }
 {
     if written {
-        let axis = s.axis;
-        let drive = axis.drive;
-        with_drive(s, drive.mode_written(d))
+        drive.mode_written(d)
     } else {
-        s
+        drive
     }
 }
 
 // 6040h acted on; `old` is what stood there before the write.
-fn control_acted(old: u16, s: State, d: &mut [u8], output: &mut [u8], n: usize) -> Done
-    requires { ⌜ (length (now d) ≡ 389) × ((outputLength ≤ length (now output)) × ((n < mostFrames) × (s .node .id ≤ 127))) ⌝ }
-    ensures { λ r. ⌜ Did (controlActs old s (now (d .entry))) n (now (d .entry)) (now (output .entry)) r (now (d .exit)) (now (output .exit)) ⌝ }
+fn control_acted(old: u16, parts: Parts, d: &mut [u8], output: &mut [u8], n: usize) -> Done
+    requires { ⌜ (length (now d) ≡ 389) × ((outputLength ≤ length (now output)) × ((n < mostFrames) × (parts .node .id ≤ 127))) ⌝ }
+    ensures { λ r. ⌜ Did (controlActs old (bare parts) (now (d .entry))) n (now (d .entry)) (now (output .entry)) r (now (d .exit)) (now (output .exit)) × (r .quiet ≡ false) ⌝ }
 {
-    let axis = s.axis;
-    let drive = axis.drive;
+    let node = parts.node;
+    let drive = parts.drive;
+    let held = parts.held;
     let controlled = drive.control_written(d, old);
     let after = controlled.drive;
-    let next = with_drive(s, after);
+    let next = Parts {
+        node: node,
+        drive: after,
+        held: held,
+    };
     if controlled.reset {
         return fault_reset(next, d, output, n);
     }
     Done {
-        state: next,
+        parts: next,
         frames: n,
         touched: false,
+        remapped: false,
         synced: false,
+        quiet: false,
     }
 }
 
@@ -74,22 +83,31 @@ pub fn acted(
     old: u16,
     mode: bool,
     control: bool,
-    s: State,
+    parts: Parts,
     d: &mut [u8],
     output: &mut [u8],
     n: usize,
 ) -> Done
-    requires { ⌜ (length (now d) ≡ 389) × ((outputLength ≤ length (now output)) × ((n < mostFrames) × (s .node .id ≤ 127))) ⌝ }
-    ensures { λ r. ⌜ Did (acts old mode control s (now (d .entry))) n (now (d .entry)) (now (output .entry)) r (now (d .exit)) (now (output .exit)) ⌝ }
+    requires { ⌜ (length (now d) ≡ 389) × ((outputLength ≤ length (now output)) × ((n < mostFrames) × (parts .node .id ≤ 127))) ⌝ }
+    ensures { λ r. ⌜ Did (acts old mode control (bare parts) (now (d .entry))) n (now (d .entry)) (now (output .entry)) r (now (d .exit)) (now (output .exit)) × (r .quiet ≡ false) ⌝ }
 {
-    let next = mode_acted(s, d, mode);
+    let node = parts.node;
+    let drive = parts.drive;
+    let held = parts.held;
+    let next = Parts {
+        node: node,
+        drive: mode_acted(drive, d, mode),
+        held: held,
+    };
     if control {
         return control_acted(old, next, d, output, n);
     }
     Done {
-        state: next,
+        parts: next,
         frames: n,
         touched: false,
+        remapped: false,
         synced: false,
+        quiet: false,
     }
 }

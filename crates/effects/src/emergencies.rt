@@ -4,15 +4,14 @@ ghost use Prim.Native.Nat.{_+_, _<_, _≤_};
 ghost use lib.ListN.{length};
 ghost use Rattle.rules_dictionary.specs.Plans.{pdoData};
 ghost use Rattle.rules_services.specs.Effects.{isStopped};
-ghost use Rattle.rules_services.specs.Emergency.{emergency};
 ghost use Rattle.rules.specs.Calls.{outputLength};
 ghost use Rattle.output.specs.Laying.{mostFrames, emitted};
-ghost use Rattle.effects.specs.Leaves.{emergencyBytes};
+ghost use Rattle.effects.specs.Leaves.{emergencyBytes, emergencyOf};
 use dictionary::read1;
 use output::send;
 use rules_dictionary::PdoData;
 use state::NmtState;
-use state::State;
+use state::Node;
 
 // 80h, to which the node-ID is added.
 const EMERGENCY_BASE: u16 = 0x80;
@@ -51,11 +50,10 @@ fn emergency_data(code: u16, register: u8) -> PdoData
 }
 
 // The emergency of a code as frame n, none while Stopped; the number of frames then.
-pub fn emergency(code: u16, s: State, d: &[u8], output: &mut [u8], n: usize) -> usize
-    requires { ⌜ (length (now d) ≡ 389) × ((outputLength ≤ length (now output)) × ((n < mostFrames) × (s .node .id ≤ 127))) ⌝ }
-    ensures { λ r. ⌜ (r ≡ n + length (emergency code s (now (d .entry)))) × (now (output .exit) ≡ emitted n (emergency code s (now (d .entry))) (now (output .entry))) ⌝ }
+pub fn emergency(code: u16, node: Node, d: &[u8], output: &mut [u8], n: usize) -> usize
+    requires { ⌜ (length (now d) ≡ 389) × ((outputLength ≤ length (now output)) × ((n < mostFrames) × (node .id ≤ 127))) ⌝ }
+    ensures { λ r. ⌜ (r ≡ n + length (emergencyOf code node (now (d .entry)))) × (now (output .exit) ≡ emitted n (emergencyOf code node (now (d .entry))) (now (output .entry))) ⌝ }
 {
-    let node = s.node;
     let nmt = node.nmt;
     if is_stopped(nmt) {
         return n;

@@ -10,66 +10,65 @@ use lib.ListN.{length, take, getD}
 use lib.Seq.{sets}
 use Rattle.rules_dictionary.specs.declared.Plan.{Plan}
 use Rattle.rules_dictionary.specs.declared.PdoData.{PdoData}
-use Rattle.state.specs.declared.State.{State}
+use Rattle.drive.specs.declared.Drive.{Drive}
+use Rattle.state.specs.declared.Node.{Node}
 use Rattle.rules_dictionary.specs.Numbers.{value, bytes, part, areBytes, padded}
-use Rattle.rules_dictionary.specs.Table.{Row, table, dictionaryLength, eachWay, statusWord, modeDisplay, pdos, mapCount, mapEntry, mapSlots, mostMoves}
+use Rattle.rules_dictionary.specs.Table.{dictionaryLength, eachWay, statusWord, modeDisplay, pdos, mapCount, mapEntry, mapSlots, mostMoves}
 use Rattle.rules_dictionary.specs.Values.{read, store}
 use Rattle.rules_dictionary.specs.Aborts.{isGood}
 use Rattle.rules_dictionary.specs.Legal.{modeNumber, entryVerdict, isBelow, isAbove, badChoice}
-use Rattle.rules_dictionary.specs.Plans.{mapped, planFor, plansOf, pdoData, readyFor, readyOf}
+use Rattle.rules_dictionary.specs.Plans.{mapped, planFor, pdoData, readyFor, readyOf}
 use Rattle.rules_dictionary.proofs.Tests.{In, each-in, and-left, and-right, and-both}
 use Rattle.rules_dictionary.proofs.Packing.{within}
 use Rattle.rules_dictionary.proofs.Members.{all-of, count-in}
 use Rattle.drive.specs.StatusWord.{status}
 use Rattle.rules_services.specs.Effects.{isStopped}
-use Rattle.rules.specs.Outcome.{settled, statusOf, transmitters}
+use Rattle.rules.specs.Outcome.{transmitters}
 use Rattle.rules.specs.Sound.{mappingLegal, inRange}
 use Rattle.theorems.proofs.Booleans.{not-false}
-use Rattle.theorems.proofs.Dictionary.{DictionaryOk, entries-good, map-same}
-use Rattle.theorems.proofs.Identifiers.{of-pdo}
-use Rattle.theorems.proofs.Alike.{isPdo, mapped-alike, works-alike, type-alike}
-use Rattle.theorems.proofs.Settled.{status-in, display-in, settled-length, settled-ok, settled-pdo}
+use Rattle.theorems.proofs.Dictionary.{DictionaryOk, entries-good}
+use Rattle.theorems.proofs.Settled.{status-in, display-in}
 use Rattle.theorems.proofs.Lawful.{transmitter-in}
 use Rattle.theorems.proofs.Quiet.{store-self}
 use Rattle.plans.specs.Moves.{readyBy, MovesFit}
 use Rattle.plans.proofs.Assembly.{joined-room}
 use Rattle.plans.proofs.Worked.{plan-fits, ready-mapped}
 use Rattle.output.specs.Laying.{IsData}
-use Rattle.ending.specs.Ending.{MayEnd}
+use Rattle.ending.specs.Ending.{statusBy, settledBy}
 
 -- ---- 6041h and 6061h
 
 -- the status word, by whether the node is not Stopped
-pub word-made : (s : State) (d : List ℕ) (remote : Bool) (word : ℕ) → remote ≡ not (isStopped (s .node .nmt)) →
-    word ≡ status remote (s .node .voltage) (s .axis .drive) d → word ≡ statusOf s d
-unfolding statusOf
-word-made s d remote word h w = w ∙ rw h
+pub word-made : (node : Node) (drive : Drive) (d : List ℕ) (remote : Bool) (word : ℕ) → remote ≡ not (isStopped (node .nmt)) →
+    word ≡ status remote (node .voltage) drive d → word ≡ statusBy node drive d
+word-made node drive d remote word h w = w ∙ rw h
 
-module _ (s : State) (d : List ℕ) (word shown : ℕ) (w : word ≡ statusOf s d) (m : shown ≡ modeNumber (s .axis .drive .mode)) where
+module _ (node : Node) (drive : Drive) (d : List ℕ) (word shown : ℕ) (w : word ≡ statusBy node drive d)
+    (m : shown ≡ modeNumber (drive .mode)) where
   -- written, they are made
-  pub both-written : sets (sets d (statusWord .place) (bytes 2 word)) (modeDisplay .place) (bytes 1 shown) ≡ settled s d
-  unfolding settled store
+  pub both-written : sets (sets d (statusWord .place) (bytes 2 word)) (modeDisplay .place) (bytes 1 shown) ≡ settledBy node drive d
+  unfolding settledBy store
   both-written = rw (w, m)
 
   -- where both stand there already, nothing is to be made
   pub both-stand : areBytes d ≡ true → length d ≡ dictionaryLength → value (part (statusWord .place) 2 d) ≡ word → value (part (modeDisplay .place) 1 d) ≡ shown →
-      d ≡ settled s d
-  unfolding settled read
+      d ≡ settledBy node drive d
+  unfolding settledBy read
   both-stand b l p q =
-      let first : store statusWord (statusOf s d) d ≡ d =
+      let first : store statusWord (statusBy node drive d) d ≡ d =
       ap (λ (v : ℕ). store statusWord v d) (sym (p ∙ w)) ∙ store-self statusWord d b (omega (arith, within status-in)) in
-      let second : store modeDisplay (modeNumber (s .axis .drive .mode)) d ≡ d =
+      let second : store modeDisplay (modeNumber (drive .mode)) d ≡ d =
       ap (λ (v : ℕ). store modeDisplay v d) (sym (q ∙ m)) ∙ store-self modeDisplay d b (omega (arith, within display-in)) in
-      sym (ap (store modeDisplay (modeNumber (s .axis .drive .mode))) first ∙ second)
+      sym (ap (store modeDisplay (modeNumber (drive .mode))) first ∙ second)
 
 -- ---- mappings of a sound dictionary
 
 module _ {n : ℕ} {d : List ℕ} (ok : DictionaryOk n d) {p : ℕ} (i : In p pdos) where
-  legal : mappingLegal d p ≡ true
+  pub legal : mappingLegal d p ≡ true
   unfolding mappingLegal
   legal = and-both _ _ (entries-good d i ∙ all-of (λ k. isGood (entryVerdict p (read d (mapEntry p k)))) mapSlots (λ k j. ok .words p k i j)) (ok .counts p i)
 
-  few : read d (mapCount p) ≤ mostMoves
+  pub few : read d (mapCount p) ≤ mostMoves
   unfolding inRange
   few =
       let v = read d (mapCount p) in
@@ -81,6 +80,14 @@ module _ {n : ℕ} {d : List ℕ} (ok : DictionaryOk n d) {p : ℕ} (i : In p pd
 
   pub ready-by : readyBy d (planFor (mapped d p)) ≡ readyFor d p
   ready-by = ready-mapped d p legal few
+
+  -- a plan that is its own
+  module _ {plan : Plan} (own : plan ≡ planFor (mapped d p)) where
+    pub plan-at : MovesFit (plan .moves) (plan .count)
+    plan-at = subst (λ (q : Plan). MovesFit (q .moves) (q .count)) (sym own) fits
+
+    pub ready-at : readyBy d plan ≡ readyFor d p
+    ready-at = ap (readyBy d) own ∙ ready-by
 
 -- a frame's data
 
@@ -101,18 +108,6 @@ ready-data {n} {d} ok {p} i =
 
 -- ---- by number
 
-module _ {s : State} {d : List ℕ} (h : MayEnd s d) {p : ℕ} (i : In p pdos) (x : Plan) where
-  -- the kept plan
-  planned : getD (s .axis .plans) p x ≡ planFor (mapped d p)
-  unfolding plansOf
-  planned = ap (λ (l : List Plan). getD l p x) (h .plans) ∙ of-pdo (λ q. planFor (mapped d q)) x i
-
-  pub plan-at : MovesFit (getD (s .axis .plans) p x .moves) (getD (s .axis .plans) p x .count)
-  plan-at = subst (λ (q : Plan). MovesFit (q .moves) (q .count)) (sym planned) (fits (h .dictionary) i)
-
-  pub ready-at : readyBy d (getD (s .axis .plans) p x) ≡ readyFor d p
-  ready-at = ap (readyBy d) planned ∙ ready-by (h .dictionary) i
-
 -- the ready frame of transmit PDO t
 pub ready-is : (d : List ℕ) (x : PdoData) {t : ℕ} → In t transmitters → getD (readyOf d) t x ≡ readyFor d (eachWay + t)
 unfolding readyOf
@@ -120,22 +115,3 @@ ready-is d x i = each-in (λ t. getD (readyOf d) t x ≡ readyFor d (eachWay + t
 
 pub data-at : {n : ℕ} {d : List ℕ} → DictionaryOk n d → (x : PdoData) {t : ℕ} → In t transmitters → IsData (getD (readyOf d) t x)
 data-at {n} {d} ok x i = subst IsData (sym (ready-is d x i)) (ready-data ok (transmitter-in i))
-
--- ---- once 6041h and 6061h are made
-
--- the plans stay where the rows of the PDOs do
-pub plans-alike : (d d′ : List ℕ) → ((y : Row) → In y table → isPdo (y .role) ≡ true → read d′ y ≡ read d y) → plansOf d′ ≡ plansOf d
-unfolding plansOf
-plans-alike d d′ alike = map-same (λ p. planFor (mapped d′ p)) (λ p. planFor (mapped d p)) pdos (λ p i. ap planFor (mapped-alike d d′ alike i))
-
-pub still-may-end : (s : State) (d : List ℕ) → MayEnd s d → MayEnd s (settled s d)
-still-may-end s d h =
-    let m = s .node .nmt in
-    record {
-      long = settled-length s d ∙ h .long;
-      dictionary = settled-ok (s .node .id) s d (h .long) (h .dictionary);
-      counts = λ t i w c.
-          let type = type-alike d (settled s d) (settled-pdo s d) (transmitter-in i) in
-          rw type (h .counts t i (sym (works-alike d (settled s d) (settled-pdo s d) m (transmitter-in i)) ∙ w) (rw type at c));
-      plans = h .plans ∙ sym (plans-alike d (settled s d) (settled-pdo s d));
-    }

@@ -16,7 +16,7 @@ use Rattle.rules_services.specs.PdoTraffic.{Pace, pace, paceOf, typeOf, transmi
 use Rattle.output.specs.Laying.{frameOf, emitted}
 use Rattle.output.proofs.Laws.{emitted-none}
 use Rattle.ending.specs.declared.Paced.{Paced}
-use Rattle.ending.specs.Ending.{isOpen, openPace, sentBy, paced, Went}
+use Rattle.ending.specs.Ending.{isOpen, openPace, sentOne, paced, Went}
 
 -- ---- where the rows stand
 
@@ -58,8 +58,8 @@ module _ (p : Pace) (q : Paced) (is : q ≡ paced p) (d : List ℕ) (t : ℕ) (c
   sends : (b : Bool) → q .send ≡ b → p .send ≡ b
   sends b h = sym (ap (λ (x : Paced). x .send) is) ∙ h
 
-  pub went-unsent : q .send ≡ false → Went p (sentBy p d t content) n o (record { frames = n; count = q .count; due = q .due }) o
-  unfolding sentBy
+  pub went-unsent : q .send ≡ false → Went p (sentOne p d t content) n o (record { frames = n; count = q .count; due = q .due }) o
+  unfolding sentOne
   went-unsent h =
       rw (sends false h)
       (record {
@@ -71,8 +71,8 @@ module _ (p : Pace) (q : Paced) (is : q ≡ paced p) (d : List ℕ) (t : ℕ) (c
       })
 
   pub went-sent : q .send ≡ true → (w : ℕ) → w ≡ read d (identifier (eachWay + t)) → (o′ : List ℕ) → o′ ≡ emitted n (frameOf (w % 2 ^ identifierBits) content ∷ []) o →
-      Went p (sentBy p d t content) n o (record { frames = n + 1; count = q .count; due = q .due }) o′
-  unfolding sentBy transmitted
+      Went p (sentOne p d t content) n o (record { frames = n + 1; count = q .count; due = q .due }) o′
+  unfolding sentOne transmitted
   went-sent h w e o′ k =
       let b : w % 2 ^ identifierBits ≡ w / 1 % 2 ^ identifierBits = omega arith in
       rw (sends true h, ← e, ← b)

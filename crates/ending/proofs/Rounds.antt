@@ -4,10 +4,12 @@ use Prim.Native.Nat.{ℕ, zero, suc, _+_, _<_, _≤_}
 use native.Mathlib.Numerals.{add-one}
 use native.Mathlib.Omega.{arith}
 use mathlib.Core.Path.{_≡_, refl, sym, _∙_, ap}
-use mathlib.Core.Bool.{Bool, true, false, not, _||_}
+use mathlib.Core.Bool.{Bool, true, false, true≢false, not, _||_}
 use mathlib.Core.List.{List, [], _∷_, _++_}
 use lib.ListN.{length, getD, set, drop, length-append}
 use Rattle.rules_dictionary.specs.declared.PdoData.{PdoData}
+use Rattle.state.specs.declared.NmtState.{NmtState}
+use Rattle.state.specs.declared.NmtState.the-variants.{PreOperational, Operational, Stopped}
 use Rattle.state.specs.declared.State.{State}
 use Rattle.rules_dictionary.specs.Table.{eachWay}
 use Rattle.rules_dictionary.specs.Legal.{isCyclic}
@@ -15,13 +17,14 @@ use Rattle.rules_dictionary.specs.Plans.{readyOf}
 use Rattle.rules_dictionary.proofs.Tests.{In, here, there}
 use Rattle.rules_services.specs.Effects.{Frame, isOperational}
 use Rattle.rules_services.specs.PdoTraffic.{Pace, pace, works, typeOf, noData}
+use Rattle.rules_services.specs.Nmt.{noCounts, noneDue}
 use Rattle.rules.specs.Outcome.{sameData, changes, transmissions, transmitters}
 use Rattle.rules.specs.Calls.{outputLength}
 use Rattle.theorems.proofs.Writes.{idle}
 use Rattle.output.specs.Laying.{emitted}
 use Rattle.output.proofs.Laws.{emitted-none, emitted-then}
 use Rattle.ending.specs.declared.Gone.{Gone}
-use Rattle.ending.specs.Ending.{paceWith, isOpen, openPace, sentBy, sentOut, answered, Went, MayEnd, Ended}
+use Rattle.ending.specs.Ending.{paceWith, isOpen, openPace, sentOne, sentOut, CountsBelow, Went, SentBy}
 
 -- the first so many elements stored one after another
 unfoldable pub filled : {A : Type 0} → (ℕ → A) → ℕ → List A → List A
@@ -52,11 +55,17 @@ four-ready : (d : List ℕ) (t : ℕ) → t < eachWay → t < length (readyOf d)
 unfolding readyOf
 four-ready d t h = h
 
+-- the one NMT state in which they are sent
+pub operational : (m : NmtState) → isOperational m ≡ true → m ≡ Operational
+operational PreOperational h = absurd (true≢false (sym h))
+operational Operational h = refl
+operational Stopped h = absurd (true≢false (sym h))
+
 -- a working one's count, in Operational
-pub count-below : {s : State} {d : List ℕ} → MayEnd s d → isOperational (s .node .nmt) ≡ true → {t : ℕ} → t < eachWay → isOpen d t ≡ true → isCyclic (typeOf d (eachWay + t)) ≡ true →
+pub count-below : (s : State) (d : List ℕ) → CountsBelow s d → isOperational (s .node .nmt) ≡ true → {t : ℕ} → t < eachWay → isOpen d t ≡ true → isCyclic (typeOf d (eachWay + t)) ≡ true →
     getD (s .axis .counts) t 0 < typeOf d (eachWay + t)
 unfolding works
-count-below h on {t} l w c = h .counts t (transmitter t l) (rw on w) c
+count-below s d h on {t} l w c = h t (transmitter t l) (rw on w) c
 
 module _ (was synced : Bool) (s : State) (d : List ℕ) where
   -- the paces, and the frames from transmit PDO t on
@@ -73,20 +82,20 @@ module _ (was synced : Bool) (s : State) (d : List ℕ) where
     pub long : length o′ ≡ length o
     pub left : frames + length (leftFrom t) ≡ n + length (leftFrom 0)
     pub output : emitted frames (leftFrom t) o′ ≡ emitted n (leftFrom 0) o
-    pub counts : cs ≡ filled (λ i. paceAt i .count) t (0 ∷ 0 ∷ 0 ∷ 0 ∷ [])
-    pub due : us ≡ filled (λ i. paceAt i .due) t (false ∷ false ∷ false ∷ false ∷ [])
+    pub counts : cs ≡ filled (λ i. paceAt i .count) t noCounts
+    pub due : us ≡ filled (λ i. paceAt i .due) t noneDue
 
-  pub none-yet : (n : ℕ) (o : List ℕ) → Reached n o o (0 ∷ 0 ∷ 0 ∷ 0 ∷ []) (false ∷ false ∷ false ∷ false ∷ []) n 0
+  pub none-yet : (n : ℕ) (o : List ℕ) → Reached n o o noCounts noneDue n 0
   unfolding filled
   none-yet n o = record { far = omega arith; few = omega arith; long = refl; left = refl; output = refl; counts = refl; due = refl }
 
   -- one more
   pub one-more : {n : ℕ} {o o′ counts : List ℕ} {due : List Bool} {frames t : ℕ} → Reached n o o′ counts due frames t → t < eachWay → n ≤ 2 → outputLength ≤ length o →
-      (gone : Gone) (o″ : List ℕ) → length o″ ≡ length o′ → Went (paceAt t) (sentBy (paceAt t) d t (getD (readyOf d) t noData)) frames o′ gone o″ →
+      (gone : Gone) (o″ : List ℕ) → length o″ ≡ length o′ → Went (paceAt t) (sentOne (paceAt t) d t (getD (readyOf d) t noData)) frames o′ gone o″ →
       Reached n o o″ (set counts t (gone .count)) (set due t (gone .due)) (gone .frames) (t + 1)
-  unfolding transmissions sentBy filled
+  unfolding transmissions sentOne filled
   one-more {n} {o} {o′} {counts} {due} {frames} {t} r h small room gone o″ l w =
-      let fs = sentBy (paceAt t) d t (getD (readyOf d) t noData) in
+      let fs = sentOne (paceAt t) d t (getD (readyOf d) t noData) in
       let more : leftFrom t ≡ fs ++ leftFrom (t + 1) = ap (transmissions d (readyOf d) paceAt) (next-left t h) in
       let lengths : length (leftFrom t) ≡ length fs + length (leftFrom (t + 1)) = ap length more ∙ length-append fs (leftFrom (t + 1)) in
       record {
@@ -100,18 +109,27 @@ module _ (was synced : Bool) (s : State) (d : List ℕ) where
         due = rw (r .due, w .due, add-one t);
       }
 
-  -- all of them: the promise
-  pub all-done : {n : ℕ} {o o′ counts : List ℕ} {due : List Bool} {frames t : ℕ} → MayEnd s d → Reached n o o′ counts due frames t → eachWay ≤ t →
-      Ended (sentOut was synced s d) n o (answered s (readyOf d) counts due frames) d o′
+  -- nothing is left to do
+  pub record Over (n : ℕ) (o o′ cs : List ℕ) (us : List Bool) (frames : ℕ) : Type 0 where
+    pub few : frames ≤ n + eachWay
+    pub long : length o′ ≡ length o
+    pub sent : SentBy (sentOut was synced s d) n o (record { counts = cs; due = us; frames = frames }) o′
+
+  -- all of them gone through
+  pub all-done : {n : ℕ} {o o′ counts : List ℕ} {due : List Bool} {frames t : ℕ} → Reached n o o′ counts due frames t → eachWay ≤ t → Over n o o′ counts due frames
   unfolding sentOut filled transmissions
-  all-done {n} {o} {o′} {counts} {due} {frames} {t} h r e =
+  all-done {n} {o} {o′} {counts} {due} {frames} {t} r e =
       let four : t ≡ eachWay = omega (arith, r .far) in
       let all : frames + length (leftFrom eachWay) ≡ n + length (leftFrom 0) = rw four at (r .left) in
-      let k : frames ≡ n + length (leftFrom 0) = omega arith in
       record {
-        answer = rw (r .counts, r .due, four, k, h .plans);
-        dictionary = refl;
-        output = sym (emitted-none frames o′) ∙ rw four at (r .output);
+        few = omega (arith, r .few, r .far);
+        long = r .long;
+        sent = record {
+          counts = rw (r .counts, four);
+          due = rw (r .due, four);
+          frames = omega arith;
+          output = sym (emitted-none frames o′) ∙ rw four at (r .output);
+        };
       }
 
   -- in Operational, the pace by what the code looks at
@@ -124,8 +142,8 @@ module _ (was synced : Bool) (s : State) (d : List ℕ) where
   pub went-on : isOperational (s .node .nmt) ≡ true → {t : ℕ} → t < eachWay → length (s .axis .ready) ≡ eachWay → (x : PdoData) (changed : Bool) →
       changed ≡ (not was || not (sameData (getD (s .axis .ready) t x) (getD (readyOf d) t x))) → {n : ℕ} {o o′ : List ℕ} {gone : Gone} →
       Went (openPace d t synced changed (getD (s .axis .counts) t 0) (getD (s .axis .due) t false))
-      (sentBy (openPace d t synced changed (getD (s .axis .counts) t 0) (getD (s .axis .due) t false)) d t (getD (readyOf d) t x)) n o gone o′ →
-      Went (paceAt t) (sentBy (paceAt t) d t (getD (readyOf d) t noData)) n o gone o′
+      (sentOne (openPace d t synced changed (getD (s .axis .counts) t 0) (getD (s .axis .due) t false)) d t (getD (readyOf d) t x)) n o gone o′ →
+      Went (paceAt t) (sentOne (paceAt t) d t (getD (readyOf d) t noData)) n o gone o′
   went-on on {t} h l x changed e w =
       rw (in-operational on t, any-default (s .axis .ready) t noData x (omega arith), any-default (readyOf d) t noData x (four-ready d t h), ← e) w
 
@@ -134,13 +152,13 @@ module _ (was synced : Bool) (s : State) (d : List ℕ) where
   unfolding paceWith
   resting off t = rw (idle (s .node .nmt) d (eachWay + t) off)
 
-  pub at-rest : {n : ℕ} (o : List ℕ) → MayEnd s d → isOperational (s .node .nmt) ≡ false →
-      Ended (sentOut was synced s d) n o (answered s (readyOf d) (0 ∷ 0 ∷ 0 ∷ 0 ∷ []) (false ∷ false ∷ false ∷ false ∷ []) n) d o
+  pub at-rest : (n : ℕ) (o : List ℕ) → isOperational (s .node .nmt) ≡ false → Over n o o noCounts noneDue n
   unfolding sentOut transmissions
-  at-rest {n} o h off =
-      let z : n + 0 ≡ n = omega arith in
+  at-rest n o off =
       record {
-        answer = rw (resting off 0, resting off 1, resting off 2, resting off 3, z, h .plans);
-        dictionary = refl;
-        output = rw (resting off 0, resting off 1, resting off 2, resting off 3, emitted-none n o);
+        few = omega arith;
+        long = refl;
+        sent =
+            rw (resting off 0, resting off 1, resting off 2, resting off 3)
+            (record { counts = refl; due = refl; frames = omega arith; output = sym (emitted-none n o) });
       }

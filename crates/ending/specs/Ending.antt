@@ -7,21 +7,26 @@ use mathlib.Core.Bool.{Bool, true, false, cond, not, _&&_, _||_}
 use lib.Dec.{ltb}
 use lib.ListN.{length, getD}
 use Rattle.rules_dictionary.specs.declared.PdoData.{PdoData}
+use Rattle.rules_dictionary.specs.declared.Plan.{Plan}
+use Rattle.drive.specs.declared.Drive.{Drive}
+use Rattle.state.specs.declared.NmtState.{NmtState}
+use Rattle.state.specs.declared.Node.{Node}
 use Rattle.state.specs.declared.State.{State}
-use Rattle.state.specs.declared.Answer.{Answer}
-use Rattle.state.specs.declared.Refusal.the-variants.{Accepted}
-use Rattle.rules_dictionary.specs.Table.{dictionaryLength, eachWay, identifier, mapCount}
-use Rattle.rules_dictionary.specs.Values.{read}
-use Rattle.rules_dictionary.specs.Legal.{isValid, isCyclic}
-use Rattle.rules_dictionary.specs.Plans.{plansOf, readyOf}
+use Rattle.rules_dictionary.specs.Table.{dictionaryLength, eachWay, identifier, mapCount, statusWord, modeDisplay}
+use Rattle.rules_dictionary.specs.Values.{read, store}
+use Rattle.rules_dictionary.specs.Legal.{isValid, isCyclic, modeNumber}
+use Rattle.rules_dictionary.specs.Plans.{mapped, planFor, plansOf, readyOf}
 use Rattle.rules_dictionary.proofs.Tests.{In}
-use Rattle.rules_services.specs.Effects.{Frame, isOperational}
-use Rattle.rules_services.specs.PdoTraffic.{Pace, pace, paceOf, works, typeOf, transmitted}
+use Rattle.drive.specs.StatusWord.{status}
+use Rattle.rules_services.specs.Effects.{Frame, isStopped, isOperational}
+use Rattle.rules_services.specs.PdoTraffic.{Pace, pace, paceOf, works, typeOf, transmitted, noneHeld}
+use Rattle.rules_services.specs.Nmt.{freshState}
 use Rattle.rules.specs.Outcome.{End, settled, changes, transmissions, transmitters}
 use Rattle.theorems.proofs.Dictionary.{DictionaryOk}
 use Rattle.output.specs.Laying.{emitted}
 use Rattle.ending.specs.declared.Paced.{Paced}
 use Rattle.ending.specs.declared.Gone.{Gone}
+use Rattle.ending.specs.declared.Sent.{Sent}
 
 -- ---- what the end makes
 
@@ -57,6 +62,24 @@ sentOut was synced s d =
 unfoldable pub finished : Bool → Bool → State → List ℕ → End
 finished was synced s d = sentOut was synced s (settled s d)
 
+-- ---- of the parts of a state that count for it
+
+-- 6041h and 6061h, of the node's part and the drive
+abbrev pub statusBy : Node → Drive → List ℕ → ℕ
+statusBy node drive d = status (not (isStopped (node .nmt))) (node .voltage) drive d
+
+unfoldable pub settledBy : Node → Drive → List ℕ → List ℕ
+settledBy node drive d = store modeDisplay (modeNumber (drive .mode)) (store statusWord (statusBy node drive d) d)
+
+-- a state of what the transmit PDOs are paced by: the NMT state, the ready frames of the call's start, the SYNC counts and the due marks.
+-- The rest is as after power-up; nothing of it counts (`Laws`, `sent-frames`)
+abbrev pub pacing : NmtState → List PdoData → List ℕ → List Bool → State
+pacing nmt kept counts due =
+    record {
+      node = record { id = 0; nmt = nmt; voltage = false; heartbeat = 0 };
+      axis = record { drive = freshState 0 .axis .drive; plans = []; ready = kept; held = noneHeld; counts = counts; due = due };
+    }
+
 -- ---- one transmit PDO in Operational
 
 -- valid, with something mapped
@@ -68,8 +91,8 @@ unfoldable pub openPace : List ℕ → ℕ → Bool → Bool → ℕ → Bool �
 openPace d t synced changed count due = cond (isOpen d t) (paceOf (typeOf d (eachWay + t)) synced changed count due) (pace false 0 false)
 
 -- its frame, where the pace says so
-unfoldable pub sentBy : Pace → List ℕ → ℕ → PdoData → List Frame
-sentBy p d t content = cond (p .send) (transmitted d (eachWay + t) content ∷ []) []
+unfoldable pub sentOne : Pace → List ℕ → ℕ → PdoData → List Frame
+sentOne p d t content = cond (p .send) (transmitted d (eachWay + t) content ∷ []) []
 
 -- a pace, as the code hands it back
 abbrev pub paced : Pace → Paced
@@ -83,20 +106,7 @@ pub record Went (p : Pace) (fs : List Frame) (n : ℕ) (o : List ℕ) (r : Gone)
   pub due : r .due ≡ p .due
   pub output : o′ ≡ emitted n fs o
 
--- ---- the whole
-
--- the answer of a state with those ready frames, SYNC counts and due marks
-abbrev pub answered : State → List PdoData → List ℕ → List Bool → ℕ → Answer
-answered s ready counts due frames =
-    let a = s .axis in
-    record {
-      refusal = Accepted;
-      frames = frames;
-      state = record {
-        node = s .node;
-        axis = record { drive = a .drive; plans = a .plans; ready = ready; held = a .held; counts = counts; due = due };
-      };
-    }
+-- ---- what may end
 
 -- SYNC counts below their type
 abbrev pub CountsBelow : State → List ℕ → Type 0
@@ -111,8 +121,29 @@ pub record MayEnd (s : State) (d : List ℕ) : Type 0 where
   pub counts : CountsBelow s d
   pub plans : s .axis .plans ≡ plansOf d
 
--- THE PROMISE: the answer and every lent byte, with n frames before the call's end
-pub record Ended (e : End) (n : ℕ) (o : List ℕ) (r : Answer) (d′ o′ : List ℕ) : Type 0 where
-  pub answer : r ≡ record { refusal = Accepted; frames = n + length (e .sent); state = e .state }
-  pub dictionary : d′ ≡ e .dictionary
+-- a lawful dictionary and its plans of the transmit PDOs, which are PDO 4 to 7
+pub record TransmitPlans (d : List ℕ) (fifth sixth seventh eighth : Plan) : Type 0 where
+  pub long : length d ≡ dictionaryLength
+  pub id : ℕ
+  pub dictionary : DictionaryOk id d
+  pub first : fifth ≡ planFor (mapped d 4)
+  pub second : sixth ≡ planFor (mapped d 5)
+  pub third : seventh ≡ planFor (mapped d 6)
+  pub fourth : eighth ≡ planFor (mapped d 7)
+
+-- a lawful dictionary and its ready frames, with the SYNC counts of the state that is paced below their type
+pub record MaySend (s : State) (ready : List PdoData) (d : List ℕ) : Type 0 where
+  pub long : length d ≡ dictionaryLength
+  pub id : ℕ
+  pub dictionary : DictionaryOk id d
+  pub counts : CountsBelow s d
+  pub fresh : ready ≡ readyOf d
+
+-- ---- the promises, with n frames before the call's end
+
+-- what is kept of the transmit PDOs, how many frames stand in the output then, and the output's bytes
+pub record SentBy (e : End) (n : ℕ) (o : List ℕ) (r : Sent) (o′ : List ℕ) : Type 0 where
+  pub counts : r .counts ≡ e .state .axis .counts
+  pub due : r .due ≡ e .state .axis .due
+  pub frames : r .frames ≡ n + length (e .sent)
   pub output : o′ ≡ emitted n (e .sent) o

@@ -9,7 +9,7 @@ ghost use Rattle.rules_dictionary.specs.Legal.{isCyclic};
 ghost use Rattle.rules_services.specs.PdoTraffic.{cyclic, acyclic, paceOf, typeOf};
 ghost use Rattle.rules.specs.Calls.{outputLength};
 ghost use Rattle.output.specs.Laying.{mostFrames, IsData};
-ghost use Rattle.ending.specs.Ending.{isOpen, openPace, sentBy, paced, Went};
+ghost use Rattle.ending.specs.Ending.{isOpen, openPace, sentOne, paced, Went};
 use crate::Gone;
 use crate::Paced;
 use dictionary::read1;
@@ -145,7 +145,7 @@ pub fn transmit(
     n: usize,
 ) -> Gone
     requires { ⌜ (length (now d) ≡ 389) × ((outputLength ≤ length (now output)) × ((t < eachWay) × ((n < mostFrames) × (IsData content × (isOpen (now d) t ≡ true → isCyclic (typeOf (now d) (eachWay + t)) ≡ true → count < typeOf (now d) (eachWay + t)))))) ⌝ }
-    ensures { λ r. ⌜ Went (openPace (now (d .entry)) t synced changed count due) (sentBy (openPace (now (d .entry)) t synced changed count due) (now (d .entry)) t content) n (now (output .entry)) r (now (output .exit)) ⌝ }
+    ensures { λ r. ⌜ Went (openPace (now (d .entry)) t synced changed count due) (sentOne (openPace (now (d .entry)) t synced changed count due) (now (d .entry)) t content) n (now (output .entry)) r (now (output .exit)) ⌝ }
 {
     if !is_open(d, t) {
         return Gone {

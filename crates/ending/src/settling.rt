@@ -2,21 +2,23 @@
 ghost use mathlib.Core.Path.{_≡_};
 ghost use mathlib.Core.Bool.{false, not};
 ghost use lib.ListN.{length};
+ghost use Rattle.rules_dictionary.specs.Table.{dictionaryLength};
 ghost use Rattle.rules_dictionary.specs.Legal.{modeNumber};
 ghost use Rattle.rules_dictionary.specs.Plans.{readyOf};
 ghost use Rattle.rules_services.specs.Effects.{isStopped};
-ghost use Rattle.rules.specs.Outcome.{settled};
-ghost use Rattle.ending.specs.Ending.{MayEnd};
+ghost use Rattle.ending.specs.Ending.{settledBy, TransmitPlans};
 use dictionary::read1;
 use dictionary::read2;
 use dictionary::write1;
 use dictionary::write2;
+use drive::Drive;
 use drive::status::status;
 use plans::ready_of;
 use rules_dictionary::Mode;
 use rules_dictionary::PdoData;
+use rules_dictionary::Plan;
 use state::NmtState;
-use state::State;
+use state::Node;
 
 // Where 6041h stands.
 const STATUS_WORD: usize = 336;
@@ -47,14 +49,11 @@ fn mode_number(m: Mode) -> u8
 }
 
 // 6041h and 6061h made; whether an object that can be mapped is written by now, `touched` being whether one was before.
-pub fn settle(s: State, touched: bool, d: &mut [u8]) -> bool
-    requires { ⌜ length (now d) ≡ 389 ⌝ }
-    ensures { λ r. ⌜ (now (d .exit) ≡ settled s (now (d .entry))) × (r ≡ false → (touched ≡ false) × (now (d .exit) ≡ now (d .entry))) ⌝ }
+pub fn settle(node: Node, drive: Drive, touched: bool, d: &mut [u8]) -> bool
+    requires { ⌜ length (now d) ≡ dictionaryLength ⌝ }
+    ensures { λ r. ⌜ (now (d .exit) ≡ settledBy node drive (now (d .entry))) × (r ≡ false → (touched ≡ false) × (now (d .exit) ≡ now (d .entry))) ⌝ }
 {
-    let node = s.node;
     let nmt = node.nmt;
-    let axis = s.axis;
-    let drive = axis.drive;
     let mode = drive.mode;
     let word = status(is_remote(nmt), node.voltage, drive, d);
     let shown = mode_number(mode);
@@ -66,29 +65,15 @@ pub fn settle(s: State, touched: bool, d: &mut [u8]) -> bool
     true
 }
 
-// The ready frames, worked again by the kept plans.
-fn ready_again(s: State, d: &[u8]) -> [PdoData; 4]
-    requires { ⌜ MayEnd s (now d) ⌝ }
+// The ready frames, worked again by the plans of the transmit PDOs, which are PDO 4 to 7.
+pub fn ready_again(fifth: Plan, sixth: Plan, seventh: Plan, eighth: Plan, d: &[u8]) -> [PdoData; 4]
+    requires { ⌜ TransmitPlans (now d) fifth sixth seventh eighth ⌝ }
     ensures { λ r. ⌜ r ≡ readyOf (now (d .entry)) ⌝ }
 {
-    let axis = s.axis;
-    let plans = axis.plans;
     [
-        ready_of(d, plans[4]),
-        ready_of(d, plans[5]),
-        ready_of(d, plans[6]),
-        ready_of(d, plans[7]),
+        ready_of(d, fifth),
+        ready_of(d, sixth),
+        ready_of(d, seventh),
+        ready_of(d, eighth),
     ]
-}
-
-// The ready frames at the end of a call: the kept ones where nothing was written that can be mapped.
-pub fn ready_at_end(s: State, d: &[u8], written: bool) -> [PdoData; 4]
-    requires { ⌜ MayEnd s (now d) × (written ≡ false → s .axis .ready ≡ readyOf (now d)) ⌝ }
-    ensures { λ r. ⌜ r ≡ readyOf (now (d .entry)) ⌝ }
-{
-    if written {
-        return ready_again(s, d);
-    }
-    let axis = s.axis;
-    axis.ready
 }

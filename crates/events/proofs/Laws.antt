@@ -22,18 +22,18 @@ use Rattle.rules_dictionary.specs.Numbers.{value, bytes, part}
 use Rattle.rules_dictionary.specs.Table.{sizeOf, errorCode, errorRegister, position, velocity}
 use Rattle.rules_dictionary.specs.Values.{read, write, store, stored}
 use Rattle.rules_services.specs.Effects.{Frame, becomes, withDrive, withVoltage}
-use Rattle.rules_services.specs.Emergency.{emergency}
 use Rattle.rules_services.specs.Nmt.{tick}
 use Rattle.rules_services.specs.Events as rules
 use Rattle.rules.specs.Calls.{refuses, does, eventDecision}
 use Rattle.output.specs.Laying.{emitted}
 use Rattle.output.proofs.Laws.{emitted-none}
+use Rattle.effects.specs.declared.Parts.{Parts}
 use Rattle.effects.specs.declared.Done.{Done}
-use Rattle.effects.specs.Leaves.{Did}
-use Rattle.effects.proofs.Laws.{left-as, as-effect}
+use Rattle.effects.specs.Leaves.{emergencyOf, partsOf, Did, Rests}
+use Rattle.effects.proofs.Laws.{left-as, as-effect, loud, emergency-by}
 use Rattle.events.specs.declared.Event.{Event}
 use Rattle.events.specs.declared.Event.the-variants.{Started, QuickStopDone, Fault, ReactionDone, Feedback, SetPointReached, Tick, CauseGone, Voltage, Bad}
-use Rattle.events.specs.Telling.{toldOf, toldFault, toldFeedback, toldVoltage, isBad, placedBy, inPlace, driveAfter, voltageAfter, stateAfter, faultWrites, happened, quiet, loud}
+use Rattle.events.specs.Telling.{toldOf, toldFault, toldFeedback, toldVoltage, isBad, placedBy, inPlace, driveAfter, voltageAfter, stateAfter, faultWrites, happened, restated, fedBack}
 use Rattle.events.proofs.Event.{the-type}
 
 -- ---- telling
@@ -127,30 +127,30 @@ module _ (s : State) (d : List ℕ) where
 -- ---- what is done
 
 -- by their places in the code's enum, the events that change nothing but the state
-abbrev pub quietEvents : List ℕ
-quietEvents = 0 ∷ 1 ∷ 3 ∷ 5 ∷ 7 ∷ 8 ∷ 9 ∷ []
+abbrev pub stateEvents : List ℕ
+stateEvents = 0 ∷ 1 ∷ 3 ∷ 5 ∷ 7 ∷ 8 ∷ 9 ∷ []
 
-only-state : (e : Event) (s : State) (d : List ℕ) → OneOf quietEvents (tagOf the-type e) → happened (toldOf e) s d ≡ becomes (stateAfter e s)
+only-state : (e : Event) (s : State) (d : List ℕ) → OneOf stateEvents (tagOf the-type e) → happened (toldOf e) s d ≡ becomes (stateAfter e s)
 unfolding happened rules.happens
 only-state Started s d h = refl
 only-state QuickStopDone s d h = refl
-only-state (Fault code register) s d h = absurd (miss quietEvents 2 tt h)
+only-state (Fault code register) s d h = absurd (miss stateEvents 2 tt h)
 only-state ReactionDone s d h = refl
-only-state (Feedback at speed) s d h = absurd (miss quietEvents 4 tt h)
+only-state (Feedback at speed) s d h = absurd (miss stateEvents 4 tt h)
 only-state SetPointReached s d h = refl
-only-state Tick s d h = absurd (miss quietEvents 6 tt h)
+only-state Tick s d h = absurd (miss stateEvents 6 tt h)
 only-state CauseGone s d h = refl
 only-state (Voltage on) s d h = refl
 only-state Bad s d h = refl
 
-pub quietly : (e : Event) (s : State) (r : Done) (d o : List ℕ) → OneOf quietEvents (tagOf the-type e) → r ≡ quiet (stateAfter e s) →
-    Did (happened (toldOf e) s d) 0 d o r d o
-quietly e s r d o h is = rw is (as-effect (only-state e s d h) (left-as (stateAfter e s) 0 d o))
+pub only-restates : (e : Event) (s : State) (r : Done) (d o : List ℕ) → OneOf stateEvents (tagOf the-type e) → r ≡ restated (stateAfter e s) →
+    Did (happened (toldOf e) s d) 0 d o r d o × Rests s (happened (toldOf e) s d) r
+only-restates e s r d o h is =
+    rw is (as-effect (only-state e s d h) (left-as (stateAfter e s) (partsOf (stateAfter e s)) false 0 d o refl), loud s (happened (toldOf e) s d) (restated (stateAfter e s)) refl)
 
-pub after-is : (e : Event) (s t r : State) (v : Drive) (b : Bool) → v ≡ driveAfter e (s .axis .drive) → t ≡ withDrive v s →
-    b ≡ voltageAfter e (s .node .voltage) → r ≡ withVoltage b t → quiet r ≡ quiet (stateAfter e s)
-after-is e s t r v b is f g h =
-    ap quiet (h ∙ ap (λ (x : Bool). withVoltage x t) g ∙ ap (withVoltage (voltageAfter e (s .node .voltage))) (f ∙ ap (λ (x : Drive). withDrive x s) is))
+pub after-is : (e : Event) (s : State) (v : Drive) (b : Bool) → b ≡ voltageAfter e (s .node .voltage) → v ≡ driveAfter e (s .axis .drive) →
+    restated (withVoltage b (withDrive v s)) ≡ restated (stateAfter e s)
+after-is e s v b f g = rw (f, g)
 
 -- feedback
 pub fed : (at speed : ℕ) (d d′ d″ : List ℕ) → d′ ≡ sets d (position .place) (bytes (sizeOf position) at) →
@@ -158,14 +158,23 @@ pub fed : (at speed : ℕ) (d d′ d″ : List ℕ) → d′ ≡ sets d (positio
 unfolding stored store
 fed at speed d d′ d″ e f = f ∙ ap (λ (x : List ℕ). sets x (velocity .place) (bytes (sizeOf velocity) speed)) e
 
+pub fed-parts : (s : State) (p : Parts) → p ≡ partsOf s →
+    Path Done (record { parts = p; frames = 0; touched = true; remapped = false; synced = false; quiet = false }) (fedBack s)
+fed-parts s p e = ap (λ (x : Parts). record { parts = x; frames = 0; touched = true; remapped = false; synced = false; quiet = false }) e
+
 pub feeds-back : (e : Event) (at speed : ℕ) (s : State) (r : Done) (d o d′ : List ℕ) → e ≡ Feedback at speed →
-    (r ≡ loud s) × (d′ ≡ stored (write position at ∷ write velocity speed ∷ []) d) → Did (happened (toldOf e) s d) 0 d o r d′ o
+    (r ≡ fedBack s) × (d′ ≡ stored (write position at ∷ write velocity speed ∷ []) d) →
+    Did (happened (toldOf e) s d) 0 d o r d′ o × Rests s (happened (toldOf e) s d) r
 unfolding happened rules.happens
 feeds-back e at speed s r d o d′ is h =
-    rw (is, h .0) (record { state = refl; frames = refl; touched = refl; synced = refl; dictionary = h .1; output = sym (emitted-none 0 o) })
+    rw (is, h .0) (
+      record { parts = refl; frames = refl; touched = refl; remapped = refl; synced = refl; dictionary = h .1; output = sym (emitted-none 0 o) },
+      loud s (rules.happens (rules.feedback at speed) s d) (fedBack s) refl,
+    )
 
 -- a tick
-pub ticks : (e : Event) (s : State) (r : Done) (d o o′ : List ℕ) → e ≡ Tick → Did (tick s d) 0 d o r d o′ → Did (happened (toldOf e) s d) 0 d o r d o′
+pub ticks : (e : Event) (s : State) (r : Done) (d o o′ : List ℕ) → e ≡ Tick → Did (tick s d) 0 d o r d o′ × Rests s (tick s d) r →
+    Did (happened (toldOf e) s d) 0 d o r d o′ × Rests s (happened (toldOf e) s d) r
 unfolding happened rules.happens
 ticks e s r d o o′ is h = rw is h
 
@@ -177,9 +186,10 @@ pub goes-to-reaction : (m : DriveState) → isFaulty m ≡ false → FaultReacti
 goes-to-reaction m e = rw e
 
 pub faults : (e : Event) (code register : ℕ) (s : State) (r : Done) (d o d′ o′ : List ℕ) → e ≡ Fault code register →
-    Did (rules.faulted code register s d) 0 d o r d′ o′ → Did (happened (toldOf e) s d) 0 d o r d′ o′
+    Did (rules.faulted code register s d) 0 d o r d′ o′ × (r .quiet ≡ false) →
+    Did (happened (toldOf e) s d) 0 d o r d′ o′ × Rests s (happened (toldOf e) s d) r
 unfolding happened rules.happens
-faults e code register s r d o d′ o′ is h = rw is h
+faults e code register s r d o d′ o′ is h = rw is (h .0, loud s (rules.faulted code register s d) r (h .1))
 
 pub noted : (code register before : ℕ) (d d′ d″ : List ℕ) → before ≡ value (part (errorRegister .place) (sizeOf errorRegister) d) →
     d′ ≡ sets d (errorCode .place) (bytes (sizeOf errorCode) code) →
@@ -188,20 +198,29 @@ pub noted : (code register before : ℕ) (d d′ d″ : List ℕ) → before ≡
 unfolding stored store read
 noted code register before d d′ d″ was coded gained = rw (← was, ← coded) gained
 
-pub fault-left : (code register : ℕ) (s t : State) (m : DriveState) (u v : Drive) (k : ℕ) (d o d′ o′ : List ℕ) →
+pub fault-left : (code register : ℕ) (s : State) (m : DriveState) (u v : Drive) (k : ℕ) (d o d′ o′ : List ℕ) → d′ ≡ stored (faultWrites code register d) d →
+    (k ≡ 0 + length (emergencyOf code (s .node) d′)) × (o′ ≡ emitted 0 (emergencyOf code (s .node) d′) o) →
     m ≡ cond (isFaulty (s .axis .drive .state)) (s .axis .drive .state) FaultReactionActive → u ≡ enters m (s .axis .drive) → v ≡ withCause true u →
-    t ≡ withDrive v s → d′ ≡ stored (faultWrites code register d) d →
-    (k ≡ 0 + length (emergency code t d′)) × (o′ ≡ emitted 0 (emergency code t d′) o) →
-    Did (rules.faulted code register s d) 0 d o (record { state = t; frames = k; touched = true; synced = false }) d′ o′
+    Did (rules.faulted code register s d) 0 d o
+    (record {
+      parts = record { node = s .node; drive = v; held = s .axis .held };
+      frames = k;
+      touched = true;
+      remapped = false;
+      synced = false;
+      quiet = false;
+    })
+    d′ o′
 unfolding rules.faulted
-fault-left code register s t m u v k d o d′ o′ to entered caused next written h =
+fault-left code register s m u v k d o d′ o′ written h to entered caused =
     let e = rules.faulted code register s d in
-    let state : t ≡ e .state = next ∙ ap (λ (x : Drive). withDrive x s) (caused ∙ ap (withCause true) (entered ∙ ap (λ (x : DriveState). enters x (s .axis .drive)) to)) in
-    let sent : emergency code t d′ ≡ e .sent = rw (append-nil, ← state, ← written) in
+    let drive : v ≡ e .state .axis .drive = caused ∙ ap (withCause true) (entered ∙ ap (λ (x : DriveState). enters x (s .axis .drive)) to) in
+    let sent : emergencyOf code (s .node) d′ ≡ e .sent = rw (append-nil, ← written) (sym (emergency-by code (e .state) d′)) in
     record {
-      state = state;
+      parts = ap (λ (x : Drive). partsOf (withDrive x s)) drive;
       frames = h .0 ∙ ap (λ (fs : List Frame). 0 + length fs) sent;
       touched = refl;
+      remapped = refl;
       synced = refl;
       dictionary = written;
       output = h .1 ∙ ap (λ (fs : List Frame). emitted 0 fs o) sent;

@@ -17,6 +17,7 @@ use Rattle.rules_dictionary.specs.Values.{Write, write, read}
 use Rattle.rules_services.specs.Effects.{Effect, becomes, withDrive, withVoltage}
 use Rattle.rules_services.specs.Events.{Told, event, badEvent, provided, started, quickStopDone, fault, reactionDone, feedback, setPointReached, tick, causeGone, voltage, happens, genericError}
 use Rattle.effects.specs.declared.Done.{Done}
+use Rattle.effects.specs.Leaves.{partsOf}
 use Rattle.events.specs.declared.Event.{Event}
 use Rattle.events.specs.declared.Event.the-variants.{Started, QuickStopDone, Fault, ReactionDone, Feedback, SetPointReached, Tick, CauseGone, Voltage, Bad}
 
@@ -119,9 +120,9 @@ happened badEvent s d = becomes s
 -- ---- what is left beside the lent bytes, where no frame is sent
 
 -- no object that may be mapped to transmit was written
-abbrev pub quiet : State → Done
-quiet s = record { state = s; frames = 0; touched = false; synced = false }
+abbrev pub restated : State → Done
+restated s = record { parts = partsOf s; frames = 0; touched = false; remapped = false; synced = false; quiet = false }
 
 -- one was
-abbrev pub loud : State → Done
-loud s = record { state = s; frames = 0; touched = true; synced = false }
+abbrev pub fedBack : State → Done
+fedBack s = record { parts = partsOf s; frames = 0; touched = true; remapped = false; synced = false; quiet = false }

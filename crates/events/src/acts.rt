@@ -1,6 +1,6 @@
 // What each event does.
 ghost use mathlib.Core.Path.{_≡_};
-ghost use mathlib.Core.Bool.{cond};
+ghost use mathlib.Core.Bool.{false, cond};
 ghost use mathlib.Core.List.{[], _∷_};
 ghost use Prim.Native.Nat.{_≤_};
 ghost use lib.ListN.{length};
@@ -10,8 +10,8 @@ ghost use Rattle.rules_dictionary.specs.Table.{dictionaryLength, position, velo
 ghost use Rattle.rules_dictionary.specs.Values.{write, stored};
 ghost use Rattle.rules_services.specs.Events.{faulted};
 ghost use Rattle.rules.specs.Calls.{outputLength};
-ghost use Rattle.effects.specs.Leaves.{Did};
-ghost use Rattle.events.specs.Telling.{toldOf, happened, driveAfter, voltageAfter, stateAfter, faultWrites, quiet, loud};
+ghost use Rattle.effects.specs.Leaves.{Did, Rests};
+ghost use Rattle.events.specs.Telling.{toldOf, happened, driveAfter, voltageAfter, stateAfter, faultWrites, restated, fedBack};
 use crate::Event;
 use dictionary::read1;
 use dictionary::write1;
@@ -21,9 +21,9 @@ use drive::Drive;
 use drive::DriveState;
 use drive::states::is_faulty;
 use effects::Done;
+use effects::Parts;
 use effects::emergency;
-use effects::with_drive;
-use effects::with_voltage;
+use effects::parts_of;
 use nmt::tick;
 use state::State;
 
@@ -77,17 +77,25 @@ fn voltage_after(e: Event, voltage: bool) -> bool
 }
 
 // An event that changes nothing but the state.
-fn quiet(e: Event, s: State) -> Done
-    ensures { λ r. ⌜ r ≡ quiet (stateAfter e s) ⌝ }
+fn to_state(e: Event, s: State) -> Done
+    ensures { λ r. ⌜ r ≡ restated (stateAfter e s) ⌝ }
 {
     let axis = s.axis;
     let drive = axis.drive;
-    let next = with_drive(s, drive_after(e, drive));
+    let held = axis.held;
+    let mut node = s.node;
+    node.voltage = voltage_after(e, s.node.voltage);
     Done {
-        state: with_voltage(next, voltage_after(e, s.node.voltage)),
+        parts: Parts {
+            node: node,
+            drive: drive_after(e, drive),
+            held: held,
+        },
         frames: 0,
         touched: false,
+        remapped: false,
         synced: false,
+        quiet: false,
     }
 }
 
@@ -115,46 +123,55 @@ fn note_fault(code: u16, register: u8, d: &mut [u8])
 // A fault: noted, "cause present, emergency".
 fn faulted(code: u16, register: u8, s: State, d: &mut [u8], output: &mut [u8]) -> Done
     requires { ⌜ (length (now d) ≡ dictionaryLength) × ((outputLength ≤ length (now output)) × (s .node .id ≤ 127)) ⌝ }
-    ensures { λ r. ⌜ Did (faulted code register s (now (d .entry))) 0 (now (d .entry)) (now (output .entry)) r (now (d .exit)) (now (output .exit)) ⌝ }
+    ensures { λ r. ⌜ Did (faulted code register s (now (d .entry))) 0 (now (d .entry)) (now (output .entry)) r (now (d .exit)) (now (output .exit)) × (r .quiet ≡ false) ⌝ }
 {
+    let node = s.node;
     let axis = s.axis;
     let drive = axis.drive;
     let state = drive.state;
-    let next = with_drive(s, drive.enters(reaction_from(state)).with_cause(true));
+    let held = axis.held;
     note_fault(code, register, d);
-    let frames = emergency(code, next, d, output, 0);
+    let frames = emergency(code, node, d, output, 0);
     Done {
-        state: next,
+        parts: Parts {
+            node: node,
+            drive: drive.enters(reaction_from(state)).with_cause(true),
+            held: held,
+        },
         frames: frames,
         touched: true,
+        remapped: false,
         synced: false,
+        quiet: false,
     }
 }
 
 // Feedback: 6064h and 606Ch.
 fn fed_back(at: u32, speed: u32, s: State, d: &mut [u8]) -> Done
     requires { ⌜ length (now d) ≡ dictionaryLength ⌝ }
-    ensures { λ r. ⌜ (r ≡ loud s) × (now (d .exit) ≡ stored (write position at ∷ write velocity speed ∷ []) (now (d .entry))) ⌝ }
+    ensures { λ r. ⌜ (r ≡ fedBack s) × (now (d .exit) ≡ stored (write position at ∷ write velocity speed ∷ []) (now (d .entry))) ⌝ }
 {
     write4(d, POSITION, at);
     write4(d, VELOCITY, speed);
     Done {
-        state: s,
+        parts: parts_of(s),
         frames: 0,
         touched: true,
+        remapped: false,
         synced: false,
+        quiet: false,
     }
 }
 
-// What an event does; a bad one nothing.
+// What an event does; a bad one nothing. Of them only a tick is quiet.
 pub fn happens(e: Event, s: State, d: &mut [u8], output: &mut [u8]) -> Done
     requires { ⌜ (length (now d) ≡ dictionaryLength) × ((outputLength ≤ length (now output)) × (s .node .id ≤ 127)) ⌝ }
-    ensures { λ r. ⌜ Did (happened (toldOf e) s (now (d .entry))) 0 (now (d .entry)) (now (output .entry)) r (now (d .exit)) (now (output .exit)) ⌝ }
+    ensures { λ r. ⌜ Did (happened (toldOf e) s (now (d .entry))) 0 (now (d .entry)) (now (output .entry)) r (now (d .exit)) (now (output .exit)) × Rests s (happened (toldOf e) s (now (d .entry))) r ⌝ }
 {
     match e {
         Event::Fault(code, register) => faulted(code, register, s, d, output),
         Event::Feedback(at, speed) => fed_back(at, speed, s, d),
         Event::Tick => tick(s, d, output),
-        _ => quiet(e, s),
+        _ => to_state(e, s),
     }
 }

@@ -69,10 +69,10 @@ store-of (Rested x) k t a b e f g h = rw (e, f)
 store-of (Moving x) k t a b e f g h = rw (e, g)
 store-of (Queued x y) k t a b e f g h = rw (e, g, h)
 
-same : (n : ℕ) → eqb n n ≡ true
+pub same : (n : ℕ) → eqb n n ≡ true
 same n = eq-eqb n n refl
 
-same-set-point : (p : SetPoint) → sameSetPoint p p ≡ true
+pub same-set-point : (p : SetPoint) → sameSetPoint p p ≡ true
 unfolding sameSetPoint
 same-set-point p = rw (same (p .target), same (p .velocity), same (p .acceleration), same (p .deceleration))
 

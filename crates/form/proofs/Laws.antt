@@ -18,7 +18,7 @@ use Rattle.drive.specs.declared.Store.the-variants.{Empty, Rested, Moving, Queu
 use Rattle.state.specs.declared.State.{State}
 use Rattle.rules.specs.Outcome.{sameBy}
 use Rattle.dictionary.proofs.Bytes.{value-step, value-none}
-use Rattle.form.specs.Form.{each, joined, nodeForm, nodeAt, setPointForm, setPointAt, storeForm, storeAt, driveForm, driveAt, dataForm, dataAt, resting, moveLength, planLength, moveAt, planForm, planAt, headForm, form, formOver, stateOf, isForm, dataLength, readyPlace, heldPlace, plansPlace, stateLength}
+use Rattle.form.specs.Form.{each, joined, nodeForm, nodeAt, setPointForm, setPointAt, storeForm, storeAt, driveForm, driveAt, dataForm, dataAt, resting, moveLength, planLength, moveAt, planForm, planAt, headForm, form, HoldsPlans, stateOf, isForm, dataLength, readyPlace, heldPlace, plansPlace, stateLength}
 use Rattle.form.specs.Own.{isOwn}
 use Rattle.form.specs.Typed.{Many, SetPointTyped, StoreTyped, DataTyped, MoveTyped, PlanTyped, HeadTyped, Typed}
 use Rattle.form.proofs.Kept.{own-kept}
@@ -122,19 +122,13 @@ is-own bs fits l = go (isOwn bs) (isForm bs) refl refl
     go false false p q = refl
     go false true p q = sym p ∙ state-back bs (stateOf bs) (typed-read bs fits) (sym (form-stateOf bs q)) .1
 
--- with the plans that the bytes hold, all but the plans written over them is the state's form
+-- the plans' bytes of a form
 read-length : (bs : List ℕ) → length (headForm (stateOf bs)) ≡ plansPlace
 unfolding headForm stateOf nodeForm driveForm storeForm setPointForm dataForm bytes
 read-length bs = refl
 
-pub over-plans : (bs : List ℕ) (s : State) → isForm bs ≡ true → stateOf bs .axis .plans ≡ s .axis .plans → formOver bs s ≡ form s
-unfolding formOver form
-over-plans bs s h e =
+pub plans-held : (bs : List ℕ) → isForm bs ≡ true → HoldsPlans bs (stateOf bs .axis .plans)
+unfolding form
+plans-held bs h =
     let f : headForm (stateOf bs) ++ joined planForm (stateOf bs .axis .plans) ≡ bs = form-stateOf bs h in
-    let k : drop plansPlace bs ≡ joined planForm (s .axis .plans) =
-    ap (drop plansPlace) (sym f) ∙ drop-at (headForm (stateOf bs)) _ plansPlace (read-length bs) ∙ ap (joined planForm) e in
-    ap (λ (xs : List ℕ). headForm s ++ xs) k
-
--- and that state is typed
-pub typed-over : (bs : List ℕ) (s : State) → stateOf bs .axis .plans ≡ s .axis .plans → HeadTyped s → Typed s
-typed-over bs s e h = record { head = h; plans = rw e at (plans-typed bs) }
+    ap (drop plansPlace) (sym f) ∙ drop-at (headForm (stateOf bs)) _ plansPlace (read-length bs)

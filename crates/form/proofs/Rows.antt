@@ -15,13 +15,14 @@ use Rattle.rules_dictionary.specs.Table.{eachWay}
 use Rattle.rules_dictionary.specs.declared.Move.{Move}
 use Rattle.rules_dictionary.specs.declared.PdoData.{PdoData}
 use Rattle.rules_dictionary.specs.declared.Plan.{Plan}
+use Rattle.rules.specs.Outcome.{mostData}
 use Rattle.dictionary.proofs.Bytes.{part-same}
 use Rattle.drive.specs.declared.SetPoint.{SetPoint}
 use Rattle.drive.specs.declared.Store.{Store}
 use Rattle.drive.specs.declared.Drive.{Drive}
 use Rattle.state.specs.declared.Node.{Node}
 use Rattle.state.specs.declared.State.{State}
-use Rattle.form.specs.Form.{each, joined, flagNumber, nodeForm, setPointForm, storeKind, firstOf, secondOf, storeForm, driveForm, dataForm, moveForm, planForm, headForm, form, formOver, nodeLength, setPointLength, driveLength, dataLength, moveLength, planLength, drivePlace, readyPlace, heldPlace, countsPlace, plansPlace, stateLength}
+use Rattle.form.specs.Form.{each, joined, flagNumber, nodeForm, setPointForm, storeKind, firstOf, secondOf, storeForm, driveForm, dataForm, moveForm, planForm, headForm, form, withPlans, formOver, HoldsPlans, nodeLength, setPointLength, driveLength, dataLength, moveLength, planLength, drivePlace, readyPlace, heldPlace, countsPlace, plansPlace, stateLength}
 use Rattle.form.specs.Typed.{Many, DataTyped, MoveTyped, PlanTyped, HeadTyped, Typed}
 
 -- what is written behind what was written
@@ -65,11 +66,6 @@ module _ {A : Type 0} {f : A → List ℕ} {P : A → Type 0} {width : ℕ} {z :
     pub all-hold : length xs ≤ k → Each P xs
     all-hold h = each-at P z xs (λ i g. r .holds i (omega arith))
 
--- a row of bytes is itself
-joined-bytes : (bs : List ℕ) → joined (λ b. b ∷ []) bs ≡ bs
-joined-bytes [] = refl
-joined-bytes (b ∷ bs) = ap (λ (l : List ℕ). b ∷ l) (joined-bytes bs)
-
 -- the length of a row
 pub length-each : {A : Type 0} (f : A → List ℕ) (P : A → Type 0) (width : ℕ) → ((x : A) → P x → length (f x) ≡ width) → (xs : List A) → Each P xs →
     length (joined f xs) ≡ width * length xs
@@ -104,11 +100,24 @@ set-point-written d place p =
     in-turn d (bytes 4 (p .target)) (bytes 4 (p .velocity)) (bytes 4 (p .acceleration)) (bytes 4 (p .deceleration)) place (place + 4) (place + 8) (place + 12)
     refl (omega arith) (omega arith)
 
--- a PDO's data and a plan: a byte, and the row behind it
-pub frame-written : (d : List ℕ) (place : ℕ) (r : PdoData) → sets (set d place (r .length)) (place + 1) (joined (λ b. b ∷ []) (r .bytes)) ≡ sets d place (dataForm r)
+-- a PDO's data: nine bytes
+pub frame-written : (d : List ℕ) (place : ℕ) (r : PdoData) → length (r .bytes) ≡ mostData →
+    set (set (set (set (set (set (set (set (set d place (r .length)) (place + 1) (getD (r .bytes) 0 0)) (place + 2) (getD (r .bytes) 1 0)) (place + 3) (getD (r .bytes) 2 0))
+    (place + 4) (getD (r .bytes) 3 0)) (place + 5) (getD (r .bytes) 4 0)) (place + 6) (getD (r .bytes) 5 0)) (place + 7) (getD (r .bytes) 6 0)) (place + 8) (getD (r .bytes) 7 0)
+    ≡ sets d place (dataForm r)
 unfolding dataForm
-frame-written d place r = rw (joined-bytes, add-one)
+frame-written d place r l =
+    let p1 : place + 1 ≡ suc place = omega arith in
+    let p2 : place + 2 ≡ suc (suc place) = omega arith in
+    let p3 : place + 3 ≡ suc (suc (suc place)) = omega arith in
+    let p4 : place + 4 ≡ suc (suc (suc (suc place))) = omega arith in
+    let p5 : place + 5 ≡ suc (suc (suc (suc (suc place)))) = omega arith in
+    let p6 : place + 6 ≡ suc (suc (suc (suc (suc (suc place))))) = omega arith in
+    let p7 : place + 7 ≡ suc (suc (suc (suc (suc (suc (suc place)))))) = omega arith in
+    let p8 : place + 8 ≡ suc (suc (suc (suc (suc (suc (suc (suc place))))))) = omega arith in
+    rw (p1, p2, p3, p4, p5, p6, p7, p8) (ap (λ (bs : List ℕ). sets d place (r .length ∷ bs)) (listed mostData 0 (r .bytes) l))
 
+-- a plan: a byte, and the row behind it
 pub plan-written : (d : List ℕ) (place : ℕ) (p : Plan) → sets (set d place (p .count)) (place + 1) (joined moveForm (p .moves)) ≡ sets d place (planForm p)
 unfolding planForm
 plan-written d place p = rw add-one
@@ -145,6 +154,25 @@ length-move m = refl
 
 pub length-frames : (rs : List PdoData) → Many DataTyped eachWay rs → length (joined dataForm rs) ≡ eachWay * dataLength
 length-frames rs m = let l = length-each dataForm DataTyped dataLength length-data rs (m .every) in omega (arith, m .size, l)
+
+-- the data of four PDOs, and what the types say of them
+abbrev noData : PdoData
+noData = record { length = 0; bytes = [] }
+
+-- one more of them
+abbrev Put : List PdoData → ℕ → List ℕ → ℕ → List ℕ → Type 0
+Put rs k d place d′ = (d′ ≡ sets d place (dataForm (getD rs k noData))) × DataTyped (getD rs k noData)
+
+pub frames-written : (d : List ℕ) (place : ℕ) (rs : List PdoData) (d1 d2 d3 d4 : List ℕ) → length rs ≡ eachWay →
+    Put rs 0 d place d1 → Put rs 1 d1 (place + dataLength) d2 → Put rs 2 d2 (place + dataLength + dataLength) d3 →
+    Put rs 3 d3 (place + dataLength + dataLength + dataLength) d4 → (d4 ≡ sets d place (joined dataForm rs)) × Many DataTyped eachWay rs
+frames-written d place rs d1 d2 d3 d4 few w0 w1 w2 w3 =
+    let r0 : Row dataForm DataTyped dataLength noData rs d place d place 0 = none-yet in
+    let r1 = one-more r0 (omega arith) (length-data _ (w0 .1)) (w0 .1) (w0 .0) in
+    let r2 = one-more r1 (omega arith) (length-data _ (w1 .1)) (w1 .1) (w1 .0) in
+    let r3 = one-more r2 (omega arith) (length-data _ (w2 .1)) (w2 .1) (w2 .0) in
+    let r4 = one-more r3 (omega arith) (length-data _ (w3 .1)) (w3 .1) (w3 .0) in
+    (all-written r4 (omega arith), record { size = few; every = all-hold r4 (omega arith) })
 
 pub length-plan : (p : Plan) → PlanTyped p → length (planForm p) ≡ planLength
 unfolding planForm
@@ -195,12 +223,25 @@ drop-sets : (d xs : List ℕ) (place : ℕ) → place + length xs ≡ length d �
 drop-sets d xs place e =
     sym (take-all (length xs) (drop place (sets d place xs)) (simp (length-drop, length-sets) (omega arith))) ∙ part-same d xs place (length xs) refl (omega arith)
 
--- all but the plans, over bytes that the plans stand in
-pub state-written : (d : List ℕ) (s : State) → length d ≡ stateLength → Typed s → formOver (sets d plansPlace (joined planForm (s .axis .plans))) s ≡ form s
-unfolding formOver form
-state-written d s l t =
-    let long = length-plans (s .axis .plans) (t .plans) in
-    ap (λ (xs : List ℕ). headForm s ++ xs) (drop-sets d (joined planForm (s .axis .plans)) plansPlace (omega arith))
+-- the plans, written
+pub plans-written : (d : List ℕ) (plans : List Plan) → length d ≡ stateLength → Many PlanTyped (2 * eachWay) plans →
+    HoldsPlans (sets d plansPlace (joined planForm plans)) plans
+plans-written d plans l t = let long = length-plans plans t in drop-sets d (joined planForm plans) plansPlace (omega arith)
+
+-- all but the plans, written over bytes that hold these plans: the form of the state with them
+pub head-over : (bs : List ℕ) (plans : List Plan) (node : Node) (drive : Drive) (ready held : List PdoData) (counts : List ℕ) (due : List Bool) →
+    HoldsPlans bs plans → formOver bs (withPlans [] node drive ready held counts due) ≡ form (withPlans plans node drive ready held counts due)
+unfolding formOver form headForm
+head-over bs plans node drive ready held counts due h = ap (λ (xs : List ℕ). headForm (withPlans plans node drive ready held counts due) ++ xs) h
+
+-- what the types say of the whole
+pub typed-whole : (plans : List Plan) (node : Node) (drive : Drive) (ready held : List PdoData) (counts : List ℕ) (due : List Bool) →
+    HeadTyped (withPlans [] node drive ready held counts due) → Many PlanTyped (2 * eachWay) plans → Typed (withPlans plans node drive ready held counts due)
+typed-whole plans node drive ready held counts due h p =
+    record {
+      head = record { heartbeat = h .heartbeat; store = h .store; ready = h .ready; held = h .held; counts = h .counts; due = h .due };
+      plans = p;
+    }
 
 -- the SYNC counts and the due marks
 pub counts-written : (d cs : List ℕ) (ms : List Bool) → length cs ≡ eachWay → length ms ≡ eachWay →

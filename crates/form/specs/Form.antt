@@ -1,6 +1,7 @@
 -- The state as bytes of one length: each number as wide as its type and low byte first, each enum by its number, each flag as 0 or 1.
 -- In this order: the node, the drive, the ready and the held frames, SYNC counts, due marks, and the plans. Assumes nothing.
 use Prim.Native.Nat.{ℕ, zero, suc, _+_, _*_, _/_, _%_, _^_}
+use mathlib.Core.Path.{_≡_}
 use mathlib.Core.Bool.{Bool, true, false, cond}
 use mathlib.Core.List.{List, [], _∷_, _++_, map}
 use lib.Dec.{eqb}
@@ -231,9 +232,18 @@ headForm s =
 unfoldable pub form : State → List ℕ
 form s = headForm s ++ joined planForm (s .axis .plans)
 
--- bytes with all but the plans of a state in them: the plans' bytes stay
+-- the state of these plans and parts
+abbrev pub withPlans : List Plan → Node → Drive → List PdoData → List PdoData → List ℕ → List Bool → State
+withPlans plans node drive ready held counts due =
+    record { node = node; axis = record { drive = drive; plans = plans; ready = ready; held = held; counts = counts; due = due } }
+
+-- bytes with all but the plans of a state in them: the plans' bytes stay, and the state's plans do not matter
 unfoldable pub formOver : List ℕ → State → List ℕ
 formOver bs s = headForm s ++ drop plansPlace bs
+
+-- the plans' bytes are those of these plans
+abbrev pub HoldsPlans : List ℕ → List Plan → Type 0
+HoldsPlans bs plans = drop plansPlace bs ≡ joined planForm plans
 
 -- the state that bytes hold, where they hold one
 unfoldable pub stateOf : List ℕ → State

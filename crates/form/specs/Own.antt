@@ -22,6 +22,13 @@ unfoldable pub sameSetPoint : SetPoint → SetPoint → Bool
 sameSetPoint a b =
     eqb (a .target) (b .target) && (eqb (a .velocity) (b .velocity) && (eqb (a .acceleration) (b .acceleration) && eqb (a .deceleration) (b .deceleration)))
 
+-- are all of a set-point's numbers behind its target zero, and all of them
+abbrev pub rests : SetPoint → Bool
+rests p = eqb (p .velocity) 0 && (eqb (p .acceleration) 0 && eqb (p .deceleration) 0)
+
+abbrev pub isNone : SetPoint → Bool
+isNone p = eqb (p .target) 0 && rests p
+
 unfoldable pub storeOwn : ℕ → List ℕ → Bool
 storeOwn place bs =
     eqb (storeKind (storeAt place bs)) (getD bs place 0)

@@ -14,12 +14,14 @@ use drive::set_points::mode_of;
 use rules_dictionary::Mode;
 ghost use mathlib.Core.Path.{_≡_};
 ghost use Prim.Native.Nat.{_+_, _≤_};
+ghost use lib.Dec.{eqb};
 ghost use lib.ListN.{length};
 ghost use lib.Seq.{sets};
 ghost use Rattle.rules_dictionary.specs.Legal.{modeNumber};
+ghost use Rattle.drive.specs.SetPoints.{modeOf};
 ghost use Rattle.form.specs.Form.{driveStateOf, setPointLength, setPointAt, storeAt, drivePlace, driveAt, stateLength, stateNumber, setPointForm, storeKind, firstOf, secondOf, storeForm, driveForm};
 ghost use Rattle.form.specs.Typed.{SetPointTyped, StoreTyped};
-ghost use Rattle.form.specs.Own.{sameSetPoint, storeOwn, driveOwn};
+ghost use Rattle.form.specs.Own.{rests, isNone, storeOwn, driveOwn};
 
 // Where its bytes stand; those of the store are its kind and two set-points.
 const STATE: usize = 5;
@@ -217,30 +219,48 @@ pub fn write_drive(bytes: &mut [u8], v: Drive)
     write_store(bytes, store);
 }
 
-// Whether two set-points are the same.
-fn same_set_point(a: SetPoint, b: SetPoint) -> bool
-    ensures { λ r. ⌜ r ≡ sameSetPoint a b ⌝ }
+// The bits of a set-point's numbers behind its target, all together: zero where each number is.
+fn bits_behind(bytes: &[u8], place: usize) -> u32
+    requires { ⌜ place + setPointLength ≤ length (now bytes) ⌝ }
+    ensures { λ r. ⌜ eqb r 0 ≡ rests (setPointAt place (now (bytes .entry))) ⌝ }
 {
-    let last = both(
-        a.acceleration == b.acceleration,
-        a.deceleration == b.deceleration,
-    );
-    both(a.target == b.target, both(a.velocity == b.velocity, last))
+    read4(bytes, place + 4) | (read4(bytes, place + 8) | read4(bytes, place + 12))
 }
 
-// Whether the store's bytes are its form.
+// The bits of all of a set-point's numbers.
+fn bits_of(bytes: &[u8], place: usize) -> u32
+    requires { ⌜ place + setPointLength ≤ length (now bytes) ⌝ }
+    ensures { λ r. ⌜ eqb r 0 ≡ isNone (setPointAt place (now (bytes .entry))) ⌝ }
+{
+    read4(bytes, place) | bits_behind(bytes, place)
+}
+
+// Whether the store's bytes are its form: what a kind of store does not use is zero.
 fn own_store(bytes: &[u8]) -> bool
     requires { ⌜ length (now bytes) ≡ stateLength ⌝ }
     ensures { λ r. ⌜ r ≡ storeOwn (drivePlace + 5) (now (bytes .entry)) ⌝ }
 {
-    let store = read_store(bytes);
-    let first = first_of(store);
-    let second = second_of(store);
-    let points = both(
-        same_set_point(first, read_set_point(bytes, FIRST)),
-        same_set_point(second, read_set_point(bytes, SECOND)),
-    );
-    both(store_kind(store) == bytes[STORE], points)
+    let first = bits_behind(bytes, FIRST);
+    let second = bits_of(bytes, SECOND);
+    match bytes[STORE] {
+        0 => (read4(bytes, FIRST) | (first | second)) == 0,
+        1 => (first | second) == 0,
+        2 => second == 0,
+        3 => true,
+        _ => false,
+    }
+}
+
+// Whether a byte is a mode's number.
+fn own_mode(b: u8) -> bool
+    ensures { λ r. ⌜ r ≡ eqb (modeNumber (modeOf b)) b ⌝ }
+{
+    match b {
+        0 => true,
+        1 => true,
+        3 => true,
+        _ => false,
+    }
 }
 
 // Whether the drive's bytes are its form.
@@ -249,14 +269,10 @@ pub fn own_drive(bytes: &[u8]) -> bool
     ensures { λ r. ⌜ r ≡ driveOwn drivePlace (now (bytes .entry)) ⌝ }
 {
     let state = drive_state_of(bytes[STATE]);
-    let mode = mode_of(bytes[MODE]);
     let marks = both(
         own_flag(bytes[LIMIT]),
         both(own_flag(bytes[CAUSE]), own_store(bytes)),
     );
-    let modes = both(
-        mode_number(mode) == bytes[MODE],
-        both(own_flag(bytes[TAKEN]), marks),
-    );
+    let modes = both(own_mode(bytes[MODE]), both(own_flag(bytes[TAKEN]), marks));
     both(state_number(state) == bytes[STATE], modes)
 }

@@ -5,12 +5,17 @@ mod axis_drive;
 mod node;
 mod pdos;
 
+use drive::Drive;
 use node::both;
+pub use pdos::write_plans;
+use rules_dictionary::PdoData;
 use state::Axis;
+use state::Node;
 use state::State;
 ghost use mathlib.Core.Path.{_≡_};
+ghost use mathlib.Core.List.{[]};
 ghost use lib.ListN.{length};
-ghost use Rattle.form.specs.Form.{stateLength, stateOf, form, formOver, isForm};
+ghost use Rattle.form.specs.Form.{stateLength, stateOf, form, withPlans, formOver, isForm};
 ghost use Rattle.form.specs.Typed.{HeadTyped, Typed};
 
 // Where the ready and the held frames stand.
@@ -44,17 +49,18 @@ pub fn read_state(bytes: &[u8]) -> State
 }
 
 // All but the plans of a state into the bytes: the plans' bytes stay.
-pub fn write_but_plans(bytes: &mut [u8], s: State)
+pub fn write_head(
+    bytes: &mut [u8],
+    node: Node,
+    drive: Drive,
+    ready: [PdoData; 4],
+    held: [PdoData; 4],
+    counts: [u8; 4],
+    due: [bool; 4],
+)
     requires { ⌜ length (now bytes) ≡ stateLength ⌝ }
-    ensures { λ r. ⌜ (now (bytes .exit) ≡ formOver (now (bytes .entry)) s) × HeadTyped s ⌝ }
+    ensures { λ r. ⌜ (now (bytes .exit) ≡ formOver (now (bytes .entry)) (withPlans [] node drive ready held counts due)) × HeadTyped (withPlans [] node drive ready held counts due) ⌝ }
 {
-    let node = s.node;
-    let axis = s.axis;
-    let drive = axis.drive;
-    let ready = axis.ready;
-    let held = axis.held;
-    let counts = axis.counts;
-    let due = axis.due;
     node::write_node(bytes, node);
     axis_drive::write_drive(bytes, drive);
     pdos::write_frames(bytes, READY, ready);
@@ -67,10 +73,16 @@ pub fn write_state(bytes: &mut [u8], s: State)
     requires { ⌜ length (now bytes) ≡ stateLength ⌝ }
     ensures { λ r. ⌜ (now (bytes .exit) ≡ form s) × Typed s ⌝ }
 {
+    let node = s.node;
     let axis = s.axis;
+    let drive = axis.drive;
     let plans = axis.plans;
-    pdos::write_plans(bytes, plans);
-    write_but_plans(bytes, s);
+    let ready = axis.ready;
+    let held = axis.held;
+    let counts = axis.counts;
+    let due = axis.due;
+    write_plans(bytes, plans);
+    write_head(bytes, node, drive, ready, held, counts, due);
 }
 
 // Whether the bytes are the form of a state.

@@ -193,13 +193,14 @@ fn write_frame(bytes: &mut [u8], place: usize, frame: PdoData)
     ensures { λ r. ⌜ (now (bytes .exit) ≡ sets (now (bytes .entry)) place (dataForm frame)) × DataTyped frame ⌝ }
 {
     bytes[place] = frame.length;
-    let mut at = place + 1;
-    let mut k: usize = 0;
-    while k < 8 {
-        bytes[at] = frame.bytes[k];
-        at += 1;
-        k += 1;
-    }
+    bytes[place + 1] = frame.bytes[0];
+    bytes[place + 2] = frame.bytes[1];
+    bytes[place + 3] = frame.bytes[2];
+    bytes[place + 4] = frame.bytes[3];
+    bytes[place + 5] = frame.bytes[4];
+    bytes[place + 6] = frame.bytes[5];
+    bytes[place + 7] = frame.bytes[6];
+    bytes[place + 8] = frame.bytes[7];
 }
 
 // The data of four PDOs into the bytes from a place on.
@@ -207,14 +208,13 @@ pub fn write_frames(bytes: &mut [u8], place: usize, frames: [PdoData; 4])
     requires { ⌜ place + eachWay * dataLength ≤ length (now bytes) ⌝ }
     ensures { λ r. ⌜ (now (bytes .exit) ≡ sets (now (bytes .entry)) place (joined dataForm frames)) × Many DataTyped eachWay frames ⌝ }
 {
-    let mut at = place;
-    let mut k: usize = 0;
-    while k < 4 {
-        let frame = frames[k];
-        write_frame(bytes, at, frame);
-        at += FRAME;
-        k += 1;
-    }
+    let second = place + FRAME;
+    let third = second + FRAME;
+    let fourth = third + FRAME;
+    write_frame(bytes, place, frames[0]);
+    write_frame(bytes, second, frames[1]);
+    write_frame(bytes, third, frames[2]);
+    write_frame(bytes, fourth, frames[3]);
 }
 
 // The SYNC counts and the due marks into the bytes.

@@ -5,27 +5,28 @@ use native.Mathlib.Omega.{arith}
 use mathlib.Core.Path.{_≡_, refl, sym, _∙_, ap, subst}
 use mathlib.Core.List.{List, [], _∷_, append-nil}
 use mathlib.Core.Bool.{Bool, true, false, cond}
-use native.Mathlib.Numerals.{add-one}
 use borrow.Author.Tests.{ne-eqb, lt-ltb, le-ltb}
 use lib.Dec.{lit≤}
 use Rattle.state.specs.declared.NmtState.{NmtState}
 use Rattle.state.specs.declared.NmtState.the-variants.{PreOperational, Operational, Stopped}
 use Rattle.state.specs.declared.State.{State}
+use Rattle.drive.specs.declared.Drive.{Drive}
 use Rattle.rules_dictionary.specs.declared.PdoData.{PdoData}
 use Rattle.rules_dictionary.specs.Numbers.{filter, value, part}
 use Rattle.rules_dictionary.specs.Plans.{pdoData}
 use Rattle.rules_dictionary.specs.Table.{table, sizeOf, heartbeatTime}
 use Rattle.rules_dictionary.specs.Values.{read, stored, toDefaults}
-use Rattle.rules_services.specs.Effects.{Effect, frame, becomes, sends, isPreOperational, isOperational, withHeld, withPacing, withNmt, withHeartbeat}
+use Rattle.rules_services.specs.Effects.{Frame, frame, becomes, sends, isPreOperational, isOperational, withHeld, withPacing, withNmt, withHeartbeat}
 use Rattle.rules_services.specs.PdoTraffic.{noneHeld}
 use Rattle.rules_services.specs.Nmt.{isReset, left, noCounts, noneDue, voltageDisabled, start, enterPreOperational, resetCommunication, commandOf, commanded, bootUp, heartbeat, heartbeatBase, stateByte, tick}
-use Rattle.rules.specs.Outcome.{ended, paceFor, settled, enters as entersOperational, statusOf}
 use Rattle.dictionary.specs.Communication.{communicationObjects}
 use Rattle.output.specs.Laying.{IsData, frameOf, emitted}
 use Rattle.output.proofs.Laws.{is-data, frame-of-data}
-use Rattle.effects.specs.Leaves.{Did, touches}
-use Rattle.effects.proofs.Laws.{left-as, as-effect}
-use Rattle.nmt.specs.Fresh.{unworked}
+use Rattle.effects.specs.declared.Parts.{Parts}
+use Rattle.effects.specs.declared.Done.{Done}
+use Rattle.effects.specs.Leaves.{partsOf, Did, Calm, Rests}
+use Rattle.effects.proofs.Laws.{left-as, as-effect, calm-said}
+use Rattle.nmt.specs.Renewing.{disabled, Renewed}
 
 -- ---- frames on 700h+N
 
@@ -84,51 +85,60 @@ pub reset-rows : filter isReset table ≡ communicationObjects
 unfolding isReset table communicationObjects
 reset-rows = refl
 
--- none of them may be mapped
-untouched : (n : ℕ) → touches (toDefaults n (filter isReset table)) ≡ false
-unfolding isReset table
-untouched n = refl
-
-pub resets : (s v t u r : State) (k : ℕ) (d o d′ o′ : List ℕ) → d′ ≡ stored (toDefaults (s .node .id) communicationObjects) d →
-    (k ≡ 1) × (o′ ≡ emitted 0 (bootUp (s .node .id)) o) → v ≡ voltageDisabled s → t ≡ left v → u ≡ withHeartbeat 0 t → r ≡ withNmt PreOperational u →
-    Did (commanded resetCommunication s) 0 d o (record { state = r; frames = k; touched = false; synced = false }) d′ o′
-unfolding commanded
-resets s v t u r k d o d′ o′ w b e f g h =
+pub resets : (s : State) (v : Drive) (h : List PdoData) (k : ℕ) (d o d′ o′ : List ℕ) → d′ ≡ stored (toDefaults (s .node .id) communicationObjects) d →
+    (k ≡ 1) × (o′ ≡ emitted 0 (bootUp (s .node .id)) o) → v ≡ disabled (s .axis .drive) → h ≡ noneHeld →
+    Renewed (commanded resetCommunication s) d o
+    (record {
+      parts = record { node = record { id = s .node .id; nmt = PreOperational; voltage = s .node .voltage; heartbeat = 0 }; drive = v; held = h };
+      frames = k;
+      touched = true;
+      remapped = true;
+      synced = false;
+      quiet = false;
+    })
+    d′ o′
+unfolding commanded left voltageDisabled
+resets s v h k d o d′ o′ w b e f =
     record {
-      state = h ∙ ap (withNmt PreOperational) (g ∙ ap (withHeartbeat 0) (f ∙ ap left e));
+      parts = rw (e, f);
       frames = b .0;
-      touched = rw append-nil (sym (untouched (s .node .id)));
+      touched = refl;
+      remapped = refl;
       synced = refl;
+      quiet = refl;
       dictionary = rw (append-nil, reset-rows) w;
       output = b .1;
     }
 
 -- ---- time
 
+-- what a tick leaves beside the output
+abbrev pub ticked : Parts → ℕ → Done
+ticked p k = record { parts = p; frames = k; touched = false; remapped = false; synced = false; quiet = true }
+
+-- a count leaves nothing to do, whatever is sent with it
+calm-count : (s : State) (count : ℕ) (fs : List Frame) → Calm s (sends fs (becomes (withHeartbeat count s)))
+calm-count s count fs = record { writes = refl; synced = refl; nmt = refl; voltage = refl; drive = refl }
+
 module _ (s : State) (d o : List ℕ) (period : ℕ) (is : period ≡ value (part (heartbeatTime .place) (sizeOf heartbeatTime) d)) where
-  pub no-heartbeat : period ≡ 0 → Did (tick s d) 0 d o (record { state = s; frames = 0; touched = false; synced = false }) d o
+  pub no-heartbeat : (p : Parts) → period ≡ 0 → p ≡ partsOf s → Did (tick s d) 0 d o (ticked p 0) d o × Rests s (tick s d) (ticked p 0)
   unfolding tick read
-  no-heartbeat z = let q : tick s d ≡ becomes s = rw (← is, z) in as-effect q (left-as s 0 d o)
+  no-heartbeat p z e =
+      let q : tick s d ≡ becomes s = rw (← is, z) in
+      (as-effect q (left-as s p true 0 d o e), λ _. subst (Calm s) (sym q) (calm-said s []))
 
-  pub counts-on : (r : State) → (period ≡ 0 → ⊥) → s .node .heartbeat < period - 1 → r ≡ withHeartbeat (s .node .heartbeat + 1) s →
-      Did (tick s d) 0 d o (record { state = r; frames = 0; touched = false; synced = false }) d o
+  pub counts-on : (p : Parts) → (period ≡ 0 → ⊥) → s .node .heartbeat < period - 1 → p ≡ partsOf (withHeartbeat (s .node .heartbeat + 1) s) →
+      Did (tick s d) 0 d o (ticked p 0) d o × Rests s (tick s d) (ticked p 0)
   unfolding tick read
-  counts-on r z h e =
-      let q : tick s d ≡ becomes r = rw (← is, ne-eqb period 0 z, lt-ltb (suc (s .node .heartbeat)) period (omega arith), ← add-one) (ap becomes (sym e)) in
-      as-effect q (left-as r 0 d o)
+  counts-on p z h e =
+      let t = withHeartbeat (s .node .heartbeat + 1) s in
+      let q : tick s d ≡ becomes t = rw (← is, ne-eqb period 0 z, lt-ltb (suc (s .node .heartbeat)) period (omega arith)) (ap (λ (k : ℕ). becomes (withHeartbeat k s)) (omega arith)) in
+      (as-effect q (left-as t p true 0 d o e), λ _. subst (Calm s) (sym q) (calm-count s (s .node .heartbeat + 1) []))
 
-  pub beats : (r : State) (byte k : ℕ) (o′ : List ℕ) → (period ≡ 0 → ⊥) → period - 1 ≤ s .node .heartbeat → byte ≡ stateByte (s .node .nmt) →
-      (k ≡ 1) × (o′ ≡ emitted 0 (frame (heartbeatBase + s .node .id) (byte ∷ []) ∷ []) o) → r ≡ withHeartbeat 0 s →
-      Did (tick s d) 0 d o (record { state = r; frames = k; touched = false; synced = false }) d o′
+  pub beats : (p : Parts) (byte k : ℕ) (o′ : List ℕ) → (period ≡ 0 → ⊥) → period - 1 ≤ s .node .heartbeat → byte ≡ stateByte (s .node .nmt) →
+      (k ≡ 1) × (o′ ≡ emitted 0 (frame (heartbeatBase + s .node .id) (byte ∷ []) ∷ []) o) → p ≡ partsOf (withHeartbeat 0 s) →
+      Did (tick s d) 0 d o (ticked p k) d o′ × Rests s (tick s d) (ticked p k)
   unfolding tick read stored
-  beats r byte k o′ z h b w e =
+  beats p byte k o′ z h b w e =
       let q : tick s d ≡ sends (heartbeat s) (becomes (withHeartbeat 0 s)) = rw (← is, ne-eqb period 0 z, le-ltb (suc (s .node .heartbeat)) period (omega arith)) in
-      as-effect q (record { state = e; frames = w .0; touched = refl; synced = refl; dictionary = refl; output = rw (← b) (w .1) })
-
--- ---- power-up
-
--- THE LAW for callers: plans and ready frames of an effect's state do not count, since they are worked out afresh
-pub unworked-ends : (s : State) (d : List ℕ) (e : Effect) →
-    ended s d e ≡ ended s d (record { state = unworked (e .state); writes = e .writes; sent = e .sent; synced = e .synced })
-unfolding ended paceFor settled entersOperational statusOf
-unworked-ends s d e = refl
+      (as-effect q (record { parts = e; frames = w .0; touched = refl; remapped = refl; synced = refl; dictionary = refl; output = rw (← b) (w .1) }), λ _. subst (Calm s) (sym q) (calm-count s 0 (heartbeat s)))

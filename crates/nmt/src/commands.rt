@@ -6,18 +6,29 @@ ghost use Rattle.rules_dictionary.specs.Table.{dictionaryLength};
 ghost use Rattle.rules_services.specs.Effects.{becomes, isPreOperational};
 ghost use Rattle.rules_services.specs.Nmt.{enterPreOperational, resetCommunication, commandOf, commanded, voltageDisabled};
 ghost use Rattle.rules.specs.Calls.{outputLength};
-ghost use Rattle.effects.specs.Leaves.{Did};
+ghost use Rattle.nmt.specs.Renewing.{disabled, Renewed};
 use crate::heartbeats::boot_up;
 use crate::parts::left;
+use crate::parts::none_held;
 use dictionary::write_communication_defaults;
 use drive::Command;
+use drive::Drive;
 use drive::states::next;
 use effects::Done;
+use effects::Parts;
 use effects::with_drive;
-use effects::with_heartbeat;
 use effects::with_nmt;
 use state::NmtState;
+use state::Node;
 use state::State;
+
+// The drive after Disable voltage.
+fn disabled(v: Drive) -> Drive
+    ensures { λ r. ⌜ r ≡ disabled v ⌝ }
+{
+    let state = v.state;
+    v.enters(next(v.cause, state, Command::DisableVoltage))
+}
 
 // "act as Disable voltage (001); 6040h keeps its value".
 fn voltage_disabled(s: State) -> State
@@ -25,11 +36,7 @@ fn voltage_disabled(s: State) -> State
 {
     let axis = s.axis;
     let drive = axis.drive;
-    let state = drive.state;
-    with_drive(
-        s,
-        drive.enters(next(drive.cause, state, Command::DisableVoltage)),
-    )
+    with_drive(s, disabled(drive))
 }
 
 // Is the node Pre-operational.
@@ -69,18 +76,30 @@ pub fn commanded(command: u8, s: State) -> State
     }
 }
 
-// 82h: the communication objects to their defaults, Disable voltage, Pre-operational, boot-up.
+// 82h: the communication objects, mappings among them, to their defaults, Disable voltage, Pre-operational, boot-up.
 pub fn reset_communication(s: State, d: &mut [u8], output: &mut [u8]) -> Done
     requires { ⌜ (length (now d) ≡ dictionaryLength) × ((outputLength ≤ length (now output)) × ((1 ≤ s .node .id) × (s .node .id ≤ 127))) ⌝ }
-    ensures { λ r. ⌜ Did (commanded resetCommunication s) 0 (now (d .entry)) (now (output .entry)) r (now (d .exit)) (now (output .exit)) ⌝ }
+    ensures { λ r. ⌜ Renewed (commanded resetCommunication s) (now (d .entry)) (now (output .entry)) r (now (d .exit)) (now (output .exit)) ⌝ }
 {
+    let axis = s.axis;
+    let drive = axis.drive;
     write_communication_defaults(d, s.node.id);
     let frames = boot_up(output, s.node.id);
-    let next = with_heartbeat(left(voltage_disabled(s)), 0);
     Done {
-        state: with_nmt(next, NmtState::PreOperational),
+        parts: Parts {
+            node: Node {
+                id: s.node.id,
+                nmt: NmtState::PreOperational,
+                voltage: s.node.voltage,
+                heartbeat: 0,
+            },
+            drive: disabled(drive),
+            held: none_held(),
+        },
         frames: frames,
-        touched: false,
+        touched: true,
+        remapped: true,
         synced: false,
+        quiet: false,
     }
 }

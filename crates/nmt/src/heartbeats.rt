@@ -5,14 +5,15 @@ ghost use Prim.Native.Nat.{_+_, _≤_};
 ghost use lib.ListN.{length};
 ghost use Rattle.rules_dictionary.specs.Plans.{pdoData};
 ghost use Rattle.rules_dictionary.specs.Table.{dictionaryLength};
-ghost use Rattle.rules_services.specs.Effects.{frame};
+ghost use Rattle.rules_services.specs.Effects.{frame, withHeartbeat};
 ghost use Rattle.rules_services.specs.Nmt.{heartbeatBase, stateByte, bootUp, tick};
 ghost use Rattle.rules.specs.Calls.{outputLength};
 ghost use Rattle.output.specs.Laying.{emitted};
-ghost use Rattle.effects.specs.Leaves.{Did};
+ghost use Rattle.effects.specs.Leaves.{partsOf, Did, Rests};
 use dictionary::read2;
 use effects::Done;
-use effects::with_heartbeat;
+use effects::Parts;
+use effects::parts_of;
 use output::send;
 use rules_dictionary::PdoData;
 use state::NmtState;
@@ -64,35 +65,53 @@ pub fn boot_up(output: &mut [u8], n: u8) -> usize
     send_byte(output, n, BOOT_UP)
 }
 
-// 1 ms on: the heartbeat "each 1017h ticks, in all states".
+// The parts of the state, with that count of ticks since the last heartbeat.
+fn counted(s: State, count: u16) -> Parts
+    ensures { λ r. ⌜ r ≡ partsOf (withHeartbeat count s) ⌝ }
+{
+    let axis = s.axis;
+    let drive = axis.drive;
+    let held = axis.held;
+    let mut node = s.node;
+    node.heartbeat = count;
+    Parts { node, drive, held }
+}
+
+// 1 ms on: the heartbeat "each 1017h ticks, in all states". Nothing is left to do after it: the count is neither in the dictionary nor shown.
 pub fn tick(s: State, d: &[u8], output: &mut [u8]) -> Done
     requires { ⌜ (length (now d) ≡ dictionaryLength) × (outputLength ≤ length (now output)) ⌝ }
-    ensures { λ r. ⌜ Did (tick s (now (d .entry))) 0 (now (d .entry)) (now (output .entry)) r (now (d .entry)) (now (output .exit)) ⌝ }
+    ensures { λ r. ⌜ Did (tick s (now (d .entry))) 0 (now (d .entry)) (now (output .entry)) r (now (d .entry)) (now (output .exit)) × Rests s (tick s (now (d .entry))) r ⌝ }
 {
     let period = read2(d, HEARTBEAT_TIME);
     let node = s.node;
     let nmt = node.nmt;
     if period == 0 {
         return Done {
-            state: s,
+            parts: parts_of(s),
             frames: 0,
             touched: false,
+            remapped: false,
             synced: false,
+            quiet: true,
         };
     }
     if node.heartbeat < period - 1 {
         return Done {
-            state: with_heartbeat(s, node.heartbeat + 1),
+            parts: counted(s, node.heartbeat + 1),
             frames: 0,
             touched: false,
+            remapped: false,
             synced: false,
+            quiet: true,
         };
     }
     let frames = send_byte(output, node.id, state_byte(nmt));
     Done {
-        state: with_heartbeat(s, 0),
+        parts: counted(s, 0),
         frames: frames,
         touched: false,
+        remapped: false,
         synced: false,
+        quiet: true,
     }
 }

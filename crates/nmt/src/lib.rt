@@ -8,4 +8,4 @@ pub use commands::commanded;
 pub use commands::reset_communication;
 pub use heartbeats::boot_up;
 pub use heartbeats::tick;
-pub use parts::fresh_state;
+pub use parts::fresh_parts;

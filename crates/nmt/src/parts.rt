@@ -2,23 +2,22 @@
 ghost use mathlib.Core.Path.{_≡_};
 ghost use Rattle.rules_services.specs.PdoTraffic.{noneHeld};
 ghost use Rattle.rules_services.specs.Nmt.{left, freshState};
-ghost use Rattle.nmt.specs.Fresh.{noPlans, freshDrive, unworked};
+ghost use Rattle.effects.specs.Leaves.{partsOf};
+ghost use Rattle.nmt.specs.Fresh.{freshDrive};
 use drive::Drive;
 use drive::DriveState;
 use drive::Store;
+use effects::Parts;
 use effects::with_held;
 use effects::with_pacing;
 use rules_dictionary::Mode;
-use rules_dictionary::Move;
 use rules_dictionary::PdoData;
-use rules_dictionary::Plan;
-use state::Axis;
 use state::NmtState;
 use state::Node;
 use state::State;
 
 // Four PDOs with no data.
-fn none_held() -> [PdoData; 4]
+pub fn none_held() -> [PdoData; 4]
     ensures { λ r. ⌜ r ≡ noneHeld ⌝ }
 {
     let none = PdoData {
@@ -26,18 +25,6 @@ fn none_held() -> [PdoData; 4]
         bytes: [0; 8],
     };
     [none, none, none, none]
-}
-
-// Eight plans with no moves.
-fn no_plans() -> [Plan; 8]
-    ensures { λ r. ⌜ r ≡ noPlans ⌝ }
-{
-    let spare = Move { place: 0, size: 0 };
-    let none = Plan {
-        count: 0,
-        moves: [spare, spare, spare, spare, spare, spare, spare, spare],
-    };
-    [none, none, none, none, none, none, none, none]
 }
 
 // "Leaving Operational clears held frames, counts and due marks."
@@ -64,24 +51,18 @@ fn fresh_drive() -> Drive
     }
 }
 
-// The state after power-up of node n; its plans and ready frames, which are worked out at the call's end, are all zero.
-pub fn fresh_state(n: u8) -> State
-    ensures { λ r. ⌜ r ≡ unworked (freshState n) ⌝ }
+// What a service may change, after power-up of node n.
+pub fn fresh_parts(n: u8) -> Parts
+    ensures { λ r. ⌜ r ≡ partsOf (freshState n) ⌝ }
 {
-    State {
+    Parts {
         node: Node {
             id: n,
             nmt: NmtState::PreOperational,
             voltage: false,
             heartbeat: 0,
         },
-        axis: Axis {
-            drive: fresh_drive(),
-            plans: no_plans(),
-            ready: none_held(),
-            held: none_held(),
-            counts: [0, 0, 0, 0],
-            due: [false, false, false, false],
-        },
+        drive: fresh_drive(),
+        held: none_held(),
     }
 }

@@ -1,11 +1,11 @@
--- The receive PDOs by number, where their entries stand, and the one that listens to an identifier.
+-- The receive PDOs by number, where their entries stand, and which of them a frame on an identifier is for.
 -- Assumes nothing.
-use Prim.Native.Nat.{ℕ, zero, suc, _+_, _*_, _/_, _%_, _<_, _≤_}
+use Prim.Native.Nat.{ℕ, zero, suc, _+_, _*_, _/_, _%_, _<_}
 use native.Mathlib.Omega.{arith}
 use mathlib.Core.Path.{_≡_, refl, sym, _∙_, ap, ap₂}
-use mathlib.Core.Bool.{Bool, true, false, cond, _&&_}
+use mathlib.Core.Bool.{Bool, true, false, _&&_}
 use mathlib.Core.List.{List, [], _∷_}
-use borrow.Author.Tests.{eq-eqb, ne-eqb, lt-ltb, le-ltb}
+use borrow.Author.Tests.{eq-eqb, ne-eqb}
 use lib.Dec.{eqb, ltb}
 use Rattle.state.specs.declared.State.{State}
 use Rattle.state.specs.declared.NmtState.the-variants.{Operational}
@@ -17,7 +17,7 @@ use Rattle.rules_dictionary.proofs.Tests.{In, here, there, Each, each-in}
 use Rattle.rules_services.specs.Effects.{Effect, becomes, isOperational}
 use Rattle.rules_services.specs.PdoTraffic.{works, listens, typeOf, received, receivedBy}
 use Rattle.theorems.proofs.Writes.{idle}
-use Rattle.pdo.specs.Traffic.{hears, listener}
+use Rattle.pdo.specs.Traffic.{hears}
 
 pub receiver : (p : ℕ) → p < eachWay → In p receivePdos
 receiver zero h = here
@@ -83,33 +83,18 @@ module _ (i : ℕ) (bs : List ℕ) (s : State) (d : List ℕ) where
   by : Bool → ℕ → Effect → Effect
   by b p e = elim b [ true ↦ received p bs s d | false ↦ e ]
 
-  step : s .node .nmt ≡ Operational → (p : ℕ) (ps : List ℕ) (e : Effect) → receivedBy ps i bs s d ≡ e → receivedBy (p ∷ ps) i bs s d ≡ by (hears i d p) p e
+  -- for one that hears it, or for the others
+  pub for-it : s .node .nmt ≡ Operational → (p : ℕ) (ps : List ℕ) → hears i d p ≡ true → receivedBy (p ∷ ps) i bs s d ≡ received p bs s d
   unfolding receivedBy by
-  step op p ps e h = ap₂ (λ (b : Bool) (x : Effect). by b p x) (listens-hears op p) h
+  for-it op p ps h = ap (λ (b : Bool). by b p (receivedBy ps i bs s d)) (listens-hears op p ∙ h)
 
-  -- the first that hears it, or none
-  by-the-first : s .node .nmt ≡ Operational → receivedBy receivePdos i bs s d ≡ by (ltb (listener i d) eachWay) (listener i d) (becomes s)
-  unfolding receivedBy listener by
-  by-the-first op =
-      step op 0 (1 ∷ 2 ∷ 3 ∷ []) _ (step op 1 (2 ∷ 3 ∷ []) _ (step op 2 (3 ∷ []) _ (step op 3 [] _ refl))) ∙ go (hears i d 0) (hears i d 1) (hears i d 2) (hears i d 3)
-    where
-      first : Bool → Bool → Bool → Bool → ℕ
-      first a b c e = cond a 0 (cond b 1 (cond c 2 (cond e 3 eachWay)))
+  pub for-others : s .node .nmt ≡ Operational → (p : ℕ) (ps : List ℕ) → hears i d p ≡ false → receivedBy (p ∷ ps) i bs s d ≡ receivedBy ps i bs s d
+  unfolding receivedBy by
+  for-others op p ps h = ap (λ (b : Bool). by b p (receivedBy ps i bs s d)) (listens-hears op p ∙ h)
 
-      go : (a b c e : Bool) → by a 0 (by b 1 (by c 2 (by e 3 (becomes s)))) ≡ by (ltb (first a b c e) eachWay) (first a b c e) (becomes s)
-      go true b c e = refl
-      go false true c e = refl
-      go false false true e = refl
-      go false false false true = refl
-      go false false false false = refl
-
-  pub for-one : s .node .nmt ≡ Operational → listener i d < eachWay → receivedBy receivePdos i bs s d ≡ received (listener i d) bs s d
-  unfolding by
-  for-one op h = by-the-first op ∙ rw (lt-ltb _ _ h)
-
-  pub for-none : s .node .nmt ≡ Operational → eachWay ≤ listener i d → receivedBy receivePdos i bs s d ≡ becomes s
-  unfolding by
-  for-none op h = by-the-first op ∙ rw (le-ltb _ _ h)
+  pub for-none : receivedBy [] i bs s d ≡ becomes s
+  unfolding receivedBy
+  for-none = refl
 
   -- outside Operational none listens
   pub not-served : isOperational (s .node .nmt) ≡ false → (ps : List ℕ) → receivedBy ps i bs s d ≡ becomes s

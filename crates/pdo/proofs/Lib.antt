@@ -1,4 +1,5 @@
 pub mod Hearing
+pub mod ByParts
 pub mod Leaving
 pub mod Values
 pub mod Frames

@@ -1,13 +1,13 @@
 -- SYNC: held frames released one after another.
 -- Assumes nothing.
-use Prim.Native.Nat.{ℕ, zero, suc, _+_, _<_, _≤_}
+use Prim.Native.Nat.{ℕ, zero, suc, _+_, _*_, _<_, _≤_}
 use native.Mathlib.Omega.{arith}
 use mathlib.Core.Path.{_≡_, refl, sym, _∙_, ap, ap₂, subst}
 use mathlib.Core.Logic.{_⊎_, inl, inr}
 use mathlib.Core.Bool.{Bool, true, false, cond, _||_}
 use mathlib.Core.List.{List, [], _∷_, _++_, append-nil}
 use borrow.Author.Tests.{lt-ltb, le-ltb, ne-eqb}
-use lib.ListN.{length, drop, getD, set, length-append, length-set}
+use lib.ListN.{length, getD, set, length-append, length-set}
 use Rattle.state.specs.declared.State.{State}
 use Rattle.state.specs.declared.NmtState.the-variants.{PreOperational, Operational, Stopped}
 use Rattle.rules_dictionary.specs.declared.Plan.{Plan}
@@ -15,59 +15,62 @@ use Rattle.rules_dictionary.specs.declared.PdoData.{PdoData}
 use Rattle.rules_dictionary.specs.Table.{Row, table, eachWay, receivePdos, transmitPdos, errorRegister, controlWord, mode, heartbeatTime}
 use Rattle.rules_dictionary.specs.Values.{Write, write, read, stored, unpacked}
 use Rattle.rules_dictionary.specs.Plans.{mapped}
-use Rattle.rules_dictionary.proofs.Tests.{In, Each, each-in, none-in}
+use Rattle.rules_dictionary.proofs.Tests.{In, none-in}
 use Rattle.rules_dictionary.proofs.Members.{in-append, in-left}
 use Rattle.rules_dictionary.proofs.Rows.{length-stored}
 use Rattle.drive.specs.SetPoints.{modeWritten, controlWritten}
 use Rattle.drive.specs.declared.Controlled.{Controlled}
-use Rattle.rules_services.specs.Effects.{Effect, becomes, sends, writes, syncs, andThen, withDrive, withHeld, withHeartbeat, isStopped}
+use Rattle.rules_services.specs.Effects.{Effect, Frame, becomes, sends, writes, syncs, andThen, withDrive, withHeld, withHeartbeat, isStopped}
 use Rattle.rules_services.specs.Emergency.{emergency, faultGone, syncLength}
 use Rattle.rules_services.specs.Written.{wrote, countRestarted, modeActed, controlActed, faultReset, applied}
 use Rattle.rules_services.specs.PdoTraffic.{noData, isHeld, release, releaseAll}
+use Rattle.rules.specs.Outcome.{frameSize}
 use Rattle.theorems.proofs.Alike.{isPdo, mapped-in, mapped-alike}
 use Rattle.theorems.proofs.Mapped.{unpacked-rows}
 use Rattle.theorems.proofs.NmtKept.{in-cons}
 use Rattle.theorems.proofs.Writes.{InTable, NoPdo, no-pdo-alike, register-in, stored-append}
-use Rattle.output.specs.Laying.{emitted}
+use Rattle.output.specs.Laying.{mostFrames, emitted}
 use Rattle.output.proofs.Laws.{emitted-then, emitted-none}
+use Rattle.effects.specs.declared.Parts.{Parts}
 use Rattle.effects.specs.declared.Done.{Done}
-use Rattle.effects.specs.Leaves.{Did, touches}
+use Rattle.effects.specs.Leaves.{partsOf, withParts, bare, Alike, Did, touches}
+use Rattle.effects.proofs.Laws.{emergency-by, did-alike}
 use Rattle.transfer.proofs.Laws.{Receives, no-pdo-row}
-use Rattle.pdo.specs.Kept.{planAt, Kept}
+use Rattle.pdo.specs.Kept.{planAt, Kept, Serves}
 use Rattle.pdo.specs.Traffic.{syncOf, Follows}
 use Rattle.pdo.proofs.Hearing.{receiver}
+use Rattle.pdo.proofs.ByParts.{release-all-alike}
 use Rattle.pdo.proofs.Leaving.{touches-append}
 use Rattle.pdo.proofs.Frames.{one-frame}
 
 -- ---- what applied values leave alone
 
-record Alike (s t : State) : Type 0 where
+record Keeps (s t : State) : Type 0 where
   id : t .node .id ≡ s .node .id
-  plans : t .axis .plans ≡ s .axis .plans
   held : length (t .axis .held) ≡ length (s .axis .held)
 
 -- beside those values, the error register at the most; and an emergency at the most
 record After (s : State) (ws : List Write) (e : Effect) : Type 0 where
-  alike : Alike s (e .state)
+  keeps : Keeps s (e .state)
   few : length (e .sent) ≤ 1
   rows : (w : Write) → In w (e .writes) → In w ws ⊎ (w ≡ write errorRegister 0)
 
-acted-alike : (ws : List Write) (s : State) (d : List ℕ) → Alike s (modeActed ws (countRestarted ws s) d)
+acted-keeps : (ws : List Write) (s : State) (d : List ℕ) → Keeps s (modeActed ws (countRestarted ws s) d)
 unfolding modeActed countRestarted
-acted-alike ws s d = go (wrote heartbeatTime ws) (wrote mode ws)
+acted-keeps ws s d = go (wrote heartbeatTime ws) (wrote mode ws)
   where
-    go : (a b : Bool) → Alike s (cond b (withDrive (modeWritten d (cond a (withHeartbeat 0 s) s .axis .drive)) (cond a (withHeartbeat 0 s) s)) (cond a (withHeartbeat 0 s) s))
-    go true true = record { id = refl; plans = refl; held = refl }
-    go true false = record { id = refl; plans = refl; held = refl }
-    go false true = record { id = refl; plans = refl; held = refl }
-    go false false = record { id = refl; plans = refl; held = refl }
+    go : (a b : Bool) → Keeps s (cond b (withDrive (modeWritten d (cond a (withHeartbeat 0 s) s .axis .drive)) (cond a (withHeartbeat 0 s) s)) (cond a (withHeartbeat 0 s) s))
+    go true true = record { id = refl; held = refl }
+    go true false = record { id = refl; held = refl }
+    go false true = record { id = refl; held = refl }
+    go false false = record { id = refl; held = refl }
 
 only : {ws : List Write} (w : Write) → In w (ws ++ []) → In w ws ⊎ (w ≡ write errorRegister 0)
 only {ws} w i = inl (subst (In w) (append-nil ws) i)
 
 applied-after : (ws : List Write) (s : State) (d : List ℕ) → After s ws (applied ws s d)
 unfolding applied controlActed faultReset
-applied-after ws s d = go (acted-alike ws s (stored ws d)) (wrote controlWord ws) (c .reset)
+applied-after ws s d = go (acted-keeps ws s (stored ws d)) (wrote controlWord ws) (c .reset)
   where
     t : State
     t = modeActed ws (countRestarted ws s) (stored ws d)
@@ -75,9 +78,9 @@ applied-after ws s d = go (acted-alike ws s (stored ws d)) (wrote controlWord ws
     c : Controlled
     c = controlWritten (stored ws d) (read d controlWord) (modeActed ws (countRestarted ws s) (stored ws d) .axis .drive)
 
-    go : Alike s t → (a b : Bool) →
+    go : Keeps s t → (a b : Bool) →
         After s ws (writes ws (cond a (cond b (faultReset (withDrive (c .drive) t) (stored ws d)) (becomes (withDrive (c .drive) t))) (becomes t)))
-    go k true true = record { alike = record { id = k .id; plans = k .plans; held = k .held }; few = rw append-nil (one-frame faultGone _ _); rows = λ w i. one w (in-append ws i) }
+    go k true true = record { keeps = record { id = k .id; held = k .held }; few = rw (append-nil, emergency-by) (one-frame faultGone _ _); rows = λ w i. one w (in-append ws i) }
       where
         one : (w : Write) → In w ws ⊎ In w (write errorRegister 0 ∷ []) → In w ws ⊎ (w ≡ write errorRegister 0)
         one w (inl j) = inl j
@@ -86,10 +89,14 @@ applied-after ws s d = go (acted-alike ws s (stored ws d)) (wrote controlWord ws
             last : (w ≡ write errorRegister 0) ⊎ In w [] → In w ws ⊎ (w ≡ write errorRegister 0)
             last (inl e) = inr e
             last (inr j) = absurd (none-in j)
-    go k true false = record { alike = record { id = k .id; plans = k .plans; held = k .held }; few = omega arith; rows = only }
-    go k false b = record { alike = k; few = omega arith; rows = only }
+    go k true false = record { keeps = record { id = k .id; held = k .held }; few = omega arith; rows = only }
+    go k false b = record { keeps = k; few = omega arith; rows = only }
 
 -- ---- one held frame
+
+or-none : (b : Bool) → b ≡ (b || false)
+or-none true = refl
+or-none false = refl
 
 module _ (p : ℕ) (s : State) (d : List ℕ) where
   abbrev frame : PdoData
@@ -116,51 +123,69 @@ held-at (x ∷ l) zero a b h = refl
 held-at (x ∷ l) (suc p) a b h = held-at l p a b (omega arith)
 
 -- as the code has it
-module _ (before : Done) {d o : List ℕ} {p : ℕ} (k : Kept (before .state) d o) (l : p < eachWay) where
+module _ (before : Done) {plan : Plan} {p : ℕ} {d o : List ℕ} (k : Serves (before .parts) plan p d o) where
   abbrev s : State
-  s = before .state
+  s = bare (before .parts)
 
   abbrev kept : PdoData
-  kept = getD (s .axis .held) p (record { length = 0; bytes = [] })
+  kept = getD (before .parts .held) p (record { length = 0; bytes = [] })
 
-  is-kept : getD (s .axis .held) p noData ≡ kept
-  is-kept = held-at (s .axis .held) p noData _ (omega (arith, k .held))
+  is-kept : getD (before .parts .held) p noData ≡ kept
+  is-kept = held-at (before .parts .held) p noData _ (omega (arith, k .held, k .number))
 
   pub none-follows : kept .length ≡ 0 → Follows (release p s d) before d o before d o
   unfolding stored
   none-follows e =
       subst (λ (x : Effect). Follows x before d o before d o) (sym (not-held p s d (ap (λ (f : PdoData). f .length) is-kept ∙ e)))
-      (record { state = refl; frames = omega arith; touched = or-false (before .touched); synced = refl; dictionary = refl; output = sym (emitted-none (before .frames) o) })
-    where
-      or-false : (b : Bool) → b ≡ (b || false)
-      or-false true = refl
-      or-false false = refl
+      (record {
+        parts = refl;
+        frames = omega arith;
+        touched = or-none (before .touched);
+        remapped = refl;
+        synced = refl;
+        quiet = refl;
+        dictionary = refl;
+        output = sym (emitted-none (before .frames) o);
+      })
 
-  pub one-follows : (kept .length ≡ 0 → ⊥) → {done : Done} {d′ o′ : List ℕ} (t : State) (touched : Bool) → t ≡ withHeld (set (s .axis .held) p noData) s →
-      touched ≡ (before .touched || done .touched) → Did (applied (unpacked (mapped d p) (kept .bytes)) t d) (before .frames) d o done d′ o′ →
-      Follows (release p s d) before d o (record { state = done .state; frames = done .frames; touched = touched; synced = before .synced }) d′ o′
-  one-follows n {done} {d′} {o′} t touched e b h =
-      subst (λ (x : Effect). Follows x before d o (record { state = done .state; frames = done .frames; touched = touched; synced = before .synced }) d′ o′) (sym is)
-      (record { state = h .state; frames = h .frames; touched = b ∙ ap (λ (x : Bool). before .touched || x) (h .touched); synced = refl; dictionary = h .dictionary; output = h .output })
+  abbrev upon : Done → Bool → Done
+  upon done touched =
+      record { parts = done .parts; frames = done .frames; touched = touched; remapped = before .remapped; synced = before .synced; quiet = before .quiet }
+
+  pub one-follows : (kept .length ≡ 0 → ⊥) → {done : Done} {d′ o′ : List ℕ} (t : Parts) (touched : Bool) →
+      t ≡ record { node = before .parts .node; drive = before .parts .drive; held = set (before .parts .held) p noData } →
+      touched ≡ (before .touched || done .touched) →
+      ((xs : List Row) → Receives plan xs → Did (applied (unpacked xs (kept .bytes)) (bare t) d) (before .frames) d o done d′ o′) →
+      Follows (release p s d) before d o (upon done touched) d′ o′
+  one-follows n {done} {d′} {o′} t touched e b f =
+      let h = f (mapped d p) (k .receives) in
+      subst (λ (x : Effect). Follows x before d o (upon done touched) d′ o′) (sym is)
+      (record {
+        parts = h .parts;
+        frames = h .frames;
+        touched = b ∙ ap (λ (x : Bool). before .touched || x) (h .touched);
+        remapped = refl;
+        synced = refl;
+        quiet = refl;
+        dictionary = h .dictionary;
+        output = h .output;
+      })
     where
-      is : release p s d ≡ applied (unpacked (mapped d p) (kept .bytes)) t d
+      is : release p s d ≡ applied (unpacked (mapped d p) (kept .bytes)) (bare t) d
       is =
           was-held p s d (λ q. n (sym (ap (λ (f : PdoData). f .length) is-kept) ∙ q))
-          ∙ ap₂ (λ (f : PdoData) (x : State). applied (unpacked (mapped d p) (f .bytes)) x d) is-kept (sym e)
-
-  pub cleared-kept : (t : State) → t ≡ withHeld (set (s .axis .held) p noData) s → Kept t d o
-  cleared-kept t e = rw e (record { long = k .long; room = k .room; id = k .id; held = length-set (s .axis .held) p noData ∙ k .held; plans = k .plans })
+          ∙ ap₂ (λ (f : PdoData) (x : Parts). applied (unpacked (mapped d p) (f .bytes)) (bare x) d) is-kept (sym e)
 
 -- ---- what is kept stays kept
 
--- values of no PDO's row, and a state after them that keeps its plans
+-- values of no PDO's row
 record Quietly (s : State) (e : Effect) : Type 0 where
   values : List Write
   rows : InTable values
   quiet : NoPdo values
   after : After s values e
 
-module _ {s : State} {d o : List ℕ} (k : Kept s d o) {p : ℕ} (l : p < eachWay) where
+module _ {plan : Plan} (p : ℕ) (s : State) (d : List ℕ) (k : Receives plan (mapped d p)) where
   released : Quietly s (release p s d)
   unfolding release by
   released = go (isHeld (frame p s d))
@@ -177,19 +202,16 @@ module _ {s : State} {d o : List ℕ} (k : Kept s d o) {p : ℕ} (l : p < eachWa
           record {
             values = unpacked (mapped d p) bs;
             rows = λ w i. mapped-in d p (row i);
-            quiet = λ w i. no-pdo-row (k .plans p (receiver p l) .received (w .row) (row i));
-            after = record { alike = record { id = f .alike .id; plans = f .alike .plans; held = f .alike .held ∙ length-set (s .axis .held) p noData }; few = f .few; rows = f .rows };
+            quiet = λ w i. no-pdo-row (k .received (w .row) (row i));
+            after = record { keeps = record { id = f .keeps .id; held = f .keeps .held ∙ length-set (s .axis .held) p noData }; few = f .few; rows = f .rows };
           }
       go false =
           record {
             values = [];
             rows = λ w i. absurd (none-in i);
             quiet = λ w i. absurd (none-in i);
-            after = record { alike = record { id = refl; plans = refl; held = refl }; few = omega arith; rows = λ w i. inl i };
+            after = record { keeps = record { id = refl; held = refl }; few = omega arith; rows = λ w i. inl i };
           }
-
-  pub release-few : length (release p s d .sent) ≤ 1
-  release-few = released .after .few
 
   abbrev e : Effect
   e = release p s d
@@ -205,106 +227,124 @@ module _ {s : State} {d o : List ℕ} (k : Kept s d o) {p : ℕ} (l : p < eachWa
       role w (inl i) = released .quiet w i
       role w (inr q) = ap (λ (v : Write). isPdo (v .row .role)) q
 
-  pub release-kept : (o′ : List ℕ) → length o′ ≡ length o → Kept (e .state) (stored (e .writes) d) o′
-  release-kept o′ h =
-      let a = released .after .alike in
-      record {
-        long = length-stored (e .writes) d ∙ k .long;
-        room = rw h (k .room);
-        id = rw (a .id) (k .id);
-        held = a .held ∙ k .held;
-        plans = λ q i.
-            subst (λ (ps : List Plan). Receives (getD ps q (record { count = 0; moves = [] })) (mapped (stored (e .writes) d) q)) (sym (a .plans))
-            (subst (λ (xs : List Row). Receives (planAt s q) xs) (sym (mapped-alike d (stored (e .writes) d) pdos-alike (in-left transmitPdos i))) (k .plans q i));
-      }
-
 -- ---- one after another
 
--- what is left to release at a step gives, upon what is done, all that is released
-pub record Releasing (s : State) (D O : List ℕ) (p : ℕ) (done : Done) (d o : List ℕ) : Type 0 where
-  pub kept : Kept (done .state) d o
-  pub few : done .frames ≤ p
-  pub state : releaseAll (drop p receivePdos) (done .state) d .state ≡ releaseAll receivePdos s D .state
-  pub frames : done .frames + length (releaseAll (drop p receivePdos) (done .state) d .sent) ≡ length (releaseAll receivePdos s D .sent)
-  pub touched : (done .touched || touches (releaseAll (drop p receivePdos) (done .state) d .writes)) ≡ touches (releaseAll receivePdos s D .writes)
-  pub synced : done .synced ≡ true
-  pub dictionary : stored (releaseAll (drop p receivePdos) (done .state) d .writes) d ≡ stored (releaseAll receivePdos s D .writes) D
-  pub output : emitted (done .frames) (releaseAll (drop p receivePdos) (done .state) d .sent) o ≡ emitted 0 (releaseAll receivePdos s D .sent) O
+-- k frames at the most are sent so far, and the state with the parts so far is fit for the next
+pub record Underway (s : State) (k : ℕ) (done : Done) (d o : List ℕ) : Type 0 where
+  pub kept : Kept (withParts (done .parts) s) d o
+  pub few : done .frames ≤ k
 
-pub none-yet : {s : State} {D O : List ℕ} → Kept s D O → Releasing s D O 0 (record { state = s; frames = 0; touched = false; synced = true }) D O
-none-yet k = record { kept = k; few = omega arith; state = refl; frames = omega arith; touched = refl; synced = refl; dictionary = refl; output = refl }
+serves : {s : State} {d o : List ℕ} (p : ℕ) → p < eachWay → Kept s d o → Serves (partsOf s) (planAt s p) p d o
+serves p l k = record { long = k .long; room = k .room; id = k .id; held = k .held; number = l; receives = k .plans p (receiver p l) }
 
-next : Each (λ p. drop p receivePdos ≡ p ∷ drop (p + 1) receivePdos) receivePdos
-next = (refl, (refl, (refl, (refl, tt))))
+pub serves-by : {s : State} {d o : List ℕ} {parts : Parts} (p : ℕ) → p < eachWay → parts ≡ partsOf s → Kept s d o → Serves parts (planAt s p) p d o
+serves-by {s} {d} {o} p l e k = subst (λ (x : Parts). Serves x (planAt s p) p d o) (sym e) (serves p l k)
+
+pub serves-next : {s : State} {k : ℕ} {b : Done} {d o : List ℕ} (p : ℕ) → p < eachWay → k < mostFrames → Underway s k b d o →
+    Serves (b .parts) (planAt s p) p d o × (b .frames < mostFrames)
+serves-next p l m g = (serves p l (g .kept), omega (arith, g .few))
+
+pub next-room : {s : State} {k : ℕ} {b : Done} {d o : List ℕ} → k < mostFrames → Underway s k b d o → frameSize * b .frames ≤ length o
+next-room m g = omega (arith, g .few, g .kept .room)
+
+module _ {s : State} {k p : ℕ} (l : p < eachWay) {b m : Done} {d o d₁ o₁ : List ℕ} (g : Underway s k b d o)
+    (f : Follows (release p (bare (b .parts)) d) b d o m d₁ o₁) where
+  pub one-more : length o₁ ≡ length o → Underway s (k + 1) m d₁ o₁
+  one-more h =
+      let x = bare (b .parts) in
+      let c = g .kept in
+      let r = c .plans p (receiver p l) in
+      let q = released p x d r .after in
+      record {
+        kept =
+            record {
+              long = ap length (f .dictionary) ∙ length-stored (release p x d .writes) d ∙ c .long;
+              room = rw h (c .room);
+              id = rw (f .parts, q .keeps .id) (c .id);
+              held = rw (f .parts, q .keeps .held) (c .held);
+              plans = λ n i.
+                  subst (λ (y : List ℕ). Receives (planAt s n) (mapped y n)) (sym (f .dictionary))
+                  (subst (Receives (planAt s n)) (sym (mapped-alike d (stored (release p x d .writes) d) (pdos-alike p x d r) (in-left transmitPdos i))) (c .plans n i));
+            };
+        few = omega (arith, f .frames, g .few, q .few);
+      }
 
 or-assoc : (a b c : Bool) → (a || b || c) ≡ (a || (b || c))
 or-assoc true b c = refl
 or-assoc false b c = refl
 
-module _ {s : State} {D O : List ℕ} {p : ℕ} (l : p < eachWay) {b : Done} {d o : List ℕ} (g : Releasing s D O p b d o)
-    {r : Done} {d′ o′ : List ℕ} (f : Follows (release p (b .state) d) b d o r d′ o′) where
-  abbrev one : Effect
-  one = release p (b .state) d
+pub no-more : (m : Done) (d o : List ℕ) → Follows (releaseAll [] (bare (m .parts)) d) m d o m d o
+unfolding releaseAll stored
+no-more m d o =
+    record {
+      parts = refl;
+      frames = omega arith;
+      touched = or-none (m .touched);
+      remapped = refl;
+      synced = refl;
+      quiet = refl;
+      dictionary = refl;
+      output = sym (emitted-none (m .frames) o);
+    }
 
-  abbrev ps : List ℕ
-  ps = drop (p + 1) receivePdos
+module _ (p : ℕ) (ps : List ℕ) {b m r : Done} {d o d₁ o₁ d₂ o₂ : List ℕ} (f : Follows (release p (bare (b .parts)) d) b d o m d₁ o₁)
+    (g : Follows (releaseAll ps (bare (m .parts)) d₁) m d₁ o₁ r d₂ o₂) where
+  abbrev one : Effect
+  one = release p (bare (b .parts)) d
 
   abbrev rest : Effect
   rest = releaseAll ps (one .state) (stored (one .writes) d)
 
-  first : releaseAll (drop p receivePdos) (b .state) d ≡ andThen d one (releaseAll ps)
-  unfolding releaseAll
-  first = ap (λ (qs : List ℕ). releaseAll qs (b .state) d) (each-in (λ p. drop p receivePdos ≡ p ∷ drop (p + 1) receivePdos) (receiver p l) next)
+  abbrev rest′ : Effect
+  rest′ = releaseAll ps (bare (m .parts)) d₁
 
-  then : releaseAll ps (r .state) d′ ≡ rest
-  then = ap₂ (releaseAll ps) (f .state) (f .dictionary)
+  a : Alike rest rest′
+  a =
+      subst (Alike rest) (sym (ap₂ (λ (q : Parts) (y : List ℕ). releaseAll ps (bare q) y) (f .parts) (f .dictionary)))
+      (release-all-alike ps (one .state) (stored (one .writes) d))
 
-  pub one-more : length o′ ≡ length o → Releasing s D O (p + 1) r d′ o′
-  unfolding andThen
-  one-more h =
+  pub and-then : frameSize * b .frames ≤ length o → Follows (releaseAll (p ∷ ps) (bare (b .parts)) d) b d o r d₂ o₂
+  unfolding releaseAll andThen
+  and-then h =
       record {
-        kept = subst (λ (t : State). Kept t d′ o′) (sym (f .state)) (subst (λ (x : List ℕ). Kept (one .state) x o′) (sym (f .dictionary)) (release-kept (g .kept) l o′ h));
-        few = omega (arith, f .frames, g .few, release-few (g .kept) l);
-        state = ap (λ (x : Effect). x .state) (then ∙ refl) ∙ sym (ap (λ (x : Effect). x .state) first) ∙ g .state;
+        parts = g .parts ∙ sym (a .parts);
         frames =
-            let a : length (releaseAll (drop p receivePdos) (b .state) d .sent) ≡ length (one .sent ++ rest .sent) = ap (λ (x : Effect). length (x .sent)) first in
             let c : length (one .sent ++ rest .sent) ≡ length (one .sent) + length (rest .sent) = length-append (one .sent) (rest .sent) in
-            let e : length (releaseAll ps (r .state) d′ .sent) ≡ length (rest .sent) = ap (λ (x : Effect). length (x .sent)) then in
+            let e : length (rest .sent) ≡ length (rest′ .sent) = ap length (a .sent) in
             omega (arith, f .frames, g .frames);
         touched =
-            ap₂ _||_ (f .touched) (ap (λ (x : Effect). touches (x .writes)) then)
+            g .touched
+            ∙ ap₂ _||_ (f .touched) (ap touches (sym (a .writes)))
             ∙ or-assoc (b .touched) (touches (one .writes)) (touches (rest .writes))
-            ∙ sym (ap (λ (x : Bool). b .touched || x) (ap (λ (x : Effect). touches (x .writes)) first ∙ touches-append (one .writes) (rest .writes)))
-            ∙ g .touched;
-        synced = f .synced ∙ g .synced;
-        dictionary =
-            ap₂ (λ (x : Effect) (y : List ℕ). stored (x .writes) y) then (f .dictionary)
-            ∙ sym (ap (λ (x : Effect). stored (x .writes) d) first ∙ stored-append (one .writes) (rest .writes) d)
-            ∙ g .dictionary;
+            ∙ ap (λ (x : Bool). b .touched || x) (sym (touches-append (one .writes) (rest .writes)));
+        remapped = g .remapped ∙ f .remapped;
+        synced = g .synced ∙ f .synced;
+        quiet = g .quiet ∙ f .quiet;
+        dictionary = g .dictionary ∙ ap₂ stored (sym (a .writes)) (f .dictionary) ∙ sym (stored-append (one .writes) (rest .writes) d);
         output =
-            ap₂ (λ (x : Effect) (y : List ℕ). emitted (r .frames) (x .sent) y) then (f .output)
+            g .output
+            ∙ ap₂ (λ (fs : List Frame) (y : List ℕ). emitted (m .frames) fs y) (sym (a .sent)) (f .output)
             ∙ ap (λ (n : ℕ). emitted n (rest .sent) (emitted (b .frames) (one .sent) o)) (f .frames)
-            ∙ emitted-then (b .frames) (one .sent) (rest .sent) o (omega (arith, g .few, g .kept .room))
-            ∙ sym (ap (λ (x : Effect). emitted (b .frames) (x .sent) o) first)
-            ∙ g .output;
+            ∙ emitted-then (b .frames) (one .sent) (rest .sent) o h;
       }
 
-pub all-done : {s : State} {D O : List ℕ} {p : ℕ} {r : Done} {d o : List ℕ} → p ≡ eachWay → Releasing s D O p r d o → Did (syncs (releaseAll receivePdos s D)) 0 D O r d o
-unfolding releaseAll stored
-all-done {s} {D} {O} {p} {r} {d} {o} e g =
-    let h : Releasing s D O eachWay r d o = subst (λ (q : ℕ). Releasing s D O q r d o) e g in
-    record {
-      state = h .state;
-      frames = omega (arith, h .frames);
-      touched = or-none (r .touched) ∙ h .touched;
-      synced = h .synced;
-      dictionary = h .dictionary;
-      output = sym (emitted-none (r .frames) o) ∙ h .output;
-    }
+-- what the first follows: a SYNC, and nothing done
+abbrev pub syncing : Parts → Done
+syncing parts = record { parts = parts; frames = 0; touched = false; remapped = false; synced = true; quiet = false }
+
+pub none-yet : {s : State} {parts : Parts} {d o : List ℕ} → parts ≡ partsOf s → Kept s d o → Underway s 0 (syncing parts) d o
+none-yet {s} {d = d} {o = o} e k = record { kept = subst (λ (x : Parts). Kept (withParts x s) d o) (sym e) k; few = omega arith }
+
+pub all-done : (s : State) {parts : Parts} {d o : List ℕ} {r : Done} {d′ o′ : List ℕ} → parts ≡ partsOf s →
+    Follows (releaseAll receivePdos (bare parts) d) (syncing parts) d o r d′ o′ → Did (syncs (releaseAll receivePdos s d)) 0 d o r d′ o′ × (r .quiet ≡ false)
+all-done s {parts} {d} {o} {r} {d′} {o′} q f =
+    (did-alike same (record { parts = f .parts; frames = f .frames; touched = f .touched; remapped = f .remapped; synced = f .synced; dictionary = f .dictionary; output = f .output }), f .quiet)
   where
-    or-none : (b : Bool) → b ≡ (b || false)
-    or-none true = refl
-    or-none false = refl
+    all : Alike (releaseAll receivePdos s d) (releaseAll receivePdos (bare parts) d)
+    all = subst (λ (x : Parts). Alike (releaseAll receivePdos s d) (releaseAll receivePdos (bare x) d)) (sym q) (release-all-alike receivePdos s d)
+
+    same : Alike (syncs (releaseAll receivePdos s d)) (syncs (releaseAll receivePdos (bare parts) d))
+    same = record { parts = all .parts; writes = all .writes; sent = all .sent; synced = refl }
 
 -- ---- SYNC by its length
 

@@ -1,7 +1,7 @@
 -- What the services of PDO traffic may rely on: the lent bytes are long enough, and the kept plans of the receive PDOs are fresh.
 -- Laws.antt of proofs/ has it from a lawful state.
 -- Assumes nothing.
-use Prim.Native.Nat.{ℕ, _≤_}
+use Prim.Native.Nat.{ℕ, _<_, _≤_}
 use mathlib.Core.Path.{_≡_}
 use mathlib.Core.List.{List, []}
 use lib.ListN.{length, getD}
@@ -13,6 +13,7 @@ use Rattle.rules_dictionary.specs.Plans.{mapped}
 use Rattle.rules_dictionary.proofs.Tests.{In}
 use Rattle.rules.specs.Calls.{outputLength}
 use Rattle.transfer.proofs.Laws.{Receives}
+use Rattle.effects.specs.declared.Parts.{Parts}
 
 -- the kept plan of a PDO; of none, none
 abbrev pub planAt : State → ℕ → Plan
@@ -24,3 +25,12 @@ pub record Kept (s : State) (d o : List ℕ) : Type 0 where
   pub id : s .node .id ≤ lastNode
   pub held : length (s .axis .held) ≡ eachWay
   pub plans : (p : ℕ) → In p receivePdos → Receives (planAt s p) (mapped d p)
+
+-- the same for one receive PDO: by the parts of the state that it may change, and its plan
+pub record Serves (parts : Parts) (plan : Plan) (p : ℕ) (d o : List ℕ) : Type 0 where
+  pub long : length d ≡ dictionaryLength
+  pub room : outputLength ≤ length o
+  pub id : parts .node .id ≤ lastNode
+  pub held : length (parts .held) ≡ eachWay
+  pub number : p < eachWay
+  pub receives : Receives plan (mapped d p)

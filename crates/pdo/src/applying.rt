@@ -2,35 +2,40 @@
 use crate::places;
 use dictionary::read2;
 use effects::Done;
+use effects::Parts;
 use effects::acted;
-use state::State;
+use rules_dictionary::Plan;
 use transfer::maps;
 use transfer::store_values;
-ghost use Prim.Native.Nat.{_<_};
-ghost use Rattle.rules_dictionary.specs.Plans.{mapped};
+ghost use mathlib.Core.Path.{_≡_};
+ghost use mathlib.Core.Bool.{false};
+ghost use mathlib.Core.List.{List};
+ghost use Prim.Native.Nat.{_<_, _≤_};
+ghost use lib.ListN.{length};
+ghost use Rattle.rules_dictionary.specs.Table.{Row};
 ghost use Rattle.rules_dictionary.specs.Values.{unpacked};
 ghost use Rattle.rules_services.specs.Written.{applied};
+ghost use Rattle.rules.specs.Calls.{outputLength};
+ghost use Rattle.plans.specs.Moves.{MovesFit};
 ghost use Rattle.output.specs.Laying.{mostFrames};
-ghost use Rattle.effects.specs.Leaves.{Did};
-ghost use Rattle.pdo.specs.Kept.{Kept};
+ghost use Rattle.transfer.proofs.Laws.{Receives};
+ghost use Rattle.effects.specs.Leaves.{bare, Did};
 
-// The values that receive PDO p maps, taken from those bytes, stored and acted on, with n frames before.
+// The values of the rows that a receive PDO's plan is for, taken from those bytes, stored and acted on, with n frames before.
 pub fn apply(
-    s: State,
+    parts: Parts,
+    plan: Plan,
     d: &mut [u8],
     output: &mut [u8],
-    p: usize,
     content: [u8; 8],
     n: usize,
 ) -> Done
-    requires { ⌜ Kept s (now d) (now output) × ((p < 4) × (n < mostFrames)) ⌝ }
-    ensures { λ r. ⌜ Did (applied (unpacked (mapped (now (d .entry)) p) content) s (now (d .entry))) n (now (d .entry)) (now (output .entry)) r (now (d .exit)) (now (output .exit)) ⌝ }
+    requires { ⌜ (length (now d) ≡ 389) × ((outputLength ≤ length (now output)) × ((n < mostFrames) × ((parts .node .id ≤ 127) × MovesFit (plan .moves) (plan .count)))) ⌝ }
+    ensures { λ r. ⌜ ((xs : List Row) → Receives plan xs → Did (applied (unpacked xs content) (bare parts) (now (d .entry))) n (now (d .entry)) (now (output .entry)) r (now (d .exit)) (now (output .exit))) × (r .quiet ≡ false) ⌝ }
 {
-    let axis = s.axis;
-    let plan = axis.plans[p];
     let old = read2(d, places::CONTROL_WORD as usize);
     store_values(d, plan, content);
     let mode = maps(plan, places::MODE);
     let control = maps(plan, places::CONTROL_WORD);
-    acted(old, mode, control, s, d, output, n)
+    acted(old, mode, control, parts, d, output, n)
 }

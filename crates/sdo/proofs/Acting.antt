@@ -9,18 +9,16 @@ use Rattle.state.specs.declared.State.{State}
 use Rattle.rules_dictionary.specs.TheNode.{lastNode}
 use Rattle.rules_dictionary.specs.Numbers.{all}
 use Rattle.rules_dictionary.specs.Table.{Row, table, isWritable, transmit, mode, controlWord, heartbeatTime}
-use Rattle.rules_dictionary.specs.Values.{write, stored}
+use Rattle.rules_dictionary.specs.Values.{write}
 use Rattle.rules_dictionary.specs.Legal.{suits}
-use Rattle.rules_dictionary.proofs.Tests.{and-left, and-right, In, all-in, none-in}
+use Rattle.rules_dictionary.proofs.Tests.{and-left, and-right, In, all-in}
 use Rattle.rules_services.specs.Effects.{Effect, becomes, writes, withDrive, withHeartbeat}
 use Rattle.rules_services.specs.Written.{wrote, applied, countRestarted, modeActed, controlActed, faultReset}
 use Rattle.drive.specs.declared.Controlled.{Controlled}
 use Rattle.drive.specs.SetPoints.{controlWritten}
 use Rattle.effects.specs.Acts.{modeActs, controlActs, acts}
 use Rattle.theorems.proofs.Booleans.{implied, not-false, or-false-left, or-false-right}
-use Rattle.theorems.proofs.Writes.{InTable, one-row, register-in}
 use Rattle.sdo.specs.Serving.{restartedAt, isMapping, remaps}
-use Rattle.sdo.proofs.Mappings.{maps, Spares}
 
 -- the node-ID stays
 pub restarted-id : (place : ℕ) (s t : State) → t ≡ restartedAt place s → s .node .id ≤ lastNode → t .node .id ≤ lastNode
@@ -95,40 +93,23 @@ module _ {x : Row} (i : In x table) where
 
 -- ---- what 6060h and 6040h acted on leave
 
--- no plan is changed and no SYNC sent, and no row but 1001h is written
-pub record Acted (s : State) (e : Effect) : Type 0 where
-  pub plans : e .state .axis .plans ≡ s .axis .plans
+-- no SYNC is sent, and no mapping is written
+pub record Acted (e : Effect) : Type 0 where
   pub synced : e .synced ≡ false
-  pub inside : InTable (e .writes)
-  pub spares : (q : ℕ) → Spares q (e .writes)
   pub unmapped : remaps (e .writes) ≡ false
 
-acted-none : (s t : State) → t .axis .plans ≡ s .axis .plans → Acted s (becomes t)
-acted-none s t h = record { plans = h; synced = refl; inside = λ w i. absurd (none-in i); spares = λ q w i. absurd (none-in i); unmapped = refl }
-
-control-leaves : (old : ℕ) (s : State) (d : List ℕ) → Acted s (controlActs old s d)
+control-leaves : (old : ℕ) (s : State) (d : List ℕ) → Acted (controlActs old s d)
 unfolding controlActs faultReset
-control-leaves old s d = go (c .reset)
+control-leaves old s d = go (c .reset) (withDrive (c .drive) s)
   where
     c : Controlled
     c = controlWritten d old (s .axis .drive)
 
-    go : (b : Bool) → Acted s (cond b (faultReset (withDrive (c .drive) s) d) (becomes (withDrive (c .drive) s)))
-    go true =
-        record {
-          plans = refl;
-          synced = refl;
-          inside = one-row (λ w. In (w .row) table) register-in;
-          spares = λ q. one-row (λ w. maps q (w .row .role) ≡ false) refl;
-          unmapped = refl;
-        }
-    go false = acted-none s (withDrive (c .drive) s) refl
+    go : (b : Bool) (t : State) → Acted (cond b (faultReset t d) (becomes t))
+    go true t = record { synced = refl; unmapped = refl }
+    go false t = record { synced = refl; unmapped = refl }
 
-pub acts-leave : (old : ℕ) (m c : Bool) (s : State) (d : List ℕ) → Acted s (acts old m c s d)
+pub acts-leave : (old : ℕ) (m c : Bool) (s : State) (d : List ℕ) → Acted (acts old m c s d)
 unfolding acts
-acts-leave old true true s d =
-    let a = control-leaves old (modeActs true s d) d in
-    record { plans = a .plans; synced = a .synced; inside = a .inside; spares = a .spares; unmapped = a .unmapped }
-acts-leave old false true s d = control-leaves old s d
-acts-leave old true false s d = acted-none s (modeActs true s d) refl
-acts-leave old false false s d = acted-none s s refl
+acts-leave old m true s d = control-leaves old (withDrive (modeActs m (s .axis .drive) d) s) d
+acts-leave old m false s d = record { synced = refl; unmapped = refl }

@@ -1,37 +1,24 @@
--- Laws of requests and replies: a request is eight bytes, a reply is their frame, and a reply alone leaves all else.
+-- Laws of replies: a reply is the frame of eight bytes, and a reply alone leaves all else.
 -- Assumes nothing.
 use Prim.Native.Nat.{ℕ, _+_, _/_, _%_, _≤_}
 use native.Mathlib.Omega.{arith}
 use mathlib.Core.Path.{_≡_, refl, sym, _∙_, ap, subst}
-use mathlib.Core.Bool.{true}
 use mathlib.Core.List.{List, [], _∷_}
-use borrow.Author.Tests.{lt-ltb}
 use lib.Dec.{lit≤}
 use lib.ListN.{length, getD}
-use mir.Syntax.{w8}
-use mir.Val.{Val}
-use denote.Plain.{UInt}
-use denote.Array.{each}
-use denote.Shadow.{shadow}
 use Rattle.rules_dictionary.specs.declared.PdoData.{PdoData}
 use Rattle.state.specs.declared.State.{State}
-use Rattle.rules_dictionary.specs.Numbers.{bytes, areBytes}
+use Rattle.rules_dictionary.specs.Numbers.{bytes}
 use Rattle.rules_dictionary.specs.Values.{stored}
-use Rattle.rules_dictionary.specs.Plans.{pdoData, plansOf}
-use Rattle.rules_dictionary.proofs.Tests.{and-both}
+use Rattle.rules_dictionary.specs.Plans.{pdoData}
 use Rattle.rules_services.specs.Effects.{Frame, becomes, sends}
 use Rattle.rules_services.specs.Sdo.{reply, replyBase, requestLength, dataSize}
 use Rattle.output.specs.Laying.{IsData, frameOf}
 use Rattle.output.proofs.Laws.{is-data, frame-of-data}
 use Rattle.effects.specs.declared.Done.{Done}
+use Rattle.effects.proofs.Laws.{calm-said}
 use Rattle.sdo.specs.Serving.{Served}
 use Rattle.sdo.specs.Requests.{replyBytes, replyOf, Replied}
-
--- what the type of a byte array says of its elements
-pub array-bytes : (xs : List ℕ) (us : List Val) → shadow (each ℕ (UInt w8 .own) xs us) → areBytes xs ≡ true
-array-bytes [] us h = refl
-array-bytes (x ∷ xs) [] h = absurd h
-array-bytes (x ∷ xs) (u ∷ us) h = and-both _ _ (lt-ltb x 256 (h .0 .1)) (array-bytes xs us (h .1))
 
 -- ---- the frame of a reply
 
@@ -66,8 +53,8 @@ module _ (c v : ℕ) (rq : List ℕ) (content : PdoData) (is : content ≡ pdoDa
   reply-sent n = ap (λ (f : Frame). f ∷ []) (ap (frameOf (replyBase + n)) is ∙ frame-of-data (replyBase + n) (replyBytes c v rq) (reply-short c v rq))
 
 -- THE LAW of a reply alone
-pub replied : (c v : ℕ) (rq : List ℕ) (s : State) (d o : List ℕ) (r : Done) (o′ : List ℕ) → s .axis .plans ≡ plansOf d →
-    Replied c v rq s o r o′ → Served (sends (reply c rq s (bytes dataSize v)) (becomes s)) d o r d o′
+pub replied : (c v : ℕ) (rq : List ℕ) (s : State) (d o : List ℕ) (r : Done) (o′ : List ℕ) →
+    Replied c v rq s o r o′ → Served s (sends (reply c rq s (bytes dataSize v)) (becomes s)) d o r d o′
 unfolding reply stored
-replied c v rq s d o r o′ fresh h =
-    rw (h .left) (record { state = rw (← fresh) refl; frames = refl; touched = refl; synced = refl; dictionary = refl; output = h .output })
+replied c v rq s d o r o′ h =
+    rw (h .left) (record { parts = refl; frames = refl; touched = refl; remapped = refl; synced = refl; quiet = λ q. calm-said s (reply c rq s (bytes dataSize v)); dictionary = refl; output = h .output })

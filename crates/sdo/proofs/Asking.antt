@@ -1,54 +1,48 @@
 -- What is asked of an object, from the entry that the look-up found to the effect that the rules give the request.
 -- Assumes nothing.
-use Prim.Native.Nat.{ℕ, _<_, _≤_}
-use native.Mathlib.Omega.{arith}
+use Prim.Native.Nat.{ℕ, _<_}
 use mathlib.Core.Path.{_≡_, refl, sym, _∙_, ap, subst}
 use mathlib.Core.Bool.{Bool, true, false, not, Bool·not-not}
-use mathlib.Core.List.{List}
-use borrow.Author.Tests.{eq-eqb, leb-true}
-use lib.Dec.{eqb, leb}
+use mathlib.Core.List.{List, []}
+use borrow.Author.Tests.{eq-eqb}
+use lib.Dec.{eqb}
+use lib.ListN.{length}
 use lib.Seq.{sets}
 use Rattle.state.specs.declared.State.{State}
-use Rattle.rules_dictionary.specs.TheNode.{firstNode, lastNode}
-use Rattle.rules_dictionary.specs.Numbers.{value, bytes, part, areBytes}
-use Rattle.rules_dictionary.specs.Table.{Row, ValueType, u8, u16, u32, i8, i32, size, isWritable, mode, controlWord, sizeOf, mapCount, mostMoves, noObject as missing, noSubindex as missingSubindex, lookup}
+use Rattle.rules_dictionary.specs.Numbers.{value, bytes, part}
+use Rattle.rules_dictionary.specs.Table.{Row, ValueType, u8, u16, u32, i8, i32, size, isWritable, mode, controlWord, sizeOf, pdos, noObject as missing, noSubindex as missingSubindex, lookup}
 use Rattle.rules_dictionary.specs.Values.{read, store, stored}
 use Rattle.rules_dictionary.specs.Aborts.{Abort, noObject, noSubindex, abortCode, Verdict, good, bad}
-use Rattle.rules_dictionary.specs.Plans.{plansOf}
-use Rattle.rules_dictionary.proofs.Tests.{and-right}
 use Rattle.rules_services.specs.Effects.{Effect, sends, becomes}
 use Rattle.rules_services.specs.Sdo as sdo
-use Rattle.rules.specs.Sound.{mappingLegal}
 use Rattle.dictionary.specs.declared.Entry.{Entry}
-use Rattle.dictionary.specs.Entries.{roleOf}
 use Rattle.dictionary.proofs.Stands.{Stands}
 use Rattle.output.specs.Laying.{emitted}
 use Rattle.output.proofs.Laws.{emitted-none}
 use Rattle.effects.specs.declared.Done.{Done}
-use Rattle.effects.specs.Leaves.{Did}
+use Rattle.effects.specs.Leaves.{partsOf, Did}
 use Rattle.effects.specs.Acts.{acts}
-use Rattle.verdicts.specs.Verdicts.{verdictCode, pdoOf}
-use Rattle.verdicts.proofs.Laws.{good-code, is-good, pdo-below}
-use Rattle.theorems.proofs.Dictionary.{store-ok}
-use Rattle.theorems.proofs.SdoKept.{good-passes, may}
+use Rattle.effects.proofs.Laws.{calm-said}
+use Rattle.verdicts.specs.Verdicts.{verdictCode, roleBack, pdoOf}
+use Rattle.verdicts.proofs.Laws.{good-code, is-good, role-back, pdo-below}
+use Rattle.theorems.proofs.SdoKept.{good-passes}
 use Rattle.sdo.specs.declared.Command.{Command}
-use Rattle.sdo.specs.declared.Command.the-variants.{Download, Upload, ClientAbort, Unknown}
-use Rattle.sdo.specs.Requests.{asCommand, objectAsked, replyOf, Replied, uploadedBy, mappingOf, noPdo, downloadVerdictOf}
-use Rattle.sdo.specs.Serving.{replanned, restartedAt, Servable, Served}
+use Rattle.sdo.specs.declared.Command.the-variants.{Object, ClientAbort, Unknown}
+use Rattle.sdo.specs.Requests.{asCommand, objectAsked, replyOf, Replied, uploadedBy, downloadVerdictOf}
+use Rattle.sdo.specs.Serving.{restartedAt, isMapping, Served}
 use Rattle.sdo.proofs.Answering.{replied}
-use Rattle.sdo.proofs.Mappings.{legal-mapping}
-use Rattle.sdo.proofs.Downloading.{fresh-plans, mapping-role, mapping-pdo, unmapping-role, mapping-served, acted-served}
+use Rattle.sdo.proofs.Downloading.{remapped, mapping-served, acted-served}
 use Rattle.sdo.proofs.Testing.{download-of-row}
 
 -- another name for the effect
-pub served-as : {e e′ : Effect} {d o : List ℕ} {r : Done} {d′ o′ : List ℕ} → e′ ≡ e → Served e d o r d′ o′ → Served e′ d o r d′ o′
-served-as {e} {e′} {d} {o} {r} {d′} {o′} q h = subst (λ (x : Effect). Served x d o r d′ o′) (sym q) h
+pub served-as : {s : State} {e e′ : Effect} {d o : List ℕ} {r : Done} {d′ o′ : List ℕ} → e′ ≡ e → Served s e d o r d′ o′ → Served s e′ d o r d′ o′
+served-as {s} {e} {e′} {d} {o} {r} {d′} {o′} q h = subst (λ (x : Effect). Served s x d o r d′ o′) (sym q) h
 
 -- ---- the command
 
 abbrev back : Command → sdo.Command
-back Download = sdo.download
-back Upload = sdo.upload
+back (Object true) = sdo.download
+back (Object false) = sdo.upload
 back ClientAbort = sdo.clientAbort
 back Unknown = sdo.unknown
 
@@ -63,6 +57,12 @@ pub by-command : (rq : List ℕ) (s : State) (d : List ℕ) (k r : Command) → 
 unfolding sdo.sdo
 by-command rq s d k r is e = ap (λ (c : sdo.Command). sdo.asked c rq s d) (sym (back-as _) ∙ ap back (sym is ∙ e))
 
+pub object-asked : (rq : List ℕ) (s : State) (d : List ℕ) (writing : Bool) (r : Command) → r ≡ asCommand (sdo.commandOf (sdo.commandByte rq)) → r ≡ Object writing →
+    sdo.sdo rq s d ≡ objectAsked writing rq s d
+unfolding sdo.asked
+object-asked rq s d true r is e = by-command rq s d (Object true) r is e
+object-asked rq s d false r is e = by-command rq s d (Object false) r is e
+
 -- ---- nothing, aborts, and uploads
 
 pub no-object-asked : (rq : List ℕ) (s : State) (d : List ℕ) (writing : Bool) → lookup (sdo.askedIndex rq) (sdo.askedSubindex rq) ≡ missing → objectAsked writing rq s d ≡ sdo.abort noObject rq s
@@ -74,9 +74,9 @@ unfolding sdo.toObject
 no-subindex-asked rq s d writing q = rw q
 
 -- a client's abort is left unanswered
-pub left-served : (s : State) (d o : List ℕ) → Servable s d o → Served (becomes s) d o (record { state = s; frames = 0; touched = false; synced = false }) d o
+pub left-served : (s : State) (d o : List ℕ) → Served s (becomes s) d o (record { parts = partsOf s; frames = 0; touched = false; remapped = false; synced = false; quiet = true }) d o
 unfolding stored
-left-served s d o ready = record { state = fresh-plans s (plansOf d) (ready .plans); frames = refl; touched = refl; synced = refl; dictionary = refl; output = sym (emitted-none 0 o) }
+left-served s d o = record { parts = refl; frames = refl; touched = refl; remapped = refl; synced = refl; quiet = λ q. calm-said s []; dictionary = refl; output = sym (emitted-none 0 o) }
 
 uploaded-by : (t : ValueType) → sdo.uploaded t ≡ uploadedBy (size t)
 uploaded-by u8 = refl
@@ -85,18 +85,18 @@ uploaded-by u32 = refl
 uploaded-by i8 = refl
 uploaded-by i32 = refl
 
-module _ (rq : List ℕ) (s : State) (d o : List ℕ) (ready : Servable s d o) (r : Done) (o′ : List ℕ) where
-  pub aborted-by : (a : Abort) (e : Effect) → e ≡ sdo.abort a rq s → Replied sdo.aborted (abortCode a) rq s o r o′ → Served e d o r d o′
+module _ (rq : List ℕ) (s : State) (d o : List ℕ) (r : Done) (o′ : List ℕ) where
+  pub aborted-by : (a : Abort) (e : Effect) → e ≡ sdo.abort a rq s → Replied sdo.aborted (abortCode a) rq s o r o′ → Served s e d o r d o′
   unfolding sdo.abort
-  aborted-by a e q h = served-as q (replied sdo.aborted (abortCode a) rq s d o r o′ (ready .plans) h)
+  aborted-by a e q h = served-as q (replied sdo.aborted (abortCode a) rq s d o r o′ h)
 
   pub upload-served : (e : Entry) → Stands (sdo.askedIndex rq) (sdo.askedSubindex rq) e → (v c : ℕ) → v ≡ value (part (e .place) (e .size) d) → c ≡ uploadedBy (e .size) →
-      Replied c v rq s o r o′ → Served (objectAsked false rq s d) d o r d o′
+      Replied c v rq s o r o′ → Served s (objectAsked false rq s d) d o r d o′
   unfolding sdo.toObject sdo.toRow
   upload-served e st v c is code h =
       let x = st .row in
       let command : c ≡ sdo.uploaded (x .type) = code ∙ ap (λ (y : Entry). uploadedBy (y .size)) (st .is-entry) ∙ sym (uploaded-by (x .type)) in
-      rw (st .finds, ← command, ← st .reads d, ← is) (replied c v rq s d o r o′ (ready .plans) h)
+      rw (st .finds, ← command, ← st .reads d, ← is) (replied c v rq s d o r o′ h)
 
 -- ---- downloads
 
@@ -109,7 +109,7 @@ refused-effect rq x s d (bad a) h = refl
 pub passed : (v : Verdict) (code : ℕ) → code ≡ verdictCode v → code ≡ 0 → v ≡ good
 passed v code is z = is-good v (good-code v ∙ eq-eqb (verdictCode v) 0 (sym is ∙ z))
 
-module _ (rq : List ℕ) (s : State) (d o : List ℕ) (ready : Servable s d o) (e : Entry) (st : Stands (sdo.askedIndex rq) (sdo.askedSubindex rq) e) where
+module _ (rq : List ℕ) (s : State) (d o : List ℕ) (e : Entry) (st : Stands (sdo.askedIndex rq) (sdo.askedSubindex rq) e) where
   x : Row
   x = st .row
 
@@ -122,16 +122,16 @@ module _ (rq : List ℕ) (s : State) (d o : List ℕ) (ready : Servable s d o) (
   asked-is = rw (st .finds)
 
   pub refused-served : (code : ℕ) → code ≡ verdictCode (downloadVerdictOf rq (s .node .nmt) d e) → (code ≡ 0 → ⊥) →
-      (r : Done) (o′ : List ℕ) → Replied sdo.aborted code rq s o r o′ → Served (objectAsked true rq s d) d o r d o′
+      (r : Done) (o′ : List ℕ) → Replied sdo.aborted code rq s o r o′ → Served s (objectAsked true rq s d) d o r d o′
   refused-served code is refuses r o′ h =
       let q = is ∙ ap verdictCode verdict-is in
       served-as (asked-is ∙ refused-effect rq x s d _ (λ z. refuses (q ∙ z)) ∙ ap (λ (k : ℕ). sends (sdo.reply sdo.aborted rq s (bytes sdo.dataSize k)) (becomes s)) (sym q))
-      (replied sdo.aborted code rq s d o r o′ (ready .plans) h)
+      (replied sdo.aborted code rq s d o r o′ h)
 
   -- a good one, replied to and stored
-  module _ (octets : areBytes rq ≡ true) (fine : downloadVerdictOf rq (s .node .nmt) d e ≡ good) (v : ℕ) (is : v ≡ value (part sdo.dataPlace (e .size) rq))
+  module _ (fine : downloadVerdictOf rq (s .node .nmt) d e ≡ good) (v : ℕ) (is : v ≡ value (part sdo.dataPlace (e .size) rq))
       (d₁ o₁ : List ℕ) (put : d₁ ≡ sets d (e .place) (bytes (e .size) v)) (told : o₁ ≡ emitted 0 (replyOf sdo.downloaded 0 rq (s .node .id)) o)
-      (p : ℕ) (named : p ≡ mappingOf (e .role)) where
+      (b : Bool) (named : b ≡ isMapping (roleBack (e .role))) where
     fine-row : sdo.downloadVerdict rq (s .node .nmt) d x ≡ good
     fine-row = sym verdict-is ∙ fine
 
@@ -139,44 +139,30 @@ module _ (rq : List ℕ) (s : State) (d o : List ℕ) (ready : Servable s d o) (
     unfolding x sdo.askedValue
     stored-is = put ∙ st .writes v d ∙ ap (λ (k : ℕ). store (st .row) k d) (is ∙ ap (λ (y : Entry). value (part sdo.dataPlace (y .size) rq)) (st .is-entry))
 
-    role-is : p ≡ mappingOf (roleOf (x .role))
+    role-is : b ≡ isMapping (x .role)
     unfolding x
-    role-is = named ∙ ap (λ (y : Entry). mappingOf (y .role)) (st .is-entry)
+    role-is = named ∙ ap (λ (y : Entry). isMapping (roleBack (y .role))) (st .is-entry) ∙ ap isMapping (role-back (st .row .role))
 
     written : isWritable (x .access) ≡ true
     unfolding sdo.downloadVerdict
     written = sym (Bool·not-not _) ∙ ap not (good-passes _ _ _ fine-row .0)
 
-    is-mapping : p < noPdo → mappingOf (roleOf (x .role)) < noPdo
-    is-mapping h = omega (arith, role-is)
-
-    -- what `plan_of` asks
-    pub replan-legal : p < noPdo → (read d₁ (mapCount p) ≤ mostMoves) × (mappingLegal d₁ p ≡ true)
-    unfolding x
-    replan-legal h =
-        rw (stored-is, role-is)
-        (legal-mapping (store-ok (s .node .id) d x (sdo.askedValue rq x) (st .listed) (ready .long) (ready .lawful .dictionary) (may rq (s .node .nmt) (s .node .id) d x octets fine-row))
-        (mapping-pdo (st .listed) (mapping-role (x .role) (is-mapping h))))
-
-    pub replan-served : p < noPdo → (r : Done) → r ≡ record { state = replanned d₁ p s; frames = 1; touched = true; synced = false } →
-        Served (objectAsked true rq s d) d o r d₁ o₁
+    pub remap-served : b ≡ true → (r : Done) → r ≡ remapped s → Served s (objectAsked true rq s d) d o r d₁ o₁
     unfolding x sdo.decided sdo.reply
-    replan-served h r q =
-        rw (q, asked-is, fine-row, stored-is, role-is)
-        (mapping-served rq s d o (st .listed) (sdo.askedValue rq x) written (ready .plans) (mapping-role (x .role) (is-mapping h)) o₁ told)
+    remap-served h r q =
+        rw (q, asked-is, fine-row, stored-is)
+        (mapping-served rq s d o (st .listed) (sdo.askedValue rq x) written (sym role-is ∙ h) o₁ told)
 
-    pub act-served : noPdo ≤ p → (old : ℕ) → old ≡ value (part (controlWord .place) (sizeOf controlWord) d) → (r : Done) (d₂ o₂ : List ℕ) →
-        Did (acts old (eqb (e .place) (mode .place)) (eqb (e .place) (controlWord .place)) (restartedAt (e .place) s) d₁) 1 d₁ o₁ r d₂ o₂ → Served (objectAsked true rq s d) d o r d₂ o₂
+    pub act-served : b ≡ false → (old : ℕ) → old ≡ value (part (controlWord .place) (sizeOf controlWord) d) → (r : Done) (d₂ o₂ : List ℕ) →
+        Did (acts old (eqb (e .place) (mode .place)) (eqb (e .place) (controlWord .place)) (restartedAt (e .place) s) d₁) 1 d₁ o₁ r d₂ o₂ × (r .quiet ≡ false) →
+        Served s (objectAsked true rq s d) d o r d₂ o₂
     unfolding x sdo.decided sdo.reply read
-    act-served h old was r d₂ o₂ did =
+    act-served h old was r d₂ o₂ (did, busy) =
         rw (asked-is, fine-row)
-        (acted-served rq s d o (st .listed) (sdo.askedValue rq x) written (ready .plans) (unmapping-role (st .listed) (omega (arith, role-is))) r d₂ o₁ o₂ told
-        (rw (st .is-entry, stored-is, was) at did))
+        (acted-served rq s d o (st .listed) (sdo.askedValue rq x) written (sym role-is ∙ h) r d₂ o₁ o₂ told
+        ((rw (st .is-entry, stored-is, was) at did), busy))
 
 -- ---- what is known of what was found
 
-pub pdo-fits : {i j : ℕ} (e : Entry) → Stands i j e → pdoOf (e .role) < noPdo
+pub pdo-fits : {i j : ℕ} (e : Entry) → Stands i j e → pdoOf (e .role) < length pdos
 pdo-fits e st = rw (st .is-entry) (pdo-below (st .listed))
-
-pub id-fits : (s : State) (d o : List ℕ) → Servable s d o → s .node .id ≤ lastNode
-id-fits s d o ready = leb-true _ _ (and-right (leb firstNode (s .node .id)) (leb (s .node .id) lastNode) (ready .lawful .id))

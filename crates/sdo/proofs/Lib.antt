@@ -1,4 +1,3 @@
-pub mod Mappings
 pub mod Answering
 pub mod Acting
 pub mod Downloading

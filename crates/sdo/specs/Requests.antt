@@ -5,30 +5,28 @@ use mathlib.Core.Path.{_≡_}
 use mathlib.Core.List.{List, [], _∷_, _++_}
 use mathlib.Core.Bool.{Bool, true, false, cond, not}
 use lib.Dec.{eqb, ltb}
-use lib.ListN.{length}
 use Rattle.state.specs.declared.State.{State}
 use Rattle.state.specs.declared.NmtState.{NmtState}
 use Rattle.rules_dictionary.specs.Numbers.{value, bit, bytes, part}
-use Rattle.rules_dictionary.specs.Table.{u8, u16, u32, size, pdos, lookup}
+use Rattle.rules_dictionary.specs.Table.{u8, u16, u32, size, lookup}
 use Rattle.rules_dictionary.specs.Aborts.{Verdict, test, firstOf, noWriting, tooLong, tooShort, wrongTime}
 use Rattle.rules_services.specs.Effects.{Effect, Frame, frame}
 use Rattle.rules_services.specs.Sdo as sdo
 use Rattle.output.specs.Laying.{emitted}
 use Rattle.effects.specs.declared.Done.{Done}
+use Rattle.effects.specs.Leaves.{partsOf}
 use Rattle.dictionary.specs.declared.Access.{Access}
 use Rattle.dictionary.specs.declared.Access.the-variants.{Constant, NodeWritten, Writable}
-use Rattle.dictionary.specs.declared.Role.{Role}
-use Rattle.dictionary.specs.declared.Role.the-variants.{Plain, ModeOfOperation, PdoIdentifier, PdoType, MappingCount, MappingEntry}
 use Rattle.dictionary.specs.declared.Entry.{Entry}
 use Rattle.verdicts.specs.Verdicts.{roleBack, valueVerdictOf}
 use Rattle.sdo.specs.declared.Command.{Command}
-use Rattle.sdo.specs.declared.Command.the-variants.{Download, Upload, ClientAbort, Unknown}
+use Rattle.sdo.specs.declared.Command.the-variants.{Object, ClientAbort, Unknown}
 
 -- ---- requests
 
 abbrev pub asCommand : sdo.Command → Command
-asCommand sdo.download = Download
-asCommand sdo.upload = Upload
+asCommand sdo.download = Object true
+asCommand sdo.upload = Object false
 asCommand sdo.clientAbort = ClientAbort
 asCommand sdo.unknown = Unknown
 
@@ -46,9 +44,9 @@ replyBytes c v rq = c ∷ part 1 3 rq ++ bytes sdo.dataSize v
 abbrev pub replyOf : ℕ → ℕ → List ℕ → ℕ → List Frame
 replyOf c v rq n = frame (sdo.replyBase + n) (replyBytes c v rq) ∷ []
 
--- nothing but the reply: the state as it was
+-- nothing but the reply: the state as it was, and nothing left to do
 pub record Replied (c v : ℕ) (rq : List ℕ) (s : State) (o : List ℕ) (r : Done) (o′ : List ℕ) : Type 0 where
-  pub left : r ≡ record { state = s; frames = 1; touched = false; synced = false }
+  pub left : r ≡ record { parts = partsOf s; frames = 1; touched = false; remapped = false; synced = false; quiet = true }
   pub output : o′ ≡ emitted 0 (replyOf c v rq (s .node .id)) o
 
 -- "4Fh, 4Bh, 43h for 1, 2, 4 bytes"
@@ -77,15 +75,3 @@ downloadVerdictOf rq nmt d e =
     ∷ test (sdo.isWrongTime nmt d (roleBack (e .role))) wrongTime
     ∷ [])
     (valueVerdictOf d e (value (part sdo.dataPlace (e .size) rq)))
-
--- the PDO whose mapping the entry belongs to; of another entry none
-abbrev pub noPdo : ℕ
-noPdo = length pdos
-
-abbrev pub mappingOf : Role → ℕ
-mappingOf Plain = noPdo
-mappingOf ModeOfOperation = noPdo
-mappingOf (PdoIdentifier p) = noPdo
-mappingOf (PdoType p) = noPdo
-mappingOf (MappingCount p) = p
-mappingOf (MappingEntry p) = p

@@ -9,10 +9,9 @@ mod server; // requests by command, index and subindex
 
 pub use server::serve;
 
-// The commands.
+// The commands: an object written, where the flag is set, or read; a client's abort; any other.
 enum Command {
-    Download,
-    Upload,
+    Object(bool),
     ClientAbort,
     Unknown,
 }

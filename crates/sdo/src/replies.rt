@@ -5,11 +5,12 @@ ghost use lib.ListN.{length};
 ghost use Rattle.rules_dictionary.specs.Plans.{pdoData};
 ghost use Rattle.rules.specs.Calls.{outputLength};
 ghost use Rattle.output.specs.Laying.{emitted};
+ghost use Rattle.effects.specs.Leaves.{bare};
 ghost use Rattle.sdo.specs.Requests.{replyBytes, replyOf, Replied};
 use effects::Done;
+use effects::Parts;
 use output::send;
 use rules_dictionary::PdoData;
-use state::State;
 
 // 580h, to which the node-ID is added.
 const REPLY_BASE: u16 = 0x580;
@@ -49,16 +50,18 @@ pub fn reply(command: u8, v: u32, request: [u8; 8], id: u8, output: &mut [u8]) -
     )
 }
 
-// A reply alone: nothing is written, and the state stays.
-pub fn answer(command: u8, v: u32, request: [u8; 8], s: State, output: &mut [u8]) -> Done
+// A reply alone: nothing is written, the state stays, and nothing is left to do.
+pub fn answer(command: u8, v: u32, request: [u8; 8], parts: Parts, output: &mut [u8]) -> Done
     requires { ⌜ outputLength ≤ length (now output) ⌝ }
-    ensures { λ r. ⌜ Replied command v request s (now (output .entry)) r (now (output .exit)) ⌝ }
+    ensures { λ r. ⌜ Replied command v request (bare parts) (now (output .entry)) r (now (output .exit)) ⌝ }
 {
-    let frames = reply(command, v, request, s.node.id, output);
+    let frames = reply(command, v, request, parts.node.id, output);
     Done {
-        state: s,
+        parts: parts,
         frames: frames,
         touched: false,
+        remapped: false,
         synced: false,
+        quiet: true,
     }
 }

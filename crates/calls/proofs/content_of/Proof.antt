@@ -1,6 +1,5 @@
 -- `calls::content_of` meets its contract. Assumes nothing.
-use Prim.Native.Nat.{_-_, _<_, _≤_}
-use native.Mathlib.Omega.{arith}
+use Prim.Native.Nat.{_-_, _≤_}
 use mathlib.Core.Path.{_≡_}
 use lib.ListN.{length, take}
 use Rattle.rules_dictionary.specs.Numbers.{padded}

@@ -1,56 +1,13 @@
 -- `calls::power_up` meets its contract. Assumes nothing.
-use mathlib.Core.Path.{sym, _∙_, ap}
-use Rattle.rules_services.specs.Nmt.{powerUp}
-use Rattle.rules.specs.Calls.{powerUpCall, does, answered}
-use Rattle.calls.proofs.Refusals.{no-dictionary, no-room, decides, decides-not, too-low, too-high, a-node}
 use borrow.Author.Needs.{needs}
 use Rattle.calls.proofs.power_up.Statement.{statement}
 use Rattle.calls.proofs.power_up.Tie as tie
 
-refuse-requires : tie.Need-refuse-requires
-refuse-requires c κs = search needs
+brief-power-up-requires : tie.Need-brief-power-up-requires
+brief-power-up-requires c κs = search needs
 
-returns : tie.Need-returns
-returns c =
-    let a = c .before .before .before .before .args in
-    rw (c .refuse .ensures) (no-dictionary (powerUpCall (a .n)) (a .s) (a .d .now) (a .output .now) (c .before .if1 .taken))
-
-refuse-requires-2 : tie.Need-refuse-requires-2
-refuse-requires-2 c κs = search needs
-
-returns-2 : tie.Need-returns-2
-returns-2 c =
-    let a = c .before .before .before .before .before .args in
-    rw (c .refuse2 .ensures) (no-room (powerUpCall (a .n)) (a .s) (a .d .now) (a .output .now) (c .before .before .if1 .left) (c .before .if2 .taken))
-
-refuse-requires-3 : tie.Need-refuse-requires-3
-refuse-requires-3 c κs = search needs
-
-returns-3 : tie.Need-returns-3
-returns-3 c =
-    let a = c .before .before .before .before .before .before .args in
-    rw (c .refuse3 .ensures)
-    (decides-not (powerUpCall (a .n)) (a .s) (a .d .now) (a .output .now) (c .before .before .before .if1 .left) (c .before .before .if2 .left) _ (too-low (a .n) (a .s) (a .d .now) (c .before .if3 .taken)))
-
-refuse-requires-4 : tie.Need-refuse-requires-4
-refuse-requires-4 c κs = search needs
-
-returns-4 : tie.Need-returns-4
-returns-4 c =
-    let a = c .before .before .before .before .before .before .before .args in
-    rw (c .refuse4 .ensures)
-    (decides-not (powerUpCall (a .n)) (a .s) (a .d .now) (a .output .now) (c .before .before .before .before .if1 .left) (c .before .before .before .if2 .left) _ (too-high (a .n) (a .s) (a .d .now) (c .before .if4 .taken)))
-
-cast-start : tie.Need-cast-start
-cast-start c = search needs
-
-start-requires : tie.Need-start-requires
-start-requires c κs = search needs
-
-finish-requires : tie.Need-finish-requires
-finish-requires c κs =
-    let r = c .before .before .before .before .before .before .before in
-    (r .start .ensures (r .before .before .before .before .before .before .before .before .before .args .s) .ends, search needs)
+with-plans-requires : tie.Need-with-plans-requires
+with-plans-requires c κs = c .before .before .before .before .before .brief-power-up .ensures .1
 
 same-length : tie.Need-same-length
 same-length c = search needs
@@ -58,30 +15,8 @@ same-length c = search needs
 same-length-2 : tie.Need-same-length-2
 same-length-2 c = search needs
 
-returns-5 : tie.Need-returns-5
-unfolding answered
-returns-5 c =
-    let r = c .before .before .before .before .before .before .before .before .before .before .before .before in
-    let f = r .before .before .before in
-    let a = f .before .before .before .before .before .before .args in
-    r .start .ensures (a .s) .answers _ _ _ (c .before .before .before .before .finish .ensures)
-    ∙ sym (decides (powerUpCall (a .n)) (a .s) (a .d .now) (a .output .now) (f .before .before .before .if1 .left) (f .before .before .if2 .left) (does (powerUp (a .n))) (a-node (a .n) (a .s) (a .d .now) (f .before .if3 .left) (f .if4 .left)))
+returns : tie.Need-returns
+returns c = rw (c .with-plans .ensures) (c .before .before .before .before .before .before .brief-power-up .ensures .0)
 
 pub power-up-spec : {M : Type 1} → statement M
-power-up-spec =
-    tie.close
-    (tie.spec
-    refuse-requires
-    returns
-    refuse-requires-2
-    returns-2
-    refuse-requires-3
-    returns-3
-    refuse-requires-4
-    returns-4
-    cast-start
-    start-requires
-    finish-requires
-    same-length
-    same-length-2
-    returns-5)
+power-up-spec = tie.close (tie.spec brief-power-up-requires with-plans-requires same-length same-length-2 returns)

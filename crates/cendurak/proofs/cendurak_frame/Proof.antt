@@ -1,9 +1,8 @@
 -- `cendurak::cendurak_frame` meets its contract. Assumes nothing.
-use mathlib.Core.Path.{refl, sym, _∙_, ap}
+use mathlib.Core.Path.{refl, sym, _∙_}
 use borrow.Author.Tests.{not-true, not-false}
-use Rattle.state.specs.declared.State.{State}
-use Rattle.rules.specs.Calls.{frameCall, answer}
-use Rattle.cendurak.proofs.Laws.{short-dictionary, short-output, no-state, made, other-length, no-form, a-form}
+use Rattle.rules.specs.Calls.{frameCall}
+use Rattle.cendurak.proofs.Laws.{short-dictionary, short-output, no-state, made-brief, other-length, no-form, a-form}
 use borrow.Author.Needs.{needs}
 use Rattle.cendurak.proofs.cendurak_frame.Statement.{statement}
 use Rattle.cendurak.proofs.cendurak_frame.Tie as tie
@@ -35,11 +34,15 @@ returns-4 c =
 read-state-requires : tie.Need-read-state-requires
 read-state-requires c κs = search needs
 
-frame-requires : tie.Need-frame-requires
-frame-requires c κs = search needs
+brief-frame-requires : tie.Need-brief-frame-requires
+brief-frame-requires c κs = search needs
 
-leave-requires : tie.Need-leave-requires
-leave-requires c κs = search needs
+leave-brief-requires : tie.Need-leave-brief-requires
+leave-brief-requires c κs =
+    let b = c .before .before .before .before .before .before in
+    let g = b .before .before .before .before .before in
+    let t = g .before in
+    (t .before .before .if3 .left, (sym (t .is-form .ensures) ∙ not-false _ (g .if4 .left), b .brief-frame .ensures .1))
 
 same-length-2 : tie.Need-same-length-2
 same-length-2 c = search needs
@@ -52,13 +55,14 @@ same-length-4 c = search needs
 
 returns-5 : tie.Need-returns-5
 returns-5 c =
-    let v = c .before .before .before .before .before .before .before .before .before .before .before in
+    let b = c .before .before .before .before .before .before .before .before .before in
+    let v = b .before .before .before in
     let g = v .before .before in
     let t = g .before in
     let e = t .before .before in
     let a = e .before .before .before .before .before .before .before .args in
-    made (frameCall (a .identifier) (a .bytes .now)) (a .state .now) (a .dict .now) (a .out .now) (a-form (a .state .now) (e .if3 .left) (sym (t .is-form .ensures) ∙ not-false _ (g .if4 .left))) _ _ _ _ _
-    (c .before .before .before .before .before .before .before .before .frame .ensures ∙ ap (λ (s : State). answer (frameCall (a .identifier) (a .bytes .now)) s (a .dict .now) (a .out .now)) (v .read-state .ensures)) (c .before .before .leave .ensures)
+    made-brief (frameCall (a .identifier) (a .bytes .now)) (a .state .now) (a .dict .now) (a .out .now) (a-form (a .state .now) (e .if3 .left) (sym (t .is-form .ensures) ∙ not-false _ (g .if4 .left))) _ (v .read-state .ensures) _ _ _ _ _
+    (b .brief-frame .ensures) (c .before .before .leave-brief .ensures)
 
 pub cendurak-frame-spec : {M : Type 1} → statement M
 cendurak-frame-spec =
@@ -71,8 +75,8 @@ cendurak-frame-spec =
     same-length
     returns-4
     read-state-requires
-    frame-requires
-    leave-requires
+    brief-frame-requires
+    leave-brief-requires
     same-length-2
     same-length-3
     same-length-4

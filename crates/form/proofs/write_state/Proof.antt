@@ -1,6 +1,7 @@
+use mathlib.Core.Path.{_∙_}
 use denote.Ref.{now}
-use Rattle.form.specs.Typed.{Typed}
-use Rattle.form.proofs.Rows.{state-written}
+use Rattle.form.specs.Form.{HoldsPlans}
+use Rattle.form.proofs.Rows.{plans-written, head-over, typed-whole}
 use borrow.Author.Needs.{needs}
 use Rattle.form.proofs.write_state.Statement.{statement}
 use Rattle.form.proofs.write_state.Tie as tie
@@ -8,21 +9,25 @@ use Rattle.form.proofs.write_state.Tie as tie
 write-plans-requires : tie.Need-write-plans-requires
 write-plans-requires c κs = search needs
 
-write-but-plans-requires : tie.Need-write-but-plans-requires
-write-but-plans-requires c κs = search needs
+write-head-requires : tie.Need-write-head-requires
+write-head-requires c κs = search needs
 
 same-length : tie.Need-same-length
 same-length c = search needs
 
 returns : tie.Need-returns
 returns c =
-    let h = c .before .before .write-but-plans .ensures in
+    let h = c .before .before .write-head .ensures in
     let p = c .before .before .before .before .before .before .write-plans .ensures in
-    let start = c .before .before .before .before .before .before .before .before .before .before .before in
-    let a = start .args in
-    let typed : Typed (a .s) = record { head = h .1; plans = p .1 } in
-    (cc (state-written (now (a .bytes)) (a .s) (start .pre) typed), typed)
+    let start = c .before .before .before .before .before .before .before .before .before .before .before .before .before .before .before .before .before in
+    let s = start .args .s in
+    let x = s .axis in
+    let held : HoldsPlans (c .before .before .before .before .before .before .write-plans .last .0) (x .plans) =
+    rw (p .0) (plans-written (now (start .args .bytes)) (x .plans) (start .pre) (p .1)) in (
+      h .0 ∙ head-over _ (x .plans) (s .node) (x .drive) (x .ready) (x .held) (x .counts) (x .due) held,
+      typed-whole (x .plans) (s .node) (x .drive) (x .ready) (x .held) (x .counts) (x .due) (h .1) (p .1),
+    )
 
 pub write-state-spec : {M : Type 1} → statement M
 write-state-spec =
-    tie.close (tie.spec write-plans-requires write-but-plans-requires same-length returns)
+    tie.close (tie.spec write-plans-requires write-head-requires same-length returns)

@@ -1,5 +1,6 @@
 -- `calls::commands::command` meets its contract. Assumes nothing.
-use mathlib.Core.Path.{sym, ap, subst}
+use native.Mathlib.Omega.{arith}
+use Rattle.plans.proofs.Assembly.{are-bytes}
 use Rattle.calls.proofs.Starting.{first-node, last-node, restarts, resets, command-finishes}
 use borrow.Author.Needs.{needs}
 use Rattle.calls.proofs.commands.command.Statement.{statement}
@@ -18,11 +19,14 @@ same-length-2 c = search needs
 
 returns : tie.Need-returns
 returns c =
-    let s = c .before .before .before .before .before .before .before .before .before .before in
-    restarts (s .pre) (s .args .c) (c .before .before .before .before .before .before .before .if1 .taken) _ _ _ (c .before .before .before .before .start .ensures)
+    let k = c .before .before .before .before .before .before .before .before .before in
+    let s = k .before in
+    restarts (s .pre) (are-bytes (s .args .d .now) (λ i l. omega (arith, k .slice-known .given i))) (s .args .c) (c .before .before .before .before .before .before .before .if1 .taken) _ _ _ (c .before .before .before .before .start .ensures)
 
-reset-requires : tie.Need-reset-requires
-reset-requires c κs = search needs
+reset-communication-requires : tie.Need-reset-communication-requires
+reset-communication-requires c κs =
+    let h = c .before .before .before .before .before .before .pre in
+    (h .long, (h .room, (first-node h, last-node h)))
 
 same-length-3 : tie.Need-same-length-3
 same-length-3 c = search needs
@@ -32,8 +36,9 @@ same-length-4 c = search needs
 
 returns-2 : tie.Need-returns-2
 returns-2 c =
-    let s = c .before .before .before .before .before .before .before .before .before .before .before in
-    resets (s .pre) (s .args .c) (c .before .before .before .before .before .before .before .if2 .taken) _ _ _ (c .before .before .before .before .reset .ensures)
+    let k = c .before .before .before .before .before .before .before .before .before .before in
+    let s = k .before in
+    resets (s .pre) (are-bytes (s .args .d .now) (λ i l. omega (arith, k .slice-known .given i))) (s .args .c) (c .before .before .before .before .before .before .before .if2 .taken) _ _ _ (c .before .before .before .before .reset-communication .ensures)
 
 commanded-requires : tie.Need-commanded-requires
 commanded-requires c κs = search needs
@@ -43,8 +48,9 @@ changed-requires c κs = search needs
 
 returns-3 : tie.Need-returns-3
 returns-3 c =
-    let s = c .before .before .before .before .before .before in
-    rw (c .changed .ensures) (command-finishes (s .pre) (s .args .c) _ (c .before .commanded .ensures))
+    let k = c .before .before .before .before .before in
+    let s = k .before in
+    rw (c .changed .ensures) (command-finishes (s .pre) (are-bytes (s .args .d .now) (λ i l. omega (arith, k .slice-known .given i))) (s .args .c) _ (c .before .commanded .ensures))
 
 pub command-spec : {M : Type 1} → statement M
 command-spec =
@@ -54,7 +60,7 @@ command-spec =
     same-length
     same-length-2
     returns
-    reset-requires
+    reset-communication-requires
     same-length-3
     same-length-4
     returns-2

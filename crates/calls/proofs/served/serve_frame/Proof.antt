@@ -1,8 +1,8 @@
 -- `calls::served::serve_frame` meets its contract. Assumes nothing.
 use mathlib.Core.Path.{_∙_, ap}
 use Rattle.rules.specs.Calls.{framed}
-use Rattle.calls.specs.Leaving.{dataOf}
-use Rattle.calls.proofs.Finish.{as-finished}
+use Rattle.calls.specs.Frames.{dataOf}
+use Rattle.answers.proofs.Concluding.{as-finished}
 use Rattle.calls.proofs.Starting.{framed-nmt, framed-serviced}
 use borrow.Author.Needs.{needs}
 use Rattle.calls.proofs.served.serve_frame.Statement.{statement}

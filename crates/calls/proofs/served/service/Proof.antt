@@ -2,8 +2,8 @@
 use native.Mathlib.Omega.{arith}
 use mathlib.Core.Path.{ap}
 use Rattle.plans.proofs.Assembly.{are-bytes}
-use Rattle.calls.specs.Leaving.{dataOf, serviced}
-use Rattle.calls.proofs.Finish.{as-finished}
+use Rattle.calls.specs.Frames.{dataOf, serviced}
+use Rattle.answers.proofs.Concluding.{as-finished}
 use Rattle.calls.proofs.Starting.{kept, sync-finishes, receive-finishes, serviced-request}
 use borrow.Author.Needs.{needs}
 use Rattle.calls.proofs.served.service.Statement.{statement}
@@ -24,7 +24,7 @@ returns c =
     let s = k .before in
     let a = s .args in
     as-finished (ap (λ i. serviced i (dataOf (a .content)) (a .s) (a .d .now)) (c .before .before .before .before .before .before .before .if1 .taken))
-    (sync-finishes (s .pre .0) (are-bytes (a .d .now) (λ i l. omega (arith, k .slice-known .given i))) (a .content) (s .pre .1 .0) _ _ _ (c .before .before .before .before .sync .ensures))
+    (sync-finishes (s .pre .0) (are-bytes (a .d .now) (λ i l. omega (arith, k .slice-known .given i))) (a .content) (s .pre .1 .0) _ _ _ (c .before .before .before .before .sync .ensures .0) (c .before .before .before .before .sync .ensures .1))
 
 cast-if2 : tie.Need-cast-if2
 cast-if2 c = search needs
@@ -62,7 +62,7 @@ returns-3 c =
     let s = k .before in
     let a = s .args in
     receive-finishes (s .pre .0) (are-bytes (a .d .now) (λ i l. omega (arith, k .slice-known .given i))) (a .identifier) (a .content) (s .pre .1 .0) (s .pre .1 .1) (c .before .before .before .before .before .before .before .before .before .if1 .left) (c .before .before .before .before .before .before .before .if2 .left) _ _ _
-    (c .before .before .before .before .receive .ensures)
+    (c .before .before .before .before .receive .ensures .0) (c .before .before .before .before .receive .ensures .1)
 
 pub service-spec : {M : Type 1} → statement M
 service-spec =

@@ -13,11 +13,11 @@ happens-requires c κs = (search needs, (search needs, last-node (c .before .bef
 
 finish-requires : tie.Need-finish-requires
 finish-requires c κs =
-    let r = c .before .before .before .before .before .before .before in
+    let r = c .before .before .before .before .before .before in
     let k = r .before .before .before .before in
     let s = k .before in
     let a = s .args in
-    (told-finishes (s .pre .0) (are-bytes (a .d .now) (λ i l. omega (arith, k .slice-known .given i))) (toldOf (a .e)) (s .pre .1 .0) (s .pre .1 .1) _ _ _ (r .happens .ensures) .ends, search (needs, s .pre .0 .room))
+    told-finishes (s .pre .0) (are-bytes (a .d .now) (λ i l. omega (arith, k .slice-known .given i))) (toldOf (a .e)) (s .pre .1 .0) (s .pre .1 .1) _ _ _ (r .happens .ensures .0) (r .happens .ensures .1) .ends
 
 same-length : tie.Need-same-length
 same-length c = search needs
@@ -27,11 +27,11 @@ same-length-2 c = search needs
 
 returns : tie.Need-returns
 returns c =
-    let r = c .before .before .before .before .before .before .before .before .before .before .before .before in
+    let r = c .before .before .before .before .before .before .before .before .before .before .before in
     let k = r .before .before .before .before in
     let s = k .before in
     let a = s .args in
-    told-finishes (s .pre .0) (are-bytes (a .d .now) (λ i l. omega (arith, k .slice-known .given i))) (toldOf (a .e)) (s .pre .1 .0) (s .pre .1 .1) _ _ _ (r .happens .ensures) .answers _ _ _ (c .before .before .before .before .finish .ensures)
+    told-finishes (s .pre .0) (are-bytes (a .d .now) (λ i l. omega (arith, k .slice-known .given i))) (toldOf (a .e)) (s .pre .1 .0) (s .pre .1 .1) _ _ _ (r .happens .ensures .0) (r .happens .ensures .1) .answers _ _ _ (c .before .before .before .before .finish .ensures)
 
 pub happen-spec : {M : Type 1} → statement M
 happen-spec =

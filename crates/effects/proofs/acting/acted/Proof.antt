@@ -1,5 +1,8 @@
 -- `effects::acting::acted` meets its contract. Assumes nothing.
-use Rattle.effects.proofs.Laws.{left-as, as-effect, acts-on, acts-not, mode-id}
+use mathlib.Core.Path.{refl}
+use mathlib.Core.Bool.{false}
+use Rattle.effects.specs.Leaves.{bare}
+use Rattle.effects.proofs.Laws.{left-as, as-effect, acts-on, acts-not, with-drive-part}
 use borrow.Author.Needs.{needs}
 use Rattle.effects.proofs.acting.acted.Statement.{statement}
 use Rattle.effects.proofs.acting.acted.Tie as tie
@@ -8,10 +11,7 @@ mode-acted-requires : tie.Need-mode-acted-requires
 mode-acted-requires c κs = search needs
 
 control-acted-requires : tie.Need-control-acted-requires
-control-acted-requires c κs =
-    let m = c .before .before .before in
-    let s = m .before .before .before .before in
-    (search needs, (search needs, (s .pre .1 .1 .0, mode-id (s .args .mode) (s .args .s) _ (s .args .d .now) (m .mode-acted .ensures) (s .pre .1 .1 .1))))
+control-acted-requires c κs = search needs
 
 same-length : tie.Need-same-length
 same-length c = search needs
@@ -22,8 +22,9 @@ same-length-2 c = search needs
 returns : tie.Need-returns
 returns c =
     let m = c .before .before .before .before .before .before .before .before in
-    let a = m .before .before .before .before .args in
-    as-effect (acts-on (a .old) (a .mode) (a .control) (a .s) _ (a .d .now) (m .mode-acted .ensures) (c .before .before .before .before .before .before .before .if1 .taken)) (c .before .before .before .before .control-acted .ensures)
+    let a = m .before .before .before .before .before .before .before .args in
+    let f = c .before .before .before .before .control-acted .ensures in
+    (as-effect (acts-on (a .old) (a .mode) (a .control) (a .parts) _ (a .d .now) (with-drive-part (a .parts) (m .mode-acted .ensures)) (c .before .before .before .before .before .before .before .if1 .taken)) (f .0), f .1)
 
 same-length-3 : tie.Need-same-length-3
 same-length-3 c = search needs
@@ -31,8 +32,8 @@ same-length-3 c = search needs
 returns-2 : tie.Need-returns-2
 returns-2 c =
     let m = c .before in
-    let a = m .before .before .before .before .args in
-    as-effect (acts-not (a .old) (a .mode) (a .control) (a .s) _ (a .d .now) (m .mode-acted .ensures) (c .if1 .left)) (left-as (m .mode-acted .result) (a .n) (a .d .now) (a .output .now))
+    let a = m .before .before .before .before .before .before .before .args in
+    (as-effect (acts-not (a .old) (a .mode) (a .control) (a .parts) _ (a .d .now) (with-drive-part (a .parts) (m .mode-acted .ensures)) (c .if1 .left)) (left-as (bare _) _ false (a .n) (a .d .now) (a .output .now) refl), refl)
 
 pub acted-spec : {M : Type 1} → statement M
 acted-spec =

@@ -1,5 +1,6 @@
 -- `effects::acting::fault_reset` meets its contract. Assumes nothing.
 use Rattle.effects.proofs.Laws.{reset-left}
+use mathlib.Core.Path.{refl}
 use borrow.Author.Needs.{needs}
 use Rattle.effects.proofs.acting.fault_reset.Statement.{statement}
 use Rattle.effects.proofs.acting.fault_reset.Tie as tie
@@ -18,9 +19,9 @@ same-length-2 c = search needs
 
 returns : tie.Need-returns
 returns c =
-    let w = c .before .before .before .before .before .before .before in
+    let w = c .before .before .before .before .before .before .before .before in
     let a = w .before .before .before .before .args in
-    reset-left (a .s) (a .n) _ (a .d .now) (a .output .now) _ _ (w .write1 .ensures) (c .before .before .emergency .ensures)
+    (reset-left (a .parts) (a .n) _ (a .d .now) (a .output .now) _ _ (w .write1 .ensures) (c .before .before .emergency .ensures), refl)
 
 pub fault-reset-spec : {M : Type 1} → statement M
 fault-reset-spec =

@@ -10,8 +10,8 @@ is-stopped-requires c κs = search needs
 
 returns : tie.Need-returns
 returns c =
-    let a = c .before .before .before .before .before .args in
-    silent (a .code) (a .s) (a .d .now) (a .n) (a .output .now) (sym (c .before .is-stopped .ensures) ∙ c .if1 .taken)
+    let a = c .before .before .before .before .args in
+    silent (a .code) (a .node) (a .d .now) (a .n) (a .output .now) (sym (c .before .is-stopped .ensures) ∙ c .if1 .taken)
 
 read1-requires : tie.Need-read1-requires
 read1-requires c κs = search needs
@@ -37,8 +37,8 @@ returns-2 : tie.Need-returns-2
 returns-2 c =
     let b = c .before .before .before .before .before in
     let h = b .before .before .before in
-    let a = h .before .before .before .before .args in
-    spoken (a .code) (a .s) (a .d .now) _ _ (a .n) _ (a .output .now) _ (sym (h .is-stopped .ensures) ∙ b .before .before .if1 .left) (b .before .read1 .ensures) (b .emergency-data .ensures) (c .before .before .send .ensures)
+    let a = h .before .before .before .args in
+    spoken (a .code) (a .node) (a .d .now) _ _ (a .n) _ (a .output .now) _ (sym (h .is-stopped .ensures) ∙ b .before .before .if1 .left) (b .before .read1 .ensures) (b .emergency-data .ensures) (c .before .before .send .ensures)
 
 pub emergency-spec : {M : Type 1} → statement M
 emergency-spec =

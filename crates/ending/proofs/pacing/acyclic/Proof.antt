@@ -1,3 +1,4 @@
+-- `ending::pacing::acyclic` meets its contract. Assumes nothing.
 use Rattle.rules_services.specs.PdoTraffic.{acyclic}
 use Rattle.ending.proofs.pacing.acyclic.Statement.{statement}
 use Rattle.ending.proofs.pacing.acyclic.Tie as tie

@@ -1,3 +1,4 @@
+-- `ending::pacing::cyclic` meets its contract. Assumes nothing.
 use Prim.Native.Nat.{suc}
 use mathlib.Core.Path.{_≡_}
 use mathlib.Core.Bool.{true, false}

@@ -1,3 +1,4 @@
+-- `ending::pacing::identifier` meets its contract. Assumes nothing.
 use mathlib.Core.Path.{_∙_}
 use native.Mathlib.Omega.{arith}
 use Rattle.ending.proofs.OnePdo.{identifier-read}

@@ -1,3 +1,4 @@
+-- `ending::pacing::is_open` meets its contract. Assumes nothing.
 use mathlib.Core.Path.{_∙_, ap}
 use native.Mathlib.Omega.{arith}
 use lib.Dec.{ltb}

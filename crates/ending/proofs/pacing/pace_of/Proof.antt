@@ -1,3 +1,4 @@
+-- `ending::pacing::pace_of` meets its contract. Assumes nothing.
 use mathlib.Core.Bool.{or-true, or-false}
 use native.Mathlib.Omega.{arith}
 use borrow.Author.Tests.{le-leb, lt-leb, eq-eqb, ne-eqb}

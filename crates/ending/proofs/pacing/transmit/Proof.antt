@@ -1,3 +1,4 @@
+-- `ending::pacing::transmit` meets its contract. Assumes nothing.
 use mathlib.Core.Path.{_≡_, refl, sym, _∙_, ap}
 use borrow.Author.Tests.{not-true, not-false}
 use Rattle.ending.specs.Ending.{openPace, paced}

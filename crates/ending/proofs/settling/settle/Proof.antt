@@ -1,3 +1,4 @@
+-- `ending::settling::settle` meets its contract. Assumes nothing.
 use Prim.Native.Nat.{ℕ}
 use mathlib.Core.Path.{_≡_, refl, sym, _∙_, ap}
 use mathlib.Core.Bool.{true, true≢false}
@@ -37,11 +38,11 @@ returns c =
     let first = second .before .before in
     let known = first .before .before .before in
     let remote = known .before .before .before in
-    let entry = remote .before .before .before .before in
+    let entry = remote .before in
     let a = entry .before .args in
-    let w = word-made (a .s) (a .d .now) _ _ (remote .is-remote .ensures) (known .before .status .ensures) in
+    let w = word-made (a .node) (a .drive) (a .d .now) _ _ (remote .is-remote .ensures) (known .before .status .ensures) in
     let b : areBytes (a .d .now) ≡ true = are-bytes (a .d .now) (λ i h. omega (arith, entry .slice-known .given i)) in
-    let e = both-stand (a .s) (a .d .now) _ _ w (known .mode-number .ensures) b (entry .before .pre) (sym (first .before .read2 .ensures) ∙ first .if1 .taken) (sym (second .read1 .ensures) ∙ eqb-true _ _ (c .if2 .taken)) in
+    let e = both-stand (a .node) (a .drive) (a .d .now) _ _ w (known .mode-number .ensures) b (entry .before .pre) (sym (first .before .read2 .ensures) ∙ first .if1 .taken) (sym (second .read1 .ensures) ∙ eqb-true _ _ (c .if2 .taken)) in
     (e, λ h. (h, refl))
 
 write2-requires : tie.Need-write2-requires
@@ -59,11 +60,11 @@ returns-2 c =
     let word = written .before .before .before .before in
     let known = word .before .before .before .before .before in
     let remote = known .before .before .before in
-    let a = remote .before .before .before .before .before .args in
-    let w = word-made (a .s) (a .d .now) _ _ (remote .is-remote .ensures) (known .before .status .ensures) in (
+    let a = remote .before .before .args in
+    let w = word-made (a .node) (a .drive) (a .d .now) _ _ (remote .is-remote .ensures) (known .before .status .ensures) in (
       written .write1 .ensures
           ∙ ap (λ (l : List ℕ). sets l (modeDisplay .place) (bytes 1 (known .mode-number .result))) (word .write2 .ensures)
-          ∙ both-written (a .s) (a .d .now) _ _ w (known .mode-number .ensures),
+          ∙ both-written (a .node) (a .drive) (a .d .now) _ _ w (known .mode-number .ensures),
       λ h. absurd (true≢false h),
     )
 

@@ -1,6 +1,5 @@
 -- `events::acts::fed_back` meets its contract. Assumes nothing.
-use mathlib.Core.Path.{refl}
-use Rattle.events.proofs.Laws.{fed}
+use Rattle.events.proofs.Laws.{fed, fed-parts}
 use borrow.Author.Needs.{needs}
 use Rattle.events.proofs.acts.fed_back.Statement.{statement}
 use Rattle.events.proofs.acts.fed_back.Tie as tie
@@ -11,15 +10,19 @@ write4-requires c κs = search needs
 write4-requires-2 : tie.Need-write4-requires-2
 write4-requires-2 c κs = search needs
 
+parts-of-requires : tie.Need-parts-of-requires
+parts-of-requires c κs = search needs
+
 same-length : tie.Need-same-length
 same-length c = search needs
 
 returns : tie.Need-returns
 returns c =
-    let second = c .before .before in
+    let second = c .before .before .before in
     let first = second .before .before .before .before in
     let a = first .before .before .before .args in
-    (refl, fed (a .at) (a .speed) (a .d .now) _ _ (first .write4 .ensures) (second .write42 .ensures))
+    (fed-parts (a .s) _ (c .parts-of .ensures), fed (a .at) (a .speed) (a .d .now) _ _ (first .write4 .ensures) (second .write42 .ensures))
 
 pub fed-back-spec : {M : Type 1} → statement M
-fed-back-spec = tie.close (tie.spec write4-requires write4-requires-2 same-length returns)
+fed-back-spec =
+    tie.close (tie.spec write4-requires write4-requires-2 parts-of-requires same-length returns)

@@ -1,5 +1,5 @@
 -- `events::acts::happens` meets its contract. Assumes nothing.
-use Rattle.events.proofs.Laws.{faults, feeds-back, ticks, quietly}
+use Rattle.events.proofs.Laws.{faults, feeds-back, ticks, only-restates}
 use borrow.Author.Needs.{needs}
 use Rattle.events.proofs.acts.happens.Statement.{statement}
 use Rattle.events.proofs.acts.happens.Tie as tie
@@ -22,8 +22,8 @@ enum-told c = search needs
 tick-requires : tie.Need-tick-requires
 tick-requires c κs = search needs
 
-quiet-requires : tie.Need-quiet-requires
-quiet-requires c κs = search needs
+to-state-requires : tie.Need-to-state-requires
+to-state-requires c κs = search needs
 
 same-length : tie.Need-same-length
 same-length c = search needs
@@ -64,7 +64,7 @@ returns-3 c =
 returns-4 : tie.Need-returns-4
 returns-4 c =
     let a = c .before .before .before .before .args in
-    quietly (a .e) (a .s) _ (a .d .now) (a .output .now) (c .before .match .keys4) (c .quiet .ensures)
+    only-restates (a .e) (a .s) _ (a .d .now) (a .output .now) (c .before .match .keys4) (c .to-state .ensures)
 
 pub happens-spec : {M : Type 1} → statement M
 happens-spec =
@@ -76,7 +76,7 @@ happens-spec =
     fed-back-requires
     enum-told
     tick-requires
-    quiet-requires
+    to-state-requires
     same-length
     same-length-2
     returns

@@ -9,12 +9,6 @@ shared-slice-read-drive-state-of c = search needs
 drive-state-of-requires : tie.Need-drive-state-of-requires
 drive-state-of-requires c κs = search needs
 
-shared-slice-read-mode-of : tie.Need-shared-slice-read-mode-of
-shared-slice-read-mode-of c = search needs
-
-mode-of-requires : tie.Need-mode-of-requires
-mode-of-requires c κs = search needs
-
 shared-slice-read-own-flag : tie.Need-shared-slice-read-own-flag
 shared-slice-read-own-flag c = search needs
 
@@ -36,11 +30,11 @@ both-requires c κs = search needs
 both-requires-2 : tie.Need-both-requires-2
 both-requires-2 c κs = search needs
 
-mode-number-requires : tie.Need-mode-number-requires
-mode-number-requires c κs = search needs
+shared-slice-read-own-mode : tie.Need-shared-slice-read-own-mode
+shared-slice-read-own-mode c = search needs
 
-shared-slice-read-both : tie.Need-shared-slice-read-both
-shared-slice-read-both c = search needs
+own-mode-requires : tie.Need-own-mode-requires
+own-mode-requires c κs = search needs
 
 shared-slice-read-own-flag-3 : tie.Need-shared-slice-read-own-flag-3
 shared-slice-read-own-flag-3 c = search needs
@@ -57,8 +51,8 @@ both-requires-4 c κs = search needs
 state-number-requires : tie.Need-state-number-requires
 state-number-requires c κs = search needs
 
-shared-slice-read-both-2 : tie.Need-shared-slice-read-both-2
-shared-slice-read-both-2 c = search needs
+shared-slice-read-both : tie.Need-shared-slice-read-both
+shared-slice-read-both c = search needs
 
 both-requires-5 : tie.Need-both-requires-5
 both-requires-5 c κs = search needs
@@ -73,8 +67,6 @@ own-drive-spec =
     (tie.spec
     shared-slice-read-drive-state-of
     drive-state-of-requires
-    shared-slice-read-mode-of
-    mode-of-requires
     shared-slice-read-own-flag
     own-flag-requires
     shared-slice-read-own-flag-2
@@ -82,13 +74,13 @@ own-drive-spec =
     own-store-requires
     both-requires
     both-requires-2
-    mode-number-requires
-    shared-slice-read-both
+    shared-slice-read-own-mode
+    own-mode-requires
     shared-slice-read-own-flag-3
     own-flag-requires-3
     both-requires-3
     both-requires-4
     state-number-requires
-    shared-slice-read-both-2
+    shared-slice-read-both
     both-requires-5
     returns)

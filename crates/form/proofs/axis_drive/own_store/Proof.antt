@@ -1,58 +1,55 @@
-use Rattle.form.specs.Own.{storeOwn}
+use borrow.Author.Tests.{ne-eqb}
+use denote.Ref.{now}
+use Rattle.form.proofs.Small.{kind-none, kind-rested, kind-moving, own-by-kind}
 use borrow.Author.Needs.{needs}
 use Rattle.form.proofs.axis_drive.own_store.Statement.{statement}
 use Rattle.form.proofs.axis_drive.own_store.Tie as tie
 
-read-store-requires : tie.Need-read-store-requires
-read-store-requires c κs = search needs
+bits-behind-requires : tie.Need-bits-behind-requires
+bits-behind-requires c κs = search needs
 
-first-of-requires : tie.Need-first-of-requires
-first-of-requires c κs = search needs
+bits-of-requires : tie.Need-bits-of-requires
+bits-of-requires c κs = search needs
 
-second-of-requires : tie.Need-second-of-requires
-second-of-requires c κs = search needs
+shared-slice-read-match : tie.Need-shared-slice-read-match
+shared-slice-read-match c = search needs
 
-read-set-point-requires : tie.Need-read-set-point-requires
-read-set-point-requires c κs = search needs
-
-same-set-point-requires : tie.Need-same-set-point-requires
-same-set-point-requires c κs = search needs
-
-read-set-point-requires-2 : tie.Need-read-set-point-requires-2
-read-set-point-requires-2 c κs = search needs
-
-same-set-point-requires-2 : tie.Need-same-set-point-requires-2
-same-set-point-requires-2 c κs = search needs
-
-both-requires : tie.Need-both-requires
-both-requires c κs = search needs
-
-store-kind-requires : tie.Need-store-kind-requires
-store-kind-requires c κs = search needs
-
-shared-slice-read-both : tie.Need-shared-slice-read-both
-shared-slice-read-both c = search needs
-
-both-requires-2 : tie.Need-both-requires-2
-both-requires-2 c κs = search needs
+read4-requires : tie.Need-read4-requires
+read4-requires c κs = search needs
 
 returns : tie.Need-returns
-unfolding storeOwn
-returns c = cc
+returns c =
+    let s = c .before .before .before in
+    kind-none 10 (now (s .before .before .before .args .bytes)) _ (s .before .bits-behind .result) (s .bits-of .result) (c .before .match .keys1) (c .read4 .ensures) (s .before .bits-behind .ensures) (s .bits-of .ensures)
+
+returns-2 : tie.Need-returns-2
+returns-2 c =
+    let s = c .before .before in
+    kind-rested 10 (now (s .before .before .before .args .bytes)) (s .before .bits-behind .result) (s .bits-of .result) (c .match .keys2) (s .before .bits-behind .ensures) (s .bits-of .ensures)
+
+returns-3 : tie.Need-returns-3
+returns-3 c =
+    let s = c .before .before in
+    kind-moving 10 (now (s .before .before .before .args .bytes)) (s .bits-of .result) (c .match .keys3) (s .bits-of .ensures)
+
+returns-4 : tie.Need-returns-4
+returns-4 c = rw (own-by-kind 10 (now (c .before .before .before .before .before .args .bytes)), c .match .keys4)
+
+returns-5 : tie.Need-returns-5
+returns-5 c =
+    let r = c .match .rest in
+    rw (own-by-kind 10 (now (c .before .before .before .before .before .args .bytes))) (simp (ne-eqb _ _ (r .0 .0 .0 .1), ne-eqb _ _ (r .0 .0 .1), ne-eqb _ _ (r .0 .1), ne-eqb _ _ (r .1)))
 
 pub own-store-spec : {M : Type 1} → statement M
 own-store-spec =
     tie.close
     (tie.spec
-    read-store-requires
-    first-of-requires
-    second-of-requires
-    read-set-point-requires
-    same-set-point-requires
-    read-set-point-requires-2
-    same-set-point-requires-2
-    both-requires
-    store-kind-requires
-    shared-slice-read-both
-    both-requires-2
-    returns)
+    bits-behind-requires
+    bits-of-requires
+    shared-slice-read-match
+    read4-requires
+    returns
+    returns-2
+    returns-3
+    returns-4
+    returns-5)

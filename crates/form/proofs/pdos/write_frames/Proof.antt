@@ -1,71 +1,69 @@
-use Prim.Native.Nat.{_-_}
-use native.Mathlib.Omega.{arith}
-use mathlib.Core.Path.{_≡_}
-use mathlib.Core.List.{[]}
+use denote.Ref.{now}
+use Rattle.form.proofs.Rows.{frames-written}
 use borrow.Author.Needs.{needs}
-use lib.ListN.{length}
-use Rattle.rules_dictionary.specs.Table.{eachWay}
-use Rattle.form.specs.Form.{dataForm, dataLength}
-use Rattle.form.specs.Typed.{DataTyped}
-use Rattle.form.proofs.Rows.{Row, none-yet, one-more, all-written, all-hold, length-data}
 use Rattle.form.proofs.pdos.write_frames.Statement.{statement}
 use Rattle.form.proofs.pdos.write_frames.Tie as tie
 
-abbrev Inv-loop : tie.InvT-loop
-Inv-loop bytes₀ place frames at₀ k₀ bytes at k = Row dataForm DataTyped dataLength (record { length = 0; bytes = [] }) frames bytes₀ at₀ bytes at k
+add-second : tie.Need-add-second
+add-second c = search needs
 
-abbrev μ-loop : tie.MeasureT-loop
-μ-loop bytes₀ place frames at₀ k₀ bytes at k = eachWay - k
+add-third : tie.Need-add-third
+add-third c = search needs
 
-loop-holds : tie.Need-loop-holds Inv-loop μ-loop
-loop-holds c = none-yet
+add-fourth : tie.Need-add-fourth
+add-fourth c = search needs
 
-mul-frame : tie.Need-mul-frame Inv-loop μ-loop
-mul-frame c = search needs
+array-copy-out-write-frame : tie.Need-array-copy-out-write-frame
+array-copy-out-write-frame c = search needs
 
-array-copy-out-frame : tie.Need-array-copy-out-frame Inv-loop μ-loop
-array-copy-out-frame c = search needs
-
-write-frame-requires : tie.Need-write-frame-requires Inv-loop μ-loop
+write-frame-requires : tie.Need-write-frame-requires
 write-frame-requires c κs = search needs
 
-add-at : tie.Need-add-at Inv-loop μ-loop
-add-at c = search needs
+array-copy-out-write-frame-2 : tie.Need-array-copy-out-write-frame-2
+array-copy-out-write-frame-2 c = search needs
 
-add-k : tie.Need-add-k Inv-loop μ-loop
-add-k c = search needs
+write-frame-requires-2 : tie.Need-write-frame-requires-2
+write-frame-requires-2 c κs = search needs
 
-loop-less : tie.Need-loop-less Inv-loop μ-loop
-loop-less c = search needs
+array-copy-out-write-frame-3 : tie.Need-array-copy-out-write-frame-3
+array-copy-out-write-frame-3 c = search needs
 
-loop-again : tie.Need-loop-again Inv-loop μ-loop
-loop-again c =
-    let few : length (c .before .before .before .before .before .before .before .before .args .t3) ≡ eachWay = search needs in
-    let w = c .before .before .write-frame .ensures in
-    one-more (c .before .before .before .before .before .before .loop .inv) (omega arith) (length-data _ (w .1)) (w .1) (w .0)
+write-frame-requires-3 : tie.Need-write-frame-requires-3
+write-frame-requires-3 c κs = search needs
 
-same-length : tie.Need-same-length Inv-loop μ-loop
-same-length c = c .before .loop .inv .kept
+array-copy-out-write-frame-4 : tie.Need-array-copy-out-write-frame-4
+array-copy-out-write-frame-4 c = search needs
 
-returns : tie.Need-returns Inv-loop μ-loop
+write-frame-requires-4 : tie.Need-write-frame-requires-4
+write-frame-requires-4 c κs = search needs
+
+same-length : tie.Need-same-length
+same-length c = search needs
+
+returns : tie.Need-returns
 returns c =
-    let l = c .before .loop in
-    let few : length (c .before .before .before .args .t3) ≡ eachWay = search needs in
-    (all-written (l .inv) (omega arith), record { size = few; every = all-hold (l .inv) (omega arith) })
+    let w4 = c .before .before in
+    let w3 = w4 .before .before .before .before .before in
+    let w2 = w3 .before .before .before .before .before in
+    let w1 = w2 .before .before .before .before .before in
+    let start = w1 .before .before .before .before in
+    let a = start .args in
+    frames-written (now (a .bytes)) (a .place) (a .t3) _ _ _ _ (start .good .1 .1 .0 .1 .0 .1) (w1 .write-frame .ensures) (w2 .write-frame2 .ensures) (w3 .write-frame3 .ensures) (w4 .write-frame4 .ensures)
 
 pub write-frames-spec : {M : Type 1} → statement M
 write-frames-spec =
     tie.close
     (tie.spec
-    Inv-loop
-    μ-loop
-    loop-holds
-    mul-frame
-    array-copy-out-frame
+    add-second
+    add-third
+    add-fourth
+    array-copy-out-write-frame
     write-frame-requires
-    add-at
-    add-k
-    loop-less
-    loop-again
+    array-copy-out-write-frame-2
+    write-frame-requires-2
+    array-copy-out-write-frame-3
+    write-frame-requires-3
+    array-copy-out-write-frame-4
+    write-frame-requires-4
     same-length
     returns)

@@ -4,11 +4,8 @@ use borrow.Author.Needs.{needs}
 use Rattle.nmt.proofs.commands.voltage_disabled.Statement.{statement}
 use Rattle.nmt.proofs.commands.voltage_disabled.Tie as tie
 
-next-requires : tie.Need-next-requires
-next-requires c κs = search needs
-
-enters-requires : tie.Need-enters-requires
-enters-requires c κs = search needs
+disabled-requires : tie.Need-disabled-requires
+disabled-requires c κs = search needs
 
 with-drive-requires : tie.Need-with-drive-requires
 with-drive-requires c κs = search needs
@@ -18,5 +15,4 @@ unfolding voltageDisabled
 returns c = cc
 
 pub voltage-disabled-spec : {M : Type 1} → statement M
-voltage-disabled-spec =
-    tie.close (tie.spec next-requires enters-requires with-drive-requires returns)
+voltage-disabled-spec = tie.close (tie.spec disabled-requires with-drive-requires returns)

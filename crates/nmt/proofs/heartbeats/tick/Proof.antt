@@ -7,19 +7,23 @@ use Rattle.nmt.proofs.heartbeats.tick.Tie as tie
 read2-requires : tie.Need-read2-requires
 read2-requires c κs = search needs
 
+parts-of-requires : tie.Need-parts-of-requires
+parts-of-requires c κs = search needs
+
 returns : tie.Need-returns
 returns c =
-    let a = c .before .before .before .before .before .args in
-    no-heartbeat (a .s) (a .d .now) (a .output .now) _ (c .before .before .read2 .ensures) (c .if1 .taken)
+    let period = c .before .before .before in
+    let a = period .before .before .before .args in
+    no-heartbeat (a .s) (a .d .now) (a .output .now) _ (period .read2 .ensures) _ (c .before .if1 .taken) (c .parts-of .ensures)
 
 sub-if2 : tie.Need-sub-if2
 sub-if2 c = search needs
 
-add-with-heartbeat : tie.Need-add-with-heartbeat
-add-with-heartbeat c = search needs
+add-counted : tie.Need-add-counted
+add-counted c = search needs
 
-with-heartbeat-requires : tie.Need-with-heartbeat-requires
-with-heartbeat-requires c κs = search needs
+counted-requires : tie.Need-counted-requires
+counted-requires c κs = search needs
 
 returns-2 : tie.Need-returns-2
 returns-2 c =
@@ -27,7 +31,7 @@ returns-2 c =
     let p = b .before .before in
     let period = p .before .before in
     let a = period .before .before .before .args in
-    counts-on (a .s) (a .d .now) (a .output .now) _ (period .read2 .ensures) _ (p .if1 .left) (b .if2 .taken) (c .with-heartbeat .ensures)
+    counts-on (a .s) (a .d .now) (a .output .now) _ (period .read2 .ensures) _ (p .if1 .left) (b .if2 .taken) (c .counted .ensures)
 
 state-byte-requires : tie.Need-state-byte-requires
 state-byte-requires c κs = search needs
@@ -35,8 +39,8 @@ state-byte-requires c κs = search needs
 send-byte-requires : tie.Need-send-byte-requires
 send-byte-requires c κs = search needs
 
-with-heartbeat-requires-2 : tie.Need-with-heartbeat-requires-2
-with-heartbeat-requires-2 c κs = search needs
+counted-requires-2 : tie.Need-counted-requires-2
+counted-requires-2 c κs = search needs
 
 same-length : tie.Need-same-length
 same-length c = search needs
@@ -48,20 +52,21 @@ returns-3 c =
     let p = b .before .before in
     let period = p .before .before in
     let a = period .before .before .before .args in
-    beats (a .s) (a .d .now) (a .output .now) _ (period .read2 .ensures) _ _ _ _ (p .if1 .left) (b .if2 .left) (sent .before .state-byte .ensures) (sent .send-byte .ensures) (c .with-heartbeat2 .ensures)
+    beats (a .s) (a .d .now) (a .output .now) _ (period .read2 .ensures) _ _ _ _ (p .if1 .left) (b .if2 .left) (sent .before .state-byte .ensures) (sent .send-byte .ensures) (c .counted2 .ensures)
 
 pub tick-spec : {M : Type 1} → statement M
 tick-spec =
     tie.close
     (tie.spec
     read2-requires
+    parts-of-requires
     returns
     sub-if2
-    add-with-heartbeat
-    with-heartbeat-requires
+    add-counted
+    counted-requires
     returns-2
     state-byte-requires
     send-byte-requires
-    with-heartbeat-requires-2
+    counted-requires-2
     same-length
     returns-3)

@@ -1,5 +1,5 @@
 -- `pdo::dropping::refused` meets its contract. Assumes nothing.
-use Rattle.pdo.proofs.Leaving.{did-send}
+use Rattle.pdo.proofs.Leaving.{did-say}
 use borrow.Author.Needs.{needs}
 use Rattle.pdo.proofs.dropping.refused.Statement.{statement}
 use Rattle.pdo.proofs.dropping.refused.Tie as tie
@@ -12,9 +12,8 @@ same-length c = search needs
 
 returns : tie.Need-returns
 returns c =
-    let e = c .before .before in
-    let a = e .before .before .before .before .args in
-    did-send (a .s) (a .n) (e .emergency .result) _ (a .d .now) (a .output .now) _ (e .emergency .ensures)
+    let a = c .before .before .before .before .before .before .before .args in
+    did-say (a .code) (a .parts) (a .n) _ (a .d .now) (a .output .now) _ (c .before .before .emergency .ensures)
 
 pub refused-spec : {M : Type 1} → statement M
 refused-spec = tie.close (tie.spec emergency-requires same-length returns)

@@ -1,8 +1,11 @@
 -- `pdo::receiving::hold_or_apply` meets its contract. Assumes nothing.
-use Rattle.effects.proofs.Laws.{as-effect}
-use Rattle.pdo.proofs.Leaving.{left-by}
-use Rattle.pdo.proofs.Frames.{short, held-now, applied-now}
 use native.Mathlib.Omega.{arith}
+use mathlib.Core.Path.{refl}
+use mathlib.Core.Bool.{true}
+use Rattle.effects.specs.Leaves.{bare}
+use Rattle.effects.proofs.Laws.{as-effect, left-as, loud}
+use Rattle.pdo.proofs.Leaving.{as-calm}
+use Rattle.pdo.proofs.Frames.{short, held-now, applied-now}
 use borrow.Author.Needs.{needs}
 use Rattle.pdo.proofs.receiving.hold_or_apply.Statement.{statement}
 use Rattle.pdo.proofs.receiving.hold_or_apply.Tie as tie
@@ -21,17 +24,14 @@ cast-leading c = search needs
 
 leading-requires : tie.Need-leading-requires
 leading-requires c κs =
-    let s = c .before .before .before .before .before .before .before .before .before in
-    short (s .pre .0) (s .pre .1 .0) (s .pre .1 .1 .1)
+    let s = c .before .before .before .before .before .before .before .before .before .before in
+    short (s .pre .0) (s .pre .1 .1)
 
 mul-held : tie.Need-mul-held
 mul-held c = search needs
 
 array-set-from-held : tie.Need-array-set-from-held
 array-set-from-held c = search needs
-
-with-held-requires : tie.Need-with-held-requires
-with-held-requires c κs = search needs
 
 same-length : tie.Need-same-length
 same-length c = search needs
@@ -41,8 +41,9 @@ returns c =
     let s = c .before .before .before .before .before .before .before .before .before .before .before in
     let a = s .args in
     let r = c .before .before .before .before .before .before .read1 in
-    as-effect (held-now (a .p) (a .s) (a .d .now) (a .content) (s .pre .1 .0) (r .result) (r .ensures) (c .before .before .before .before .before .if1 .taken) (c .before .leading .result) (c .before .leading .ensures .0) (omega (arith, c .before .leading .ensures .1, short (s .pre .0) (s .pre .1 .0) (s .pre .1 .1 .1))))
-    (left-by (a .n) (a .d .now) (a .output .now) (c .with-held .ensures))
+    let l = c .leading in
+    let is = held-now (a .p) (bare (a .parts)) (a .d .now) (a .content) (s .pre .0 .number) (r .result) (r .ensures) (c .before .before .before .before .before .if1 .taken) (l .result) (l .ensures .0) (omega (arith, l .ensures .1, short (s .pre .0) (s .pre .1 .1))) in
+    (as-effect is (left-as _ _ true (a .n) (a .d .now) (a .output .now) refl), (λ q. as-calm is (record { writes = refl; synced = refl; nmt = refl; voltage = refl; drive = refl })))
 
 apply-requires : tie.Need-apply-requires
 apply-requires c κs = search needs
@@ -58,7 +59,9 @@ returns-2 c =
     let s = c .before .before .before .before .before .before .before .before .before .before .before .before .before in
     let a = s .args in
     let r = c .before .before .before .before .before .before .before .before .read1 in
-    as-effect (applied-now (a .p) (a .s) (a .d .now) (a .content) (s .pre .1 .0) (r .result) (r .ensures) (c .before .before .before .before .before .before .before .if1 .left) (s .pre .1 .1 .1)) (c .before .before .before .before .apply .ensures)
+    let f = c .before .before .before .before .apply .ensures in
+    let is = applied-now (a .p) (bare (a .parts)) (a .d .now) (a .content) (s .pre .0 .number) (r .result) (r .ensures) (c .before .before .before .before .before .before .before .if1 .left) (s .pre .1 .1) in
+    (as-effect is (f .0 _ (s .pre .0 .receives)), loud (bare (a .parts)) _ (c .before .before .before .before .apply .result) (f .1))
 
 pub hold-or-apply-spec : {M : Type 1} → statement M
 hold-or-apply-spec =
@@ -71,7 +74,6 @@ hold-or-apply-spec =
     leading-requires
     mul-held
     array-set-from-held
-    with-held-requires
     same-length
     returns
     apply-requires

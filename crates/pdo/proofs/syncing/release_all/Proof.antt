@@ -1,64 +1,90 @@
 -- `pdo::syncing::release_all` meets its contract. Assumes nothing.
-use Prim.Native.Nat.{_-_, _≤_}
 use native.Mathlib.Omega.{arith}
-use mathlib.Core.Path.{_≡_, refl}
+use mathlib.Core.Path.{_∙_}
+use mathlib.Core.List.{[], _∷_}
+use Rattle.pdo.proofs.Releases.{serves-next, next-room, none-yet, one-more, no-more, and-then, all-done}
 use borrow.Author.Needs.{needs}
-use lib.ListN.{length}
-use Rattle.pdo.proofs.Releases.{Releasing, none-yet, one-more, all-done}
 use Rattle.pdo.proofs.syncing.release_all.Statement.{statement}
 use Rattle.pdo.proofs.syncing.release_all.Tie as tie
 
-abbrev Inv-loop : tie.InvT-loop
-Inv-loop d₀ output₀ done₀ p₀ d output done p =
-    Releasing (done₀ .state) d₀ output₀ p done d output × ((p ≤ 4) × ((length d ≡ length d₀) × (length output ≡ length output₀)))
+parts-of-requires : tie.Need-parts-of-requires
+parts-of-requires c κs = search needs
 
-abbrev μ-loop : tie.MeasureT-loop
-μ-loop d₀ output₀ done₀ p₀ d output done p = 4 - p
+array-copy-out-release : tie.Need-array-copy-out-release
+array-copy-out-release c = search needs
 
-loop-holds : tie.Need-loop-holds Inv-loop μ-loop
-loop-holds c = (none-yet (c .before .before .pre), (omega arith, (refl, refl)))
-
-release-requires : tie.Need-release-requires Inv-loop μ-loop
+release-requires : tie.Need-release-requires
 release-requires c κs =
-    let l = c .before .before .before .loop in
-    let t = c .before .before .loop-test .taken in
-    (l .inv .0 .kept, (t, omega (arith, l .inv .0 .few)))
+    let s = c .before .before .before .before .before .before .before .before in
+    serves-next 0 (omega arith) (omega arith) (none-yet (c .before .before .before .parts-of .ensures) (s .pre))
 
-add-p : tie.Need-add-p Inv-loop μ-loop
-add-p c = omega arith
+array-copy-out-release-2 : tie.Need-array-copy-out-release-2
+array-copy-out-release-2 c = search needs
 
-loop-less : tie.Need-loop-less Inv-loop μ-loop
-loop-less c = omega arith
+release-requires-2 : tie.Need-release-requires-2
+release-requires-2 c κs =
+    let s = c .before .before .before .before .before .before .before .before .before .before .before .before .before .before .before .before in
+    let g = none-yet (c .before .before .before .before .before .before .before .before .before .before .before .parts-of .ensures) (s .pre) in
+    let f = c .before .before .before .before .before .before .before .release in
+    serves-next 1 (omega arith) (omega arith) (one-more (omega arith) g (f .ensures) (f .kept .1 .1 .1 .0))
 
-loop-again : tie.Need-loop-again Inv-loop μ-loop
-loop-again c =
-    let l = c .before .before .before .before .before .before .before .before .loop in
-    let t = c .before .before .before .before .before .before .before .loop-test .taken in
-    let f = c .before .before .before .before .release in
-    (one-more t (l .inv .0) (f .ensures) (search needs), (omega arith, (search needs, search needs)))
+array-copy-out-release-3 : tie.Need-array-copy-out-release-3
+array-copy-out-release-3 c = search needs
 
-same-length : tie.Need-same-length Inv-loop μ-loop
-same-length c = c .before .loop .inv .1 .1 .0
+release-requires-3 : tie.Need-release-requires-3
+release-requires-3 c κs =
+    let s = c .before .before .before .before .before .before .before .before .before .before .before .before .before .before .before .before .before .before .before .before .before .before .before .before in
+    let g = none-yet (c .before .before .before .before .before .before .before .before .before .before .before .before .before .before .before .before .before .before .before .parts-of .ensures) (s .pre) in
+    let f = c .before .before .before .before .before .before .before .before .before .before .before .before .before .before .before .release in
+    let h = c .before .before .before .before .before .before .before .release2 in
+    serves-next 2 (omega arith) (omega arith) (one-more (omega arith) (one-more (omega arith) g (f .ensures) (f .kept .1 .1 .1 .0)) (h .ensures) (h .kept .1 .1 .1 .0))
 
-same-length-2 : tie.Need-same-length-2 Inv-loop μ-loop
-same-length-2 c = c .before .loop .inv .1 .1 .1
+array-copy-out-release-4 : tie.Need-array-copy-out-release-4
+array-copy-out-release-4 c = search needs
 
-returns : tie.Need-returns Inv-loop μ-loop
+release-requires-4 : tie.Need-release-requires-4
+release-requires-4 c κs =
+    let s = c .before .before .before .before .before .before .before .before .before .before .before .before .before .before .before .before .before .before .before .before .before .before .before .before .before .before .before .before .before .before .before .before in
+    let g = none-yet (c .before .before .before .before .before .before .before .before .before .before .before .before .before .before .before .before .before .before .before .before .before .before .before .before .before .before .before .parts-of .ensures) (s .pre) in
+    let f = c .before .before .before .before .before .before .before .before .before .before .before .before .before .before .before .before .before .before .before .before .before .before .before .release in
+    let h = c .before .before .before .before .before .before .before .before .before .before .before .before .before .before .before .release2 in
+    let k = c .before .before .before .before .before .before .before .release3 in
+    serves-next 3 (omega arith) (omega arith)
+    (one-more (omega arith) (one-more (omega arith) (one-more (omega arith) g (f .ensures) (f .kept .1 .1 .1 .0)) (h .ensures) (h .kept .1 .1 .1 .0)) (k .ensures) (k .kept .1 .1 .1 .0))
+
+same-length : tie.Need-same-length
+same-length c = c .before .before .before .before .release4 .kept .1 .1 .0 ∙ c .before .before .before .before .before .before .before .before .before .before .before .before .release3 .kept .1 .1 .0 ∙ c .before .before .before .before .before .before .before .before .before .before .before .before .before .before .before .before .before .before .before .before .release2 .kept .1 .1 .0 ∙ c .before .before .before .before .before .before .before .before .before .before .before .before .before .before .before .before .before .before .before .before .before .before .before .before .before .before .before .before .release .kept .1 .1 .0
+
+same-length-2 : tie.Need-same-length-2
+same-length-2 c = c .before .before .before .before .release4 .kept .1 .1 .1 .0 ∙ c .before .before .before .before .before .before .before .before .before .before .before .before .release3 .kept .1 .1 .1 .0 ∙ c .before .before .before .before .before .before .before .before .before .before .before .before .before .before .before .before .before .before .before .before .release2 .kept .1 .1 .1 .0 ∙ c .before .before .before .before .before .before .before .before .before .before .before .before .before .before .before .before .before .before .before .before .before .before .before .before .before .before .before .before .release .kept .1 .1 .1 .0
+
+returns : tie.Need-returns
 returns c =
-    let l = c .before .loop in
-    all-done (omega arith) (l .inv .0)
+    let s = c .before .before .before .before .before .before .before .before .before .before .before .before .before .before .before .before .before .before .before .before .before .before .before .before .before .before .before .before .before .before .before .before .before .before .before .before .before in
+    let p = c .before .before .before .before .before .before .before .before .before .before .before .before .before .before .before .before .before .before .before .before .before .before .before .before .before .before .before .before .before .before .before .before .parts-of .ensures in
+    let f = c .before .before .before .before .before .before .before .before .before .before .before .before .before .before .before .before .before .before .before .before .before .before .before .before .before .before .before .before .release in
+    let h = c .before .before .before .before .before .before .before .before .before .before .before .before .before .before .before .before .before .before .before .before .release2 in
+    let k = c .before .before .before .before .before .before .before .before .before .before .before .before .release3 in
+    let l = c .before .before .before .before .release4 in
+    let g₁ = one-more (omega arith) (none-yet p (s .pre)) (f .ensures) (f .kept .1 .1 .1 .0) in
+    let g₂ = one-more (omega arith) g₁ (h .ensures) (h .kept .1 .1 .1 .0) in
+    let g₃ = one-more (omega arith) g₂ (k .ensures) (k .kept .1 .1 .1 .0) in
+    all-done (s .args .s) p
+    (and-then 0 (1 ∷ 2 ∷ 3 ∷ []) (f .ensures) (and-then 1 (2 ∷ 3 ∷ []) (h .ensures) (and-then 2 (3 ∷ []) (k .ensures) (and-then 3 [] (l .ensures) (no-more _ _ _) (next-room (omega arith) g₃)) (next-room (omega arith) g₂)) (next-room (omega arith) g₁)) (omega arith))
 
 pub release-all-spec : {M : Type 1} → statement M
 release-all-spec =
     tie.close
     (tie.spec
-    Inv-loop
-    μ-loop
-    loop-holds
+    parts-of-requires
+    array-copy-out-release
     release-requires
-    add-p
-    loop-less
-    loop-again
+    array-copy-out-release-2
+    release-requires-2
+    array-copy-out-release-3
+    release-requires-3
+    array-copy-out-release-4
+    release-requires-4
     same-length
     same-length-2
     returns)

@@ -1,8 +1,9 @@
 -- `pdo::syncing::sync` meets its contract. Assumes nothing.
 use mathlib.Core.Path.{ap}
 use Rattle.rules_services.specs.Effects.{isStopped}
-use Rattle.effects.proofs.Laws.{as-effect}
-use Rattle.pdo.proofs.Leaving.{left-idle}
+use Rattle.rules_services.specs.Emergency.{syncLength}
+use Rattle.effects.proofs.Laws.{as-effect, loud}
+use Rattle.pdo.proofs.Leaving.{idle-state, said-state}
 use Rattle.pdo.proofs.Releases.{sync-stopped, sync-with-data, sync-idle, sync-releases}
 use borrow.Author.Needs.{needs}
 use Rattle.pdo.proofs.syncing.sync.Statement.{statement}
@@ -20,8 +21,13 @@ enum-told-2 c = search needs
 idle-requires-2 : tie.Need-idle-requires-2
 idle-requires-2 c κs = search needs
 
+parts-of-requires : tie.Need-parts-of-requires
+parts-of-requires c κs = search needs
+
 refused-requires : tie.Need-refused-requires
-refused-requires c κs = search needs
+refused-requires c κs =
+    let s = c .before .before .before .before .before .before .before .before .before in
+    (s .pre .long, (s .pre .room, (search needs, rw (c .before .before .parts-of .ensures) (s .pre .id))))
 
 enum-told-3 : tie.Need-enum-told-3
 enum-told-3 c = search needs
@@ -29,18 +35,23 @@ enum-told-3 c = search needs
 release-all-requires : tie.Need-release-all-requires
 release-all-requires c κs = search needs
 
+parts-of-requires-2 : tie.Need-parts-of-requires-2
+parts-of-requires-2 c κs = search needs
+
 refused-requires-2 : tie.Need-refused-requires-2
-refused-requires-2 c κs = search needs
+refused-requires-2 c κs =
+    let s = c .before .before .before .before .before .before .before .before .before in
+    (s .pre .long, (s .pre .room, (search needs, rw (c .before .before .parts-of2 .ensures) (s .pre .id))))
 
 returns : tie.Need-returns
 returns c =
     let a = c .before .before .before .before .before .before .args in
-    as-effect (sync-stopped (a .length) (a .s) (a .d .now) (c .before .enum-told .given .1)) (left-idle (a .d .now) (a .output .now) (c .idle .ensures))
+    idle-state (a .s) (a .d .now) (a .output .now) (sync-stopped (a .length) (a .s) (a .d .now) (c .before .enum-told .given .1)) (c .idle .ensures)
 
 returns-2 : tie.Need-returns-2
 returns-2 c =
     let a = c .before .before .before .before .before .before .before .args in
-    as-effect (sync-idle (a .length) (a .s) (a .d .now) (c .before .before .enum-told2 .given .1) (c .before .if1 .taken)) (left-idle (a .d .now) (a .output .now) (c .idle2 .ensures))
+    idle-state (a .s) (a .d .now) (a .output .now) (sync-idle (a .length) (a .s) (a .d .now) (c .before .before .enum-told2 .given .1) (c .before .if1 .taken)) (c .idle2 .ensures)
 
 same-length : tie.Need-same-length
 same-length c = search needs
@@ -50,8 +61,8 @@ same-length-2 c = search needs
 
 returns-3 : tie.Need-returns-3
 returns-3 c =
-    let a = c .before .before .before .before .before .before .before .before .before .before .before .args in
-    as-effect (sync-with-data (a .length) (a .s) (a .d .now) (ap isStopped (c .before .before .before .before .before .before .enum-told2 .given .1)) (c .before .before .before .before .before .if1 .left)) (c .before .before .refused .ensures)
+    let a = c .before .before .before .before .before .before .before .before .before .before .before .before .args in
+    said-state syncLength (a .s) (a .d .now) (a .output .now) (c .before .before .before .before .before .parts-of .ensures) (sync-with-data (a .length) (a .s) (a .d .now) (ap isStopped (c .before .before .before .before .before .before .before .enum-told2 .given .1)) (c .before .before .before .before .before .before .if1 .left)) (c .before .before .refused .ensures)
 
 same-length-3 : tie.Need-same-length-3
 same-length-3 c = search needs
@@ -62,7 +73,8 @@ same-length-4 c = search needs
 returns-4 : tie.Need-returns-4
 returns-4 c =
     let a = c .before .before .before .before .before .before .before .before .before .before .before .before .before .args in
-    as-effect (sync-releases (a .length) (a .s) (a .d .now) (c .before .before .before .before .before .before .before .before .enum-told3 .given .1) (c .before .before .before .before .before .before .before .if2 .taken)) (c .before .before .before .before .release-all .ensures)
+    let f = c .before .before .before .before .release-all .ensures in
+    (as-effect (sync-releases (a .length) (a .s) (a .d .now) (c .before .before .before .before .before .before .before .before .enum-told3 .given .1) (c .before .before .before .before .before .before .before .if2 .taken)) (f .0), loud (a .s) _ (c .before .before .before .before .release-all .result) (f .1))
 
 same-length-5 : tie.Need-same-length-5
 same-length-5 c = search needs
@@ -72,8 +84,8 @@ same-length-6 c = search needs
 
 returns-5 : tie.Need-returns-5
 returns-5 c =
-    let a = c .before .before .before .before .before .before .before .before .before .before .before .args in
-    as-effect (sync-with-data (a .length) (a .s) (a .d .now) (ap isStopped (c .before .before .before .before .before .before .enum-told3 .given .1)) (c .before .before .before .before .before .if2 .left)) (c .before .before .refused2 .ensures)
+    let a = c .before .before .before .before .before .before .before .before .before .before .before .before .args in
+    said-state syncLength (a .s) (a .d .now) (a .output .now) (c .before .before .before .before .before .parts-of2 .ensures) (sync-with-data (a .length) (a .s) (a .d .now) (ap isStopped (c .before .before .before .before .before .before .before .enum-told3 .given .1)) (c .before .before .before .before .before .before .if2 .left)) (c .before .before .refused2 .ensures)
 
 pub sync-spec : {M : Type 1} → statement M
 sync-spec =
@@ -83,9 +95,11 @@ sync-spec =
     idle-requires
     enum-told-2
     idle-requires-2
+    parts-of-requires
     refused-requires
     enum-told-3
     release-all-requires
+    parts-of-requires-2
     refused-requires-2
     returns
     returns-2

@@ -1,12 +1,12 @@
 -- `sdo::downloads::act` meets its contract. Assumes nothing.
-use mathlib.Core.Path.{ap}
+use mathlib.Core.Path.{sym, ap}
 use borrow.Author.Needs.{needs}
 use Rattle.state.specs.declared.State.{State}
+use Rattle.effects.specs.Leaves.{bare}
 use Rattle.effects.specs.Acts.{acts}
 use Rattle.effects.proofs.Laws.{as-effect}
 use Rattle.rules_dictionary.specs.Table.{controlWord, mode}
 use lib.Dec.{eqb}
-use mathlib.Core.Path.{sym}
 use Rattle.sdo.proofs.Acting.{restarted-id}
 use Rattle.sdo.proofs.downloads.act.Statement.{statement}
 use Rattle.sdo.proofs.downloads.act.Tie as tie
@@ -18,7 +18,7 @@ acted-requires : tie.Need-acted-requires
 acted-requires c κs =
     let k = c .before .before in
     let s = k .before .before .before in
-    (search needs, (search needs, (search needs, restarted-id (s .args .place) (s .args .s) _ (k .restarted .ensures) (s .pre .1 .1))))
+    (search needs, (search needs, (search needs, restarted-id (s .args .place) (bare (s .args .parts)) (bare _) (k .restarted .ensures) (s .pre .1 .1))))
 
 same-length : tie.Need-same-length
 same-length c = search needs
@@ -31,7 +31,8 @@ returns c =
     let k = c .before .before .before .before in
     let r = k .before .before .before in
     let a = r .before .before .before .args in
-    as-effect (ap (λ (s : State). acts (a .old) (eqb (a .place) (mode .place)) (eqb (a .place) (controlWord .place)) s (a .d .now)) (sym (r .restarted .ensures))) (k .acted .ensures)
+    let f = k .acted .ensures in
+    (as-effect (ap (λ (s : State). acts (a .old) (eqb (a .place) (mode .place)) (eqb (a .place) (controlWord .place)) s (a .d .now)) (sym (r .restarted .ensures))) (f .0), f .1)
 
 pub act-spec : {M : Type 1} → statement M
 act-spec = tie.close (tie.spec restarted-requires acted-requires same-length same-length-2 returns)

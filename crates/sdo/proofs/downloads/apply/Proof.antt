@@ -1,8 +1,9 @@
 -- `sdo::downloads::apply` meets its contract. Assumes nothing.
 use native.Mathlib.Omega.{arith}
-use Rattle.sdo.proofs.Answering.{array-bytes}
+use mathlib.Core.Path.{refl}
+use Rattle.effects.specs.Leaves.{bare}
 use Rattle.sdo.proofs.Testing.{four-at-most}
-use Rattle.sdo.proofs.Asking.{replan-legal, replan-served, act-served, id-fits}
+use Rattle.sdo.proofs.Asking.{remap-served, act-served}
 use borrow.Author.Needs.{needs}
 use Rattle.sdo.proofs.downloads.apply.Statement.{statement}
 use Rattle.sdo.proofs.downloads.apply.Tie as tie
@@ -27,22 +28,8 @@ reply-requires c κs = search needs
 write-requires : tie.Need-write-requires
 write-requires c κs = search needs
 
-mapping-of-requires : tie.Need-mapping-of-requires
-mapping-of-requires c κs = search needs
-
-cast-replan : tie.Need-cast-replan
-cast-replan c = search needs
-
-replan-requires : tie.Need-replan-requires
-replan-requires c κs =
-    let m = c .before .before in
-    let w = m .before .before .before in
-    let y = w .before .before .before .before in
-    let q = y .before .before in
-    let v = q .before .before in
-    let s = v .before .before .before .before .before in
-    let a = s .args in
-    (search needs, (search needs, replan-legal (a .t1) (a .s) (a .d .now) (a .output .now) (s .pre .0) (a .e) (s .pre .1 .0) (array-bytes (a .t1) _ (s .good .0 .1 .1)) (s .pre .1 .1) _ (v .read .ensures) _ _ (w .write .ensures) (y .reply .ensures .1) _ (m .mapping-of .ensures) (c .before .if1 .taken)))
+is-mapping-requires : tie.Need-is-mapping-requires
+is-mapping-requires c κs = search needs
 
 same-length : tie.Need-same-length
 same-length c = search needs
@@ -52,25 +39,17 @@ same-length-2 c = search needs
 
 returns : tie.Need-returns
 returns c =
-    let m = c .before .before .before in
+    let m = c .before in
     let w = m .before .before .before in
     let y = w .before .before .before .before in
     let q = y .before .before in
     let v = q .before .before in
     let s = v .before .before .before .before .before in
     let a = s .args in
-    replan-served (a .t1) (a .s) (a .d .now) (a .output .now) (s .pre .0) (a .e) (s .pre .1 .0) (array-bytes (a .t1) _ (s .good .0 .1 .1)) (s .pre .1 .1) _ (v .read .ensures) _ _ (w .write .ensures) (y .reply .ensures .1) _ (m .mapping-of .ensures) (c .before .before .if1 .taken) _ (c .replan .ensures)
+    remap-served (a .t1) (bare (a .parts)) (a .d .now) (a .output .now) (a .e) (s .pre .1 .0) (s .pre .1 .1) _ (v .read .ensures) _ _ (w .write .ensures) (y .reply .ensures .1) _ (m .is-mapping .ensures) (c .if1 .taken) _ (rw (y .reply .ensures .0) refl)
 
 act-requires : tie.Need-act-requires
-act-requires c κs =
-    let m = c .before .before .before in
-    let w = m .before .before .before in
-    let y = w .before .before .before .before in
-    let q = y .before .before in
-    let v = q .before .before in
-    let s = v .before .before .before .before .before in
-    let a = s .args in
-    (search needs, (search needs, id-fits (a .s) (a .d .now) (a .output .now) (s .pre .0)))
+act-requires c κs = search needs
 
 same-length-3 : tie.Need-same-length-3
 same-length-3 c = search needs
@@ -89,7 +68,7 @@ returns-2 c =
     let v = q .before .before in
     let s = v .before .before .before .before .before in
     let a = s .args in
-    act-served (a .t1) (a .s) (a .d .now) (a .output .now) (s .pre .0) (a .e) (s .pre .1 .0) (array-bytes (a .t1) _ (s .good .0 .1 .1)) (s .pre .1 .1) _ (v .read .ensures) _ _ (w .write .ensures) (y .reply .ensures .1) _ (m .mapping-of .ensures) (i .if1 .left) _ (q .read2 .ensures) _ _ _ (k .act .ensures)
+    act-served (a .t1) (bare (a .parts)) (a .d .now) (a .output .now) (a .e) (s .pre .1 .0) (s .pre .1 .1) _ (v .read .ensures) _ _ (w .write .ensures) (y .reply .ensures .1) _ (m .is-mapping .ensures) (i .if1 .left) _ (q .read2 .ensures) _ _ _ (k .act .ensures)
 
 pub apply-spec : {M : Type 1} → statement M
 apply-spec =
@@ -101,9 +80,7 @@ apply-spec =
     read2-requires
     reply-requires
     write-requires
-    mapping-of-requires
-    cast-replan
-    replan-requires
+    is-mapping-requires
     same-length
     same-length-2
     returns

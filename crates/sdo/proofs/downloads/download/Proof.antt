@@ -1,5 +1,6 @@
 -- `sdo::downloads::download` meets its contract. Assumes nothing.
 use Rattle.sdo.proofs.Asking.{refused-served, passed, pdo-fits}
+use Rattle.effects.specs.Leaves.{bare}
 use Rattle.sdo.specs.Requests.{downloadVerdictOf}
 use borrow.Author.Needs.{needs}
 use Rattle.sdo.proofs.downloads.download.Statement.{statement}
@@ -25,14 +26,14 @@ returns c =
     let i = k .before .before in
     let s = i .before .before .before .before .before .before in
     let a = s .args in
-    refused-served (a .request) (a .s) (a .d .now) (a .output .now) (s .pre .0) (a .e) (s .pre .1) _ (i .before .download-verdict .ensures) (i .if1 .taken) _ _ (k .answer .ensures)
+    refused-served (a .request) (bare (a .parts)) (a .d .now) (a .output .now) (a .e) (s .pre .1) _ (i .before .download-verdict .ensures) (i .if1 .taken) _ _ (k .answer .ensures)
 
 apply-requires : tie.Need-apply-requires
 apply-requires c κs =
     let i = c .before .before in
     let s = i .before .before .before .before .before .before in
     let a = s .args in
-    (s .pre .0, (s .pre .1, passed (downloadVerdictOf (a .request) (a .s .node .nmt) (a .d .now) (a .e)) _ (i .before .download-verdict .ensures) (i .if1 .left)))
+    (s .pre .0, (s .pre .1, passed (downloadVerdictOf (a .request) (a .parts .node .nmt) (a .d .now) (a .e)) _ (i .before .download-verdict .ensures) (i .if1 .left)))
 
 same-length-3 : tie.Need-same-length-3
 same-length-3 c = search needs

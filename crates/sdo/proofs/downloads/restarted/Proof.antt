@@ -1,17 +1,13 @@
 -- `sdo::downloads::restarted` meets its contract. Assumes nothing.
-use borrow.Author.Needs.{needs}
 use borrow.Author.Tests.{eq-eqb, ne-eqb}
 use Rattle.sdo.proofs.downloads.restarted.Statement.{statement}
 use Rattle.sdo.proofs.downloads.restarted.Tie as tie
 
-with-heartbeat-requires : tie.Need-with-heartbeat-requires
-with-heartbeat-requires c κs = search needs
-
 returns : tie.Need-returns
-returns c = rw (eq-eqb _ _ (c .before .if1 .taken)) (c .with-heartbeat .ensures)
+returns c = rw (eq-eqb _ _ (c .before .if1 .taken))
 
 returns-2 : tie.Need-returns-2
 returns-2 c = rw (ne-eqb _ _ (c .if1 .left))
 
 pub restarted-spec : {M : Type 1} → statement M
-restarted-spec = tie.close (tie.spec with-heartbeat-requires returns returns-2)
+restarted-spec = tie.close (tie.spec returns returns-2)

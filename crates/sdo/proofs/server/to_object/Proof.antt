@@ -6,6 +6,7 @@ use Rattle.rules_dictionary.specs.Aborts.{noObject, noSubindex}
 use Rattle.rules_services.specs.Sdo.{askedIndex, askedSubindex}
 use Rattle.dictionary.specs.Entries.{foundOf}
 use Rattle.dictionary.proofs.Stands.{stands, no-object, no-subindex}
+use Rattle.effects.specs.Leaves.{bare}
 use Rattle.sdo.proofs.Asking.{aborted-by, no-object-asked, no-subindex-asked}
 use borrow.Author.Needs.{needs}
 use Rattle.sdo.proofs.server.to_object.Statement.{statement}
@@ -66,7 +67,7 @@ returns-2 c =
     let s = f .before .before .before .before .before in
     let a = s .args in
     let none = no-object (askedIndex (a .t2)) (askedSubindex (a .t2)) (sym (g .enum-told .given .1) ∙ (f .find .ensures ∙ ap (λ (i : ℕ). foundOf (lookup i (askedSubindex (a .t2)))) (f .before .read2 .ensures))) in
-    aborted-by (a .t2) (a .s) (a .d .now) (a .output .now) (s .pre) _ _ noObject _ (no-object-asked (a .t2) (a .s) (a .d .now) (a .writing) none) (k .answer .ensures)
+    aborted-by (a .t2) (bare (a .parts)) (a .d .now) (a .output .now) _ _ noObject _ (no-object-asked (a .t2) (bare (a .parts)) (a .d .now) (a .writing) none) (k .answer .ensures)
 
 same-length-4 : tie.Need-same-length-4
 same-length-4 c = search needs
@@ -79,7 +80,7 @@ returns-3 c =
     let s = f .before .before .before .before .before in
     let a = s .args in
     let none = no-subindex (askedIndex (a .t2)) (askedSubindex (a .t2)) (sym (g .enum-told2 .given .1) ∙ (f .find .ensures ∙ ap (λ (i : ℕ). foundOf (lookup i (askedSubindex (a .t2)))) (f .before .read2 .ensures))) in
-    aborted-by (a .t2) (a .s) (a .d .now) (a .output .now) (s .pre) _ _ noSubindex _ (no-subindex-asked (a .t2) (a .s) (a .d .now) (a .writing) none) (k .answer2 .ensures)
+    aborted-by (a .t2) (bare (a .parts)) (a .d .now) (a .output .now) _ _ noSubindex _ (no-subindex-asked (a .t2) (bare (a .parts)) (a .d .now) (a .writing) none) (k .answer2 .ensures)
 
 pub to-object-spec : {M : Type 1} → statement M
 to-object-spec =

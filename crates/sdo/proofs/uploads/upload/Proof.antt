@@ -1,4 +1,5 @@
 -- `sdo::uploads::upload` meets its contract. Assumes nothing.
+use Rattle.effects.specs.Leaves.{bare}
 use Rattle.sdo.proofs.Asking.{upload-served}
 use borrow.Author.Needs.{needs}
 use Rattle.sdo.proofs.uploads.upload.Statement.{statement}
@@ -25,7 +26,7 @@ returns c =
     let u = k .before .before in
     let s = u .before .before .before .before .before in
     let a = s .args in
-    upload-served (a .request) (a .s) (a .d .now) (a .output .now) (s .pre .0) _ _ (a .e) (s .pre .1) _ _ (u .before .read .ensures) (u .uploaded .ensures) (k .answer .ensures)
+    upload-served (a .request) (bare (a .parts)) (a .d .now) (a .output .now) _ _ (a .e) (s .pre .1) _ _ (u .before .read .ensures) (u .uploaded .ensures) (k .answer .ensures)
 
 pub upload-spec : {M : Type 1} → statement M
 upload-spec =

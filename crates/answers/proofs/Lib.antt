@@ -1,0 +1,4 @@
+pub mod Legal
+pub mod Calm
+pub mod Concluding
+pub mod Ends

@@ -1,0 +1,51 @@
+-- `answers::finishing::finish` meets its contract. Assumes nothing.
+use mathlib.Core.Path.{sym, subst}
+use Rattle.answers.specs.declared.Brief.{Brief}
+use Rattle.answers.specs.Leaving.{Stepped}
+use Rattle.answers.proofs.Ends.{rests, may-renew}
+use borrow.Author.Needs.{needs}
+use Rattle.answers.proofs.finishing.finish.Statement.{statement}
+use Rattle.answers.proofs.finishing.finish.Tie as tie
+
+rest-requires : tie.Need-rest-requires
+rest-requires c κs = search needs
+
+returns : tie.Need-returns
+returns c =
+    let h = c .before .before .before .before in
+    subst (λ (b : Brief). Stepped (h .args .s) (h .args .done) (h .args .d .now) (h .args .output .now) b (h .args .d .now) (h .args .output .now)) (sym (c .rest .ensures)) (rests (h .args .s) (h .args .done) (h .args .d .now) (h .args .output .now) (h .pre .still (c .before .if1 .taken)))
+
+anew-requires : tie.Need-anew-requires
+anew-requires c κs = may-renew (c .before .before .before .before .before .pre) (c .before .if2 .taken)
+
+same-length : tie.Need-same-length
+same-length c = search needs
+
+returns-2 : tie.Need-returns-2
+returns-2 c = c .before .before .anew .ensures _ _
+
+end-call-requires : tie.Need-end-call-requires
+end-call-requires c κs = search needs
+
+same-length-2 : tie.Need-same-length-2
+same-length-2 c = search needs
+
+same-length-3 : tie.Need-same-length-3
+same-length-3 c = search needs
+
+returns-3 : tie.Need-returns-3
+returns-3 c = search needs
+
+pub finish-spec : {M : Type 1} → statement M
+finish-spec =
+    tie.close
+    (tie.spec
+    rest-requires
+    returns
+    anew-requires
+    same-length
+    returns-2
+    end-call-requires
+    same-length-2
+    same-length-3
+    returns-3)

@@ -1,0 +1,93 @@
+// An answer in brief and whole: the plans, most of a state's bytes, change only where a mapping is written.
+ghost use mathlib.Core.Path.{_≡_};
+ghost use mathlib.Core.Bool.{true, cond};
+ghost use Prim.Native.Nat.{_≤_};
+ghost use lib.ListN.{length};
+ghost use Rattle.rules_dictionary.specs.Table.{dictionaryLength};
+ghost use Rattle.rules_dictionary.specs.Plans.{plansOf};
+ghost use Rattle.answers.specs.Briefs.{refusal, whole, GivesPlans};
+use crate::Brief;
+use effects::parts_of;
+use plans::plan_of;
+use rules_dictionary::Plan;
+use state::Answer;
+use state::Axis;
+use state::Refusal;
+use state::State;
+
+// A refused call: no frames, and the state that was given.
+pub fn refuse(why: Refusal, s: State) -> Brief
+    ensures { λ r. ⌜ r ≡ refusal why s ⌝ }
+{
+    let axis = s.axis;
+    let ready = axis.ready;
+    let counts = axis.counts;
+    let due = axis.due;
+    Brief {
+        refusal: why,
+        frames: 0,
+        parts: parts_of(s),
+        ready: ready,
+        counts: counts,
+        due: due,
+        remapped: false,
+    }
+}
+
+// The plans of all eight PDOs, worked afresh.
+pub fn all_plans(d: &[u8]) -> [Plan; 8]
+    requires { ⌜ GivesPlans (now d) ⌝ }
+    ensures { λ r. ⌜ r ≡ plansOf (now (d .entry)) ⌝ }
+{
+    [
+        plan_of(d, 0),
+        plan_of(d, 1),
+        plan_of(d, 2),
+        plan_of(d, 3),
+        plan_of(d, 4),
+        plan_of(d, 5),
+        plan_of(d, 6),
+        plan_of(d, 7),
+    ]
+}
+
+// The plans after a call: those of before it, or worked afresh where a mapping was written.
+fn plans_after(kept: [Plan; 8], remapped: bool, d: &[u8]) -> [Plan; 8]
+    requires { ⌜ (remapped ≡ true → GivesPlans (now d)) ⌝ }
+    ensures { λ r. ⌜ r ≡ cond remapped (plansOf (now (d .entry))) kept ⌝ }
+{
+    if remapped { all_plans(d) } else { kept }
+}
+
+// The whole answer of a call that started in s and left that dictionary.
+pub fn with_plans(s: State, b: Brief, d: &[u8]) -> Answer
+    requires { ⌜ (b .remapped ≡ true → GivesPlans (now d)) ⌝ }
+    ensures { λ r. ⌜ r ≡ whole s (now (d .entry)) b ⌝ }
+{
+    let axis = s.axis;
+    let kept = axis.plans;
+    let plans = plans_after(kept, b.remapped, d);
+    let refusal = b.refusal;
+    let parts = b.parts;
+    let node = parts.node;
+    let drive = parts.drive;
+    let held = parts.held;
+    let ready = b.ready;
+    let counts = b.counts;
+    let due = b.due;
+    Answer {
+        refusal: refusal,
+        frames: b.frames,
+        state: State {
+            node: node,
+            axis: Axis {
+                drive: drive,
+                plans: plans,
+                ready: ready,
+                held: held,
+                counts: counts,
+                due: due,
+            },
+        },
+    }
+}

@@ -1,0 +1,155 @@
+-- `calls::brief_event` meets its contract. Assumes nothing.
+use native.Mathlib.Omega.{arith}
+use mathlib.Core.Path.{sym, _∙_, subst}
+use borrow.Author.Tests.{not-true, not-false}
+use Rattle.rules.specs.Calls.{eventCall, answered}
+use Rattle.events.proofs.Laws.{refused-bad, refused-out, does-it}
+use Rattle.theorems.proofs.Runs.{ToldFits, arguments-fit}
+use Rattle.plans.proofs.Assembly.{are-bytes}
+use Rattle.calls.proofs.Refusals.{no-dictionary, no-room, decides, decides-not, unsound-event, told-event}
+use Rattle.calls.proofs.Briefly.{refused-gives, taken-gives}
+use borrow.Author.Needs.{needs}
+use Rattle.calls.proofs.brief_event.Statement.{statement}
+use Rattle.calls.proofs.brief_event.Tie as tie
+
+refuse-requires : tie.Need-refuse-requires
+refuse-requires c κs = search needs
+
+returns : tie.Need-returns
+returns c =
+    let a = c .before .before .before .before .before .args in
+    refused-gives (c .refuse .ensures) (no-dictionary (eventCall (a .number) (a .arguments .now)) (a .s) (a .d .now) (a .output .now) (c .before .if1 .taken))
+
+refuse-requires-2 : tie.Need-refuse-requires-2
+refuse-requires-2 c κs = search needs
+
+returns-2 : tie.Need-returns-2
+returns-2 c =
+    let a = c .before .before .before .before .before .before .args in
+    refused-gives (c .refuse2 .ensures) (no-room (eventCall (a .number) (a .arguments .now)) (a .s) (a .d .now) (a .output .now) (c .before .before .if1 .left) (c .before .if2 .taken))
+
+is-sound-requires : tie.Need-is-sound-requires
+is-sound-requires c κs = search needs
+
+refuse-requires-3 : tie.Need-refuse-requires-3
+refuse-requires-3 c κs = search needs
+
+same-length : tie.Need-same-length
+same-length c = search needs
+
+returns-3 : tie.Need-returns-3
+returns-3 c =
+    let t = c .before .before in
+    let e = t .before .before in
+    let a = e .before .before .before .before .before .args in
+    refused-gives (c .refuse3 .ensures)
+    (decides-not (eventCall (a .number) (a .arguments .now)) (a .s) (a .d .now) (a .output .now) (e .before .if1 .left) (e .if2 .left) _
+    (unsound-event (a .number) (a .arguments .now) (a .s) (a .d .now) (sym (t .is-sound .ensures) ∙ not-true _ (c .before .if3 .taken))))
+
+event-of-requires : tie.Need-event-of-requires
+event-of-requires c κs = search needs
+
+is-bad-requires : tie.Need-is-bad-requires
+is-bad-requires c κs = search needs
+
+refuse-requires-4 : tie.Need-refuse-requires-4
+refuse-requires-4 c κs = search needs
+
+same-length-2 : tie.Need-same-length-2
+same-length-2 c = search needs
+
+returns-4 : tie.Need-returns-4
+returns-4 c =
+    let b = c .before .before in
+    let v = b .before in
+    let t = v .before .before in
+    let e = t .before .before in
+    let a = e .before .before .before .before .before .args in
+    refused-gives (c .refuse4 .ensures)
+    (decides-not (eventCall (a .number) (a .arguments .now)) (a .s) (a .d .now) (a .output .now) (e .before .if1 .left) (e .if2 .left) _
+    (told-event (a .number) (a .arguments .now) (a .s) (a .d .now) (sym (t .is-sound .ensures) ∙ not-false _ (v .before .if3 .left)) _ (v .event-of .ensures)
+    ∙ refused-bad (a .s) (a .d .now) (v .event-of .result) (sym (b .is-bad .ensures) ∙ c .before .if4 .taken)))
+
+is-in-place-requires : tie.Need-is-in-place-requires
+is-in-place-requires c κs = search needs
+
+refuse-requires-5 : tie.Need-refuse-requires-5
+refuse-requires-5 c κs = search needs
+
+same-length-3 : tie.Need-same-length-3
+same-length-3 c = search needs
+
+returns-5 : tie.Need-returns-5
+returns-5 c =
+    let p = c .before .before in
+    let b = p .before .before in
+    let v = b .before in
+    let t = v .before .before in
+    let e = t .before .before in
+    let a = e .before .before .before .before .before .args in
+    refused-gives (c .refuse5 .ensures)
+    (decides-not (eventCall (a .number) (a .arguments .now)) (a .s) (a .d .now) (a .output .now) (e .before .if1 .left) (e .if2 .left) _
+    (told-event (a .number) (a .arguments .now) (a .s) (a .d .now) (sym (t .is-sound .ensures) ∙ not-false _ (v .before .if3 .left)) _ (v .event-of .ensures)
+    ∙ refused-out (a .s) (a .d .now) (v .event-of .result) (sym (b .is-bad .ensures) ∙ p .before .if4 .left) (sym (p .is-in-place .ensures) ∙ not-true _ (c .before .if5 .taken))))
+
+happen-requires : tie.Need-happen-requires
+happen-requires c κs =
+    let p = c .before .before .before in
+    let b = p .before .before in
+    let v = b .before in
+    let t = v .before .before in
+    let e = t .before .before in
+    let k = e .before .before in
+    let a = k .before .before .before .args in (
+      record { long = e .before .if1 .left; room = e .if2 .left; sound = sym (t .is-sound .ensures) ∙ not-false _ (v .before .if3 .left) },
+      (
+        subst ToldFits (sym (v .event-of .ensures)) (arguments-fit (a .number) (a .arguments .now) (are-bytes (a .arguments .now) (λ i l. omega (arith, k .shared-slice-known .given i)))),
+        does-it (a .s) (a .d .now) (v .event-of .result) (sym (b .is-bad .ensures) ∙ p .before .if4 .left) (sym (p .is-in-place .ensures) ∙ not-false _ (c .before .before .if5 .left)),
+      ),
+    )
+
+same-length-4 : tie.Need-same-length-4
+same-length-4 c = search needs
+
+same-length-5 : tie.Need-same-length-5
+same-length-5 c = search needs
+
+returns-6 : tie.Need-returns-6
+unfolding answered
+returns-6 c =
+    let p = c .before .before .before .before .before .before .before .before in
+    let b = p .before .before in
+    let v = b .before in
+    let t = v .before .before in
+    let e = t .before .before in
+    let a = e .before .before .before .before .before .args in
+    taken-gives (c .before .before .before .before .happen .ensures)
+    (sym (decides (eventCall (a .number) (a .arguments .now)) (a .s) (a .d .now) (a .output .now) (e .before .if1 .left) (e .if2 .left) _
+    (told-event (a .number) (a .arguments .now) (a .s) (a .d .now) (sym (t .is-sound .ensures) ∙ not-false _ (v .before .if3 .left)) _ (v .event-of .ensures)
+    ∙ does-it (a .s) (a .d .now) (v .event-of .result) (sym (b .is-bad .ensures) ∙ p .before .if4 .left) (sym (p .is-in-place .ensures) ∙ not-false _ (c .before .before .before .before .before .before .before .if5 .left)))))
+
+pub brief-event-spec : {M : Type 1} → statement M
+brief-event-spec =
+    tie.close
+    (tie.spec
+    refuse-requires
+    returns
+    refuse-requires-2
+    returns-2
+    is-sound-requires
+    refuse-requires-3
+    same-length
+    returns-3
+    event-of-requires
+    is-bad-requires
+    refuse-requires-4
+    same-length-2
+    returns-4
+    is-in-place-requires
+    refuse-requires-5
+    same-length-3
+    returns-5
+    happen-requires
+    same-length-4
+    same-length-5
+    returns-6)

@@ -1,0 +1,59 @@
+use mathlib.Core.List.{[]}
+use denote.Ref.{now}
+use Rattle.form.specs.Form.{withPlans}
+use Rattle.form.specs.Typed.{HeadTyped}
+use Rattle.form.proofs.Rows.{head-written}
+use borrow.Author.Needs.{needs}
+use Rattle.form.proofs.write_head.Statement.{statement}
+use Rattle.form.proofs.write_head.Tie as tie
+
+write-node-requires : tie.Need-write-node-requires
+write-node-requires c κs = search needs
+
+write-drive-requires : tie.Need-write-drive-requires
+write-drive-requires c κs = search needs
+
+write-frames-requires : tie.Need-write-frames-requires
+write-frames-requires c κs = search needs
+
+write-frames-requires-2 : tie.Need-write-frames-requires-2
+write-frames-requires-2 c κs = search needs
+
+write-counts-requires : tie.Need-write-counts-requires
+write-counts-requires c κs = search needs
+
+same-length : tie.Need-same-length
+same-length c = search needs
+
+returns : tie.Need-returns
+returns c =
+    let w = c .before .before in
+    let h = w .before .before .before .before in
+    let r = h .before .before .before .before in
+    let v = r .before .before .before .before in
+    let n = v .before .before .before .before in
+    let start = n .before .before .before in
+    let a = start .args in
+    let s = withPlans [] (a .node) (a .drive) (a .ready) (a .held) (a .counts) (a .due) in
+    let typed : HeadTyped s =
+    record {
+      heartbeat = n .write-node .ensures .1;
+      store = v .write-drive .ensures .1;
+      ready = r .write-frames .ensures .1;
+      held = h .write-frames2 .ensures .1;
+      counts = w .write-counts .ensures .1 .0;
+      due = w .write-counts .ensures .1 .1;
+    } in
+    (cc (head-written (now (a .bytes)) s (start .pre) typed), typed)
+
+pub write-head-spec : {M : Type 1} → statement M
+write-head-spec =
+    tie.close
+    (tie.spec
+    write-node-requires
+    write-drive-requires
+    write-frames-requires
+    write-frames-requires-2
+    write-counts-requires
+    same-length
+    returns)
