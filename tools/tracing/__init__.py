@@ -1,0 +1,9 @@
+"""What tools/trace is made of.
+
+records   bench records as bytes                 log       candump logs with events, as text
+events    the amplifier's events in words        bench     the bench program and its output
+eds       names, types and defaults of objects   words     numbers of CiA 301 and CiA 402 in words
+node      what a trace tells about the node      decode    a frame as a row of the readable trace
+readable  rows as text, with colour              differ    the first difference of two traces
+commands  the command line
+"""

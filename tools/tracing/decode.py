@@ -1,0 +1,262 @@
+"""A frame or an event as a row of the readable trace."""
+from dataclasses import dataclass, field
+from typing import NamedTuple, Optional, Union
+
+from . import events, node as can, words
+from .eds import Objects
+from .log import Entry
+from .node import Node, Place, Sdo
+from .records import Damage, Event, Frame, PowerUp
+
+IN, OUT, AMPLIFIER = 'in', 'out', 'amp'
+PLAIN, QUIET, GOOD, BAD = 'plain', 'quiet', 'good', 'bad'
+
+
+class ObjectText(NamedTuple):
+    place: str
+    name: str
+    value: str = ''
+    joint: str = ' = '  # between name and value
+
+
+@dataclass
+class Row:
+    """One line of the trace, or several where a frame has several objects."""
+    time: int
+    direction: str = ''
+    service: str = ''
+    frame: Optional[Frame] = None
+    details: list[Union[ObjectText, str]] = field(default_factory=list)
+    style: str = PLAIN
+    shows_status: Optional[int] = None  # the status word, where this row shows it
+    line: int = 0  # the entry that it comes from
+
+
+DEVICE_TYPE, ERROR_REGISTER, HEARTBEAT_TIME, ERROR_CODE = (0x1000, 0), (0x1001, 0), (0x1017, 0), (0x603F, 0)
+CONTROL_WORD, STATUS_WORD, SUPPORTED_MODES = (0x6040, 0), (0x6041, 0), (0x6502, 0)
+
+
+class Decoder:
+    """Turns a trace into rows, in order: what a row says depends on what came before it."""
+
+    def __init__(self, objects: Objects, answers_missing: bool = False):
+        self.objects = objects
+        self.node = Node(objects, answers_missing)
+
+    # what goes in and out
+
+    def put_in(self, entry: Entry, accepted: bool = True) -> Row:
+        """The row of a record. One that was refused tells nothing about the node."""
+        what = entry.what
+        if isinstance(what, Frame):
+            if accepted:
+                self.node.receive(what)
+            row = self.row_in(what)
+        elif isinstance(what, PowerUp):
+            if accepted:
+                self.node.power_up(what.node)
+            row = Row(0, AMPLIFIER, 'power-up', details=[f'node-ID {what.node}'])
+        elif isinstance(what, Event):
+            row = Row(0, AMPLIFIER, *event_texts(what))
+        elif isinstance(what, Damage):
+            row = Row(0, AMPLIFIER, 'bad record', details=[f'{len(what.data)} bytes: {what.data[:20].hex(" ").upper()}'], style=BAD)
+        row.time, row.line = entry.time, entry.line
+        return row
+
+    def put_out(self, frame: Frame, entry: Entry) -> Row:
+        """The row of a frame that the node sent."""
+        self.node.send(frame)
+        row = self.row_out(frame)
+        row.time, row.line = entry.time, entry.line
+        return row
+
+    # frames to the node
+
+    def row_in(self, frame: Frame) -> Row:
+        identifier = frame.identifier
+        if identifier == can.NMT:
+            return self.make(IN, 'NMT', frame, [nmt_text(frame.data)])
+        if identifier == can.SYNC:
+            wrong = f'{len(frame.data)} bytes, where SYNC has none'
+            return self.make(IN, 'SYNC', frame, [wrong] if frame.data else [])
+        if self.node.is_on(identifier, can.SDO_REQUEST):
+            return self.sdo_request(frame)
+        number = self.node.pdo_on(can.RECEIVE, identifier)
+        if number:
+            return self.pdo(IN, can.RECEIVE, number, frame)
+        return self.make(IN, 'other', frame, [other_text(identifier)], QUIET)
+
+    def sdo_request(self, frame: Frame) -> Row:
+        sdo = can.sdo_of(frame)
+        if sdo is None:
+            return self.make(IN, 'SDO request', frame, [f'{len(frame.data)} bytes: not served'])
+        command = sdo.command >> 5
+        if command == can.DOWNLOAD:
+            size = can.told_size(sdo.command) or self.size_of(sdo.place)
+            return self.make(IN, 'SDO write', frame, [self.object_text(sdo.place, sdo.data[:size])])
+        if command == can.UPLOAD:
+            return self.make(IN, 'SDO read', frame, [self.object_text(sdo.place)])
+        if command == can.ABORT:
+            return self.make(IN, 'SDO abort', frame, [self.abort_text(sdo)])
+        return self.make(IN, 'SDO request', frame, [self.object_text(sdo.place), f'unknown command {sdo.command:02X}h'])
+
+    # frames of the node
+
+    def row_out(self, frame: Frame) -> Row:
+        identifier, data = frame.identifier, frame.data
+        if self.node.is_on(identifier, can.HEARTBEAT):
+            return self.heartbeat(frame)
+        if self.node.is_on(identifier, can.EMERGENCY) and len(data) == 8:
+            code, register = int.from_bytes(data[:2], 'little'), data[2]
+            text = f'{words.emergency(code)}; error register {words.error_register(register)}'
+            return self.make(OUT, 'EMCY', frame, [text], BAD if code else GOOD)
+        if self.node.is_on(identifier, can.SDO_ANSWER):
+            return self.sdo_answer(frame)
+        number = self.node.pdo_on(can.TRANSMIT, identifier)
+        if number:
+            return self.pdo(OUT, can.TRANSMIT, number, frame)
+        return self.make(OUT, 'other', frame, [other_text(identifier)], QUIET)
+
+    def heartbeat(self, frame: Frame) -> Row:
+        if frame.data == b'\0':
+            return self.make(OUT, 'boot-up', frame)
+        state = words.NMT_STATES.get(frame.data[0], 'unknown state') if len(frame.data) == 1 else 'not one byte'
+        return self.make(OUT, 'heartbeat', frame, [state])
+
+    def sdo_answer(self, frame: Frame) -> Row:
+        sdo = can.sdo_of(frame)
+        if sdo is None:
+            return self.make(OUT, 'SDO answer', frame, [f'{len(frame.data)} bytes, where 8 are due'])
+        if sdo.command == can.WRITTEN:
+            return self.make(OUT, 'SDO written', frame, [self.object_text(sdo.place)])
+        if sdo.command in can.READ_SIZES:
+            row = self.make(OUT, 'SDO value', frame, [self.object_text(sdo.place, sdo.data[:can.READ_SIZES[sdo.command]])])
+            if sdo.place == STATUS_WORD:
+                row.shows_status = int.from_bytes(sdo.data[:2], 'little')
+            return row
+        if sdo.command == can.ABORTED:
+            return self.make(OUT, 'SDO abort', frame, [self.abort_text(sdo)], BAD)
+        return self.make(OUT, 'SDO answer', frame, [self.object_text(sdo.place), f'unknown command {sdo.command:02X}h'])
+
+    def abort_text(self, sdo: Sdo) -> ObjectText:
+        return self.object_text(sdo.place)._replace(value=words.abort(int.from_bytes(sdo.data, 'little')), joint=': ')
+
+    # both ways
+
+    def make(self, direction: str, service: str, frame: Frame, details: Optional[list] = None, style: str = PLAIN) -> Row:
+        return Row(0, direction, service, frame, details or [], style)
+
+    def pdo(self, direction: str, kind: str, number: int, frame: Frame) -> Row:
+        """A PDO's objects by the mapping in force; of one that is cut short none, since the node takes none."""
+        parts = list(self.node.mapping(kind, number))
+        row = self.make(direction, f'{kind}PDO{number}', frame)
+        needed = sum(part.size for part in parts)
+        if len(frame.data) < needed:
+            names = ', '.join(f'{part.place[0]:04X}:{part.place[1]:02X}' for part in parts)
+            row.details.append(f'too short: {len(frame.data)} of the {needed} bytes of {names}')
+            return row
+        for part in parts:
+            data = frame.data[part.start:part.start + part.size]
+            row.details.append(self.object_text(part.place, data))
+            if part.place == STATUS_WORD:
+                row.shows_status = int.from_bytes(data, 'little')
+        if len(frame.data) > needed:
+            row.details.append(f'{len(frame.data) - needed} bytes more than mapped')
+        return row
+
+    def size_of(self, place: Place) -> int:
+        return self.objects[place].size if place in self.objects else 4
+
+    def object_text(self, place: Place, data: Optional[bytes] = None) -> ObjectText:
+        entry = self.objects.get(place)
+        name = entry.name if entry else '(not in the dictionary)'
+        return ObjectText(f'{place[0]:04X}:{place[1]:02X}', name, '' if data is None else self.value_text(place, data))
+
+    def value_text(self, place: Place, data: bytes) -> str:
+        """A value in words where its object has words for it, and as a number otherwise."""
+        entry = self.objects.get(place)
+        size, value = len(data), int.from_bytes(data, 'little')
+        if not entry or entry.size != size:
+            return words.number(value, size) + f' in {size} byte(s)'
+        if place == CONTROL_WORD:
+            return words.control_word(value, self.node.mode)
+        if place == STATUS_WORD:
+            return words.status_word(value, self.node.mode)
+        if place == ERROR_CODE:
+            return words.emergency(value) if value else '0000h'
+        if place == ERROR_REGISTER:
+            return words.error_register(value)
+        if place in (can.MODE, can.MODE_DISPLAY):
+            return f"{int.from_bytes(data, 'little', signed=True)} {words.MODES.get(value, 'unknown')}"
+        if place == HEARTBEAT_TIME:
+            return f'{value} ms'
+        if place == DEVICE_TYPE:
+            return f'{value:08X}h device profile {value & 0xFFFF}'
+        if place == SUPPORTED_MODES:
+            return f"{value:08X}h {', '.join(words.bits(value, words.SUPPORTED_MODES))}"
+        return self.parameter_text(place, value) or words.number(int.from_bytes(data, 'little', signed=entry.signed), size)
+
+    def parameter_text(self, place: Place, value: int) -> Optional[str]:
+        """The parameters of PDOs; none for other objects."""
+        index, sub = place
+        if can.is_parameter(index, can.COMMUNICATION) and sub == 1:
+            return f'{value:08X}h ' + ('not valid' if value & can.NOT_VALID else f'on {value & 0x7FF:03X}h')
+        if can.is_parameter(index, can.COMMUNICATION) and sub == 2:
+            return f'{value} {type_text(value, index >= can.COMMUNICATION[can.TRANSMIT])}'
+        if can.is_parameter(index, can.MAPPING) and sub:
+            target = self.objects.get((value >> 16, value >> 8 & 0xFF))
+            name = target.name if target else 'no such object'
+            return f'{value:08X}h {name}, {value & 0xFF} bits' if value else '00000000h nothing'
+        return None
+
+    def status_row(self, time: int, status: int) -> Row:
+        """The node's status word after a call that changed it."""
+        text = self.object_text(STATUS_WORD)._replace(value=words.status_word(status, self.node.mode))
+        return Row(time, '', 'state', details=[text], style=GOOD)
+
+
+def refusal_row(time: int, refusal: int) -> Row:
+    return Row(time, '', 'refused', details=[f"{refusal}: {words.REFUSALS.get(refusal, 'unknown')}"], style=BAD)
+
+
+def event_texts(event: Event) -> tuple:
+    """Service, no frame, and details of an event's row."""
+    values = events.values_of(event)
+    if values is None:
+        return 'event', None, [f'number {event.number}, arguments {event.arguments.hex(" ").upper() or "none"}']
+    kind = events.KINDS[event.number]
+    if kind.word == 'fault':
+        code, register = (int(value, 16) for value in values)
+        return 'event', None, [f'fault {words.emergency(code)}; error register gains {words.error_register(register)}']
+    named = [value if argument.form == 'flag' else f'{argument.name} {value}' for argument, value in zip(kind.arguments, values)]
+    return 'event', None, [f"{kind.word} {', '.join(named)}".rstrip()]
+
+
+def nmt_text(data: bytes) -> str:
+    if len(data) != 2:
+        return f'{len(data)} bytes, where NMT has 2: not served'
+    command = words.NMT_COMMANDS.get(data[0], f'unknown command {data[0]:02X}h')
+    return f'{command}, ' + (f'node {data[1]}' if data[1] else 'all nodes')
+
+
+def type_text(value: int, transmit: bool) -> str:
+    """A PDO's transmission type."""
+    if value in (254, 255):
+        return 'on change' if transmit else 'at once'
+    if value > 240:
+        return 'not served'
+    if not transmit:
+        return 'at the next SYNC'
+    return {0: 'at SYNC, if changed', 1: 'at each SYNC'}.get(value, f'at every {value}th SYNC')
+
+
+USUAL = {0x080: 'emergency', 0x180: 'TPDO1', 0x200: 'RPDO1', 0x280: 'TPDO2', 0x300: 'RPDO2', 0x380: 'TPDO3', 0x400: 'RPDO3', 0x480: 'TPDO4',
+         0x500: 'RPDO4', 0x580: 'SDO answer', 0x600: 'SDO request', 0x700: 'heartbeat'}
+
+
+def other_text(identifier: int) -> str:
+    """What a frame that is none of this node's would be by the usual identifiers."""
+    service, number = USUAL.get(identifier & 0x780), identifier & 0x7F
+    if identifier > 0x7FF or not number or not service:
+        return ''
+    return f'{service} of node {number}, by the usual identifiers'
