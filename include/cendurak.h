@@ -104,6 +104,133 @@ static inline uint16_t cendurak_status_word(const uint8_t *dict)
     return (uint16_t)(dict[336] + 256u * dict[337]);
 }
 
+/*
+ * What the amplifier follows between two calls, read from the buffers that an accepted call left. The places in the state are those of
+ * docs/STATE.md, the places in the dictionary those of its entries, packed in rising order.
+ */
+
+/* The NMT states, and the node's own. */
+enum cendurak_nmt_number {
+    CENDURAK_NMT_PRE_OPERATIONAL = 0,
+    CENDURAK_NMT_OPERATIONAL = 1,
+    CENDURAK_NMT_STOPPED = 2
+};
+
+static inline uint8_t cendurak_nmt(const uint8_t *state)
+{
+    return state[1];
+}
+
+/* The voltage flag, 0 or 1, as the last event 9 gave it. Power-up, by NMT too, puts it to 0: the firmware then has to tell it again. */
+static inline uint8_t cendurak_voltage(const uint8_t *state)
+{
+    return state[2];
+}
+
+/* The drive states, and the axis's own. */
+enum cendurak_drive_number {
+    CENDURAK_DRIVE_NOT_READY = 0,
+    CENDURAK_DRIVE_SWITCH_ON_DISABLED = 1,
+    CENDURAK_DRIVE_READY_TO_SWITCH_ON = 2,
+    CENDURAK_DRIVE_SWITCHED_ON = 3,
+    CENDURAK_DRIVE_OPERATION_ENABLED = 4,
+    CENDURAK_DRIVE_QUICK_STOP_ACTIVE = 5,
+    CENDURAK_DRIVE_FAULT_REACTION_ACTIVE = 6,
+    CENDURAK_DRIVE_FAULT = 7
+};
+
+static inline uint8_t cendurak_drive(const uint8_t *state)
+{
+    return state[5];
+}
+
+/* The modes, and the one that is in force (6061h). */
+enum cendurak_mode_number {
+    CENDURAK_MODE_NONE = 0,
+    CENDURAK_MODE_PROFILE_POSITION = 1,
+    CENDURAK_MODE_PROFILE_VELOCITY = 3
+};
+
+static inline uint8_t cendurak_mode(const uint8_t *state)
+{
+    return state[6];
+}
+
+/* Whether a fault's cause is present, 0 or 1: since event 3, until event 8. */
+static inline uint8_t cendurak_cause(const uint8_t *state)
+{
+    return state[9];
+}
+
+/* How many set-points wait to be reached: 0, 1, or 2 with one queued. Event 6 is in place only where it is not 0. */
+static inline uint32_t cendurak_set_points(const uint8_t *state)
+{
+    return state[10] < 2u ? 0u : state[10] - 1u;
+}
+
+/* Four bytes, low byte first; and the same bytes as a signed value. */
+static inline uint32_t cendurak_word(const uint8_t *bytes)
+{
+    return bytes[0] + 256u * bytes[1] + 65536u * bytes[2] + 16777216u * bytes[3];
+}
+
+static inline int32_t cendurak_signed(const uint8_t *bytes)
+{
+    uint32_t word = cendurak_word(bytes);
+    return word < 0x80000000u ? (int32_t)word : -(int32_t)(0xFFFFFFFFu - word) - 1;
+}
+
+/* A set-point as it was taken: the target, and 6081h, 6083h and 6084h of that moment. */
+struct cendurak_set_point {
+    int32_t target;
+    uint32_t velocity, acceleration, deceleration;
+};
+
+/* The active set-point, which the axis is to move to. Only where cendurak_set_points is not 0. */
+static inline struct cendurak_set_point cendurak_active_set_point(const uint8_t *state)
+{
+    struct cendurak_set_point active = {cendurak_signed(state + 11), cendurak_word(state + 15), cendurak_word(state + 19),
+                                        cendurak_word(state + 23)};
+    return active;
+}
+
+/* Objects of the dictionary: error code 603Fh, control word 6040h, position 6064h, velocity 606Ch. */
+static inline uint16_t cendurak_error_code(const uint8_t *dict)
+{
+    return (uint16_t)(dict[332] + 256u * dict[333]);
+}
+
+static inline uint16_t cendurak_control_word(const uint8_t *dict)
+{
+    return (uint16_t)(dict[334] + 256u * dict[335]);
+}
+
+static inline int32_t cendurak_position(const uint8_t *dict)
+{
+    return cendurak_signed(dict + 340);
+}
+
+static inline int32_t cendurak_velocity(const uint8_t *dict)
+{
+    return cendurak_signed(dict + 348);
+}
+
+/* For profile velocity: acceleration 6083h, deceleration 6084h and target velocity 60FFh. */
+static inline uint32_t cendurak_acceleration(const uint8_t *dict)
+{
+    return cendurak_word(dict + 373);
+}
+
+static inline uint32_t cendurak_deceleration(const uint8_t *dict)
+{
+    return cendurak_word(dict + 377);
+}
+
+static inline int32_t cendurak_target_velocity(const uint8_t *dict)
+{
+    return cendurak_signed(dict + 381);
+}
+
 #ifdef __cplusplus
 }
 #endif

@@ -4,4 +4,5 @@
 void *memcpy(void *to, const void *from, unsigned long count);
 void *memset(void *to, int byte, unsigned long count);
 int memcmp(const void *a, const void *b, unsigned long count);
+int strcmp(const char *a, const char *b);
 #endif

@@ -1,0 +1,174 @@
+/*
+ * The amplifier's firmware, in a simulation: `firmware [SCRIPT]`, by default the script `moves`. Each turn of the loop is a millisecond. What
+ * interrupts would do is done first, then comes one pass of the main loop, then the transmit interrupt and the motor's motion.
+ *
+ * It prints what happened and when, and ends with status 0 where every check of the bus master held.
+ */
+#include <stdio.h>
+
+#include "master.h"
+#include "motor.h"
+#include "node.h"
+
+enum {
+    SELF_TEST_ENDS = 20,  /* ms after the amplifier was switched on */
+    VOLTAGE_COMES = 30,
+    BUS_FRAMES = 15,      /* that the bus carries in a millisecond, at 1 Mbit/s and a few data bytes each */
+    HELD_UP = 6,          /* ms that the main loop is away in the planted hold-up */
+    STALLED = 200,        /* ms that the bus carries nothing of the node in the planted stall */
+    OVER_CURRENT = 0x2310,
+    ERROR_REGISTER_CURRENT = 0x02,
+    FLIPPED_BYTE = 0,     /* of the device type 1000h, a constant */
+    LONGEST_RUN = 60000   /* ms; no script takes so long */
+};
+
+static struct {
+    uint32_t now, switched_on, busy_until, stalled_until;
+    bool has_over_current; /* the level of the fault line */
+    struct node node;
+    struct motor motor;
+    struct axis_command command;
+    struct master master;
+    uint8_t drive;         /* the drive state that was last printed */
+} world;
+
+/* ---- the account's lines of the amplifier */
+
+static void log_refusal(uint32_t refusal, const char *call, uint32_t number)
+{
+    printf("%7u ms  node    refusal %u of %s %u\n", world.now, refusal, call, number);
+}
+
+static void stop_safely(void)
+{
+    printf("%7u ms  node    safe stop: output stage off at position %d, velocity %d\n", world.now, motor_position(&world.motor),
+           motor_velocity(&world.motor));
+}
+
+static const struct node_hooks hooks = {.refused = log_refusal, .stop_safely = stop_safely};
+
+static void log_drive(void)
+{
+    static const char *const names[] = {"Not ready",         "Switch on disabled", "Ready to switch on",    "Switched on",
+                                        "Operation enabled", "Quick stop active",  "Fault reaction active", "Fault"};
+    uint8_t drive = cendurak_drive(world.node.state);
+
+    if (world.node.is_stopped)
+        return;
+    if (drive != world.drive)
+        printf("%7u ms  drive   %s, position %d\n", world.now, names[drive], motor_position(&world.motor));
+    world.drive = drive;
+}
+
+/* ---- the planted troubles */
+
+static void power_cycle(void)
+{
+    world.switched_on = world.now;
+    world.busy_until = world.now;
+    node_power_up(&world.node, NODE_ID);
+}
+
+static void carry_out(enum trouble trouble)
+{
+    switch (trouble) {
+    case TROUBLE_TRIP: world.has_over_current = true; node_trip(&world.node, OVER_CURRENT, ERROR_REGISTER_CURRENT); break;
+    case TROUBLE_CURE: world.has_over_current = false; break;
+    case TROUBLE_HOLD_UP: world.busy_until = world.now + HELD_UP; break;
+    case TROUBLE_STALL: world.stalled_until = world.now + STALLED; break;
+    case TROUBLE_FLIP: world.node.dict[FLIPPED_BYTE] ^= 0x01; break;
+    case TROUBLE_JAM: world.motor.is_jammed = true; break;
+    case TROUBLE_POWER_CYCLE: power_cycle(); break;
+    default: break;
+    }
+}
+
+/* ---- what interrupts do */
+
+static void receive_interrupts(void)
+{
+    struct can_frame frame;
+
+    for (uint32_t i = 0; i < BUS_FRAMES && frame_queue_take(&world.master.to_bus, &frame); i++)
+        node_receive(&world.node, &frame);
+}
+
+static void transmit_interrupts(void)
+{
+    struct can_frame frame;
+
+    if (world.now < world.stalled_until)
+        return;
+    for (uint32_t i = 0; i < BUS_FRAMES && node_next_to_send(&world.node, &frame); i++)
+        master_hear(&world.master, &frame);
+}
+
+/* ---- the main loop */
+
+static struct node_inputs measure(void)
+{
+    struct node_inputs inputs = {
+        .position = motor_position(&world.motor),
+        .velocity = motor_velocity(&world.motor),
+        .fault_code = world.has_over_current ? OVER_CURRENT : 0,
+        .fault_register = world.has_over_current ? ERROR_REGISTER_CURRENT : 0,
+        .is_self_tested = world.now - world.switched_on >= SELF_TEST_ENDS,
+        .has_voltage = world.now - world.switched_on >= VOLTAGE_COMES,
+        .is_at_standstill = motor_is_at_standstill(&world.motor),
+        .is_at_target = world.command.task == AXIS_MOVE && motor_is_at(&world.motor, world.command.target),
+    };
+    return inputs;
+}
+
+/* In a product: for (;;) main_loop_pass(); with the axis command handed to the position controller. */
+static void main_loop_pass(void)
+{
+    struct node_inputs inputs = measure();
+
+    node_run(&world.node, &inputs);
+    world.command = node_command(&world.node);
+    log_drive();
+}
+
+static void millisecond(void)
+{
+    world.now++;
+    node_tick(&world.node);
+    receive_interrupts();
+    if (world.now >= world.busy_until)
+        main_loop_pass();
+    transmit_interrupts();
+    motor_step(&world.motor, &world.command);
+}
+
+static void print_counts(void)
+{
+    const struct node *node = &world.node;
+    uint32_t refused = 0;
+
+    for (uint32_t i = 1; i < NODE_REFUSALS; i++)
+        refused += node->refused[i];
+    printf("%u calls accepted, %u refused; frames lost: %u in, %u out\n", node->refused[0], refused, frame_queue_lost(&node->received),
+           frame_queue_lost(&node->to_send));
+    printf("%u checks held, %u failed\n", world.master.held, world.master.failed);
+}
+
+int main(int argc, char **argv)
+{
+    const char *name = argc > 1 ? argv[1] : "moves";
+
+    world.master.script = script_named(name);
+    if (world.master.script == 0) {
+        printf("no script '%s': moves, flood, damage, stall, jam\n", name);
+        return 2;
+    }
+    node_init(&world.node, &hooks);
+    node_power_up(&world.node, NODE_ID);
+    while (master_run(&world.master, world.now) && world.now < LONGEST_RUN) {
+        carry_out(world.master.trouble);
+        world.master.trouble = TROUBLE_NONE;
+        millisecond();
+    }
+    print_counts();
+    return world.master.failed != 0 || world.now >= LONGEST_RUN;
+}

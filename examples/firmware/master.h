@@ -1,0 +1,42 @@
+/* The simulated bus master: goes through a script, hears the node's frames, checks them, and writes the account. */
+#ifndef MASTER_H
+#define MASTER_H
+
+#include <stdbool.h>
+#include <stdint.h>
+
+#include "frame_queue.h"
+#include "script.h"
+
+enum { NODE_ID = 5 };
+
+/* What the master last heard of the node. */
+struct heard {
+    uint8_t reply[8];
+    uint16_t status, emergency_code;
+    uint8_t emergency_register, heartbeat;
+    int32_t position, velocity;
+    /* heard since the step began */
+    bool has_reply, has_emergency, has_heartbeat, has_any;
+};
+
+/* All but the script zero at the start. */
+struct master {
+    const struct script *script;
+    uint32_t part, step;  /* where it is in the script */
+    bool is_begun;        /* the step's frame is sent */
+    uint32_t begun;       /* when */
+    uint32_t sync_every;  /* ms; 0: no SYNC */
+    struct heard heard;
+    struct frame_queue to_bus;
+    enum trouble trouble; /* planted by a step, for the simulation to carry out and to clear */
+    uint32_t held, failed;
+};
+
+/* One millisecond: as many steps as can be done in it. False: the script is at its end. */
+bool master_run(struct master *master, uint32_t now);
+
+/* A frame of the node. */
+void master_hear(struct master *master, const struct can_frame *frame);
+
+#endif

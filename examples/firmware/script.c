@@ -1,0 +1,268 @@
+#include "script.h"
+
+#include <string.h>
+
+/* ---- the words of a script */
+
+enum { SOON = 50, A_WHILE = 4000 };
+
+#define NMT(command) {.kind = STEP_NMT, .says = #command, .value = (command)}
+#define SYNC_EVERY(ms) {.kind = STEP_SYNC, .value = (ms)}
+#define CONTROL(word) {.kind = STEP_CONTROL, .says = #word, .value = (word)}
+#define MOVE(word, to) {.kind = STEP_MOVE, .says = #word, .value = (word), .target = (to)}
+#define FLOOD(each_ms, ms) {.kind = STEP_FLOOD, .value = (each_ms), .within = (ms)}
+#define PLANT(what) {.kind = STEP_PLANT, .value = (what)}
+#define WAIT(ms) {.kind = STEP_WAIT, .within = (ms)}
+#define WRITE(object, sub, bytes, v) {.kind = STEP_WRITE, .index = (object), .subindex = (sub), .size = (bytes), .value = (v), .within = SOON}
+#define REFUSED(object, sub, bytes, v, abort) \
+    {.kind = STEP_WRITE, .index = (object), .subindex = (sub), .size = (bytes), .value = (v), .expected = (abort), .within = SOON}
+#define READ(object, sub, v) {.kind = STEP_READ, .index = (object), .subindex = (sub), .expected = (v), .within = SOON}
+#define BOOT_UP {.kind = STEP_BOOT_UP, .within = SOON}
+#define HEARTBEAT(nmt) {.kind = STEP_HEARTBEAT, .says = #nmt, .expected = (nmt), .within = 150}
+#define STATUS(bits, v) {.kind = STEP_STATUS, .says = #v, .mask = (bits), .expected = (v), .within = A_WHILE}
+#define EMERGENCY(code, bits) {.kind = STEP_EMERGENCY, .says = #code, .value = (code), .expected = (bits), .within = SOON}
+#define POSITION(at) {.kind = STEP_POSITION, .target = (at), .within = SOON}
+#define SPEED(at) {.kind = STEP_SPEED, .target = (at), .within = A_WHILE}
+#define SILENCE(ms) {.kind = STEP_SILENCE, .within = (ms)}
+#define END {.kind = STEP_END}
+
+/* NMT commands, and the states that a heartbeat tells. */
+enum { START = 0x01, RESET_NODE = 0x81, IN_OPERATIONAL = 0x05, IN_PRE_OPERATIONAL = 0x7F };
+
+/* Control words. */
+enum {
+    DISABLE_VOLTAGE = 0x0000,
+    SHUTDOWN = 0x0006,
+    SWITCH_ON = 0x0007,
+    QUICK_STOP = 0x000B,
+    ENABLE = 0x000F,
+    NEW_SET_POINT = 0x001F,
+    NEW_RELATIVE = 0x005F,
+    FAULT_RESET = 0x0080,
+    HALT = 0x010F
+};
+
+/* Status word: the bits that tell the drive state, and single bits. */
+enum {
+    NOTHING = 0x0000,
+    STATE_BITS = 0x006F,
+    SWITCH_ON_DISABLED = 0x0040,
+    READY_TO_SWITCH_ON = 0x0021,
+    SWITCHED_ON = 0x0023,
+    OPERATION_ENABLED = 0x0027,
+    QUICK_STOP_ACTIVE = 0x0007,
+    IN_FAULT = 0x0008,
+    TARGET_REACHED = 0x0400,
+    LIMIT_ACTIVE = 0x0800,
+    SET_POINT_TAKEN = 0x1000
+};
+
+enum { NO_ERROR = 0x0000, OVER_CURRENT = 0x2310, CAN_OVERRUN = 0x8110, VALUE_INVALID = 0x06090030, NOT_NOW = 0x08000022 };
+
+/* A set-point by the handshake: told, taken, bit 4 back, reached. */
+#define MOVED(word, to, at)                                                                                                        \
+    MOVE(word, to), STATUS(SET_POINT_TAKEN, SET_POINT_TAKEN), CONTROL(ENABLE), STATUS(SET_POINT_TAKEN | TARGET_REACHED, TARGET_REACHED), \
+        POSITION(at)
+
+/* ---- parts */
+
+/* Power-up, who are you, limits and ramps, transmit PDO 3 on SYNC, transmit PDO 4 with position and velocity on SYNC. */
+static const struct step commission[] = {
+    BOOT_UP,
+    READ(0x1000, 0, 0x00020192),
+    WRITE(0x1017, 0, 2, 100),
+    WRITE(0x6060, 0, 1, 1),
+    REFUSED(0x6060, 0, 1, 7, VALUE_INVALID),
+    WRITE(0x6067, 0, 4, 5),
+    WRITE(0x607D, 1, 4, (uint32_t)-20000),
+    WRITE(0x607D, 2, 4, 20000),
+    WRITE(0x6081, 0, 4, 10000),
+    WRITE(0x6083, 0, 4, 50000),
+    WRITE(0x6084, 0, 4, 40000),
+    WRITE(0x1802, 2, 1, 1),
+    REFUSED(0x1A03, 0, 1, 0, NOT_NOW),
+    WRITE(0x1803, 1, 4, 0xC0000485),
+    WRITE(0x1803, 2, 1, 1),
+    WRITE(0x1A03, 0, 1, 0),
+    WRITE(0x1A03, 1, 4, 0x60640020),
+    WRITE(0x1A03, 2, 4, 0x606C0020),
+    WRITE(0x1A03, 0, 1, 2),
+    WRITE(0x1803, 1, 4, 0x40000485),
+    HEARTBEAT(IN_PRE_OPERATIONAL),
+    NMT(START),
+    SYNC_EVERY(10),
+    HEARTBEAT(IN_OPERATIONAL),
+    END,
+};
+
+static const struct step enable[] = {
+    CONTROL(SHUTDOWN),
+    STATUS(STATE_BITS, READY_TO_SWITCH_ON),
+    CONTROL(SWITCH_ON),
+    STATUS(STATE_BITS, SWITCHED_ON),
+    CONTROL(ENABLE),
+    STATUS(STATE_BITS, OPERATION_ENABLED),
+    END,
+};
+
+/* Absolute, relative, two in a row, and one that is outside the limits. */
+static const struct step positions[] = {
+    MOVED(NEW_SET_POINT, 10000, 10000),
+    MOVED(NEW_RELATIVE, -2500, 7500),
+    MOVE(NEW_SET_POINT, 9000),
+    STATUS(SET_POINT_TAKEN, SET_POINT_TAKEN),
+    CONTROL(ENABLE),
+    STATUS(SET_POINT_TAKEN, NOTHING),
+    MOVED(NEW_SET_POINT, -3000, -3000),
+    MOVE(NEW_SET_POINT, 30000),
+    STATUS(SET_POINT_TAKEN | LIMIT_ACTIVE, LIMIT_ACTIVE),
+    POSITION(-3000),
+    CONTROL(ENABLE),
+    END,
+};
+
+/* Profile velocity, halted, and back to positions. */
+static const struct step velocities[] = {
+    WRITE(0x6060, 0, 1, 3),
+    WRITE(0x60FF, 0, 4, (uint32_t)-4000),
+    SPEED(-4000),
+    STATUS(TARGET_REACHED, TARGET_REACHED),
+    CONTROL(HALT),
+    SPEED(0),
+    STATUS(TARGET_REACHED, TARGET_REACHED),
+    WRITE(0x60FF, 0, 4, 0),
+    WRITE(0x6060, 0, 1, 1),
+    CONTROL(ENABLE),
+    MOVED(NEW_SET_POINT, 0, 0),
+    END,
+};
+
+static const struct step quick_stop[] = {
+    MOVE(NEW_SET_POINT, 15000),
+    STATUS(SET_POINT_TAKEN, SET_POINT_TAKEN),
+    WAIT(400),
+    CONTROL(QUICK_STOP),
+    STATUS(STATE_BITS, QUICK_STOP_ACTIVE),
+    STATUS(STATE_BITS, SWITCH_ON_DISABLED),
+    SPEED(0),
+    END,
+};
+
+/* Tripped on the way: emergency, reaction, fault; no reset while the cause is there; reset. */
+static const struct step fault[] = {
+    MOVE(NEW_SET_POINT, 5000),
+    STATUS(SET_POINT_TAKEN, SET_POINT_TAKEN),
+    WAIT(300),
+    PLANT(TROUBLE_TRIP),
+    EMERGENCY(OVER_CURRENT, 0x03),
+    STATUS(STATE_BITS, IN_FAULT),
+    SPEED(0),
+    CONTROL(FAULT_RESET),
+    WAIT(20),
+    STATUS(STATE_BITS, IN_FAULT),
+    PLANT(TROUBLE_CURE),
+    WAIT(2),
+    CONTROL(DISABLE_VOLTAGE),
+    CONTROL(FAULT_RESET),
+    EMERGENCY(NO_ERROR, 0x00),
+    STATUS(STATE_BITS, SWITCH_ON_DISABLED),
+    READ(0x603F, 0, OVER_CURRENT),
+    END,
+};
+
+static const struct step home[] = {
+    MOVED(NEW_SET_POINT, 0, 0),
+    END,
+};
+
+/* The node forgets voltage and self-test in a reset; the glue tells them again. */
+static const struct step reset[] = {
+    CONTROL(DISABLE_VOLTAGE),
+    STATUS(STATE_BITS, SWITCH_ON_DISABLED),
+    SYNC_EVERY(0),
+    NMT(RESET_NODE),
+    BOOT_UP,
+    WAIT(2),
+    READ(0x6041, 0, 0x0250),
+    END,
+};
+
+/* More frames than the queue holds while the main loop is busy elsewhere, on the way. */
+static const struct step flood[] = {
+    MOVE(NEW_SET_POINT, 15000),
+    STATUS(SET_POINT_TAKEN, SET_POINT_TAKEN),
+    WAIT(200),
+    PLANT(TROUBLE_HOLD_UP),
+    FLOOD(12, 5),
+    EMERGENCY(CAN_OVERRUN, 0x11),
+    STATUS(STATE_BITS, IN_FAULT),
+    SPEED(0),
+    CONTROL(DISABLE_VOLTAGE),
+    CONTROL(FAULT_RESET),
+    EMERGENCY(NO_ERROR, 0x00),
+    STATUS(STATE_BITS, SWITCH_ON_DISABLED),
+    END,
+};
+
+/* The dictionary is damaged on the way: the node falls silent and the axis runs out without current, until it is switched off and on. */
+static const struct step damage[] = {
+    MOVE(NEW_SET_POINT, 15000),
+    STATUS(SET_POINT_TAKEN, SET_POINT_TAKEN),
+    WAIT(400),
+    PLANT(TROUBLE_FLIP),
+    WAIT(2),
+    SILENCE(600),
+    SYNC_EVERY(0),
+    PLANT(TROUBLE_POWER_CYCLE),
+    BOOT_UP,
+    WAIT(100),
+    READ(0x6041, 0, 0x0250),
+    READ(0x606C, 0, 0),
+    END,
+};
+
+/* The bus has no room for the node for a while, on the way: frames pile up to be sent, then those received wait, and none is lost. */
+static const struct step stall[] = {
+    MOVE(NEW_SET_POINT, 5000),
+    STATUS(SET_POINT_TAKEN, SET_POINT_TAKEN),
+    CONTROL(ENABLE),
+    WAIT(100),
+    PLANT(TROUBLE_STALL),
+    SILENCE(195),
+    WAIT(20),
+    READ(0x6040, 0, ENABLE),
+    STATUS(SET_POINT_TAKEN | TARGET_REACHED, TARGET_REACHED),
+    POSITION(5000),
+    END,
+};
+
+/* The axis does not get there, and the master must say so. */
+static const struct step jam[] = {
+    PLANT(TROUBLE_JAM),
+    MOVED(NEW_SET_POINT, 10000, 10000),
+    END,
+};
+
+/* ---- scripts */
+
+static const struct step *const moves_parts[] = {commission, enable, positions, velocities, quick_stop, enable, fault, enable, home, reset, 0};
+static const struct step *const flood_parts[] = {commission, enable, flood, enable, home, 0};
+static const struct step *const damage_parts[] = {commission, enable, damage, 0};
+static const struct step *const stall_parts[] = {commission, enable, stall, 0};
+static const struct step *const jam_parts[] = {commission, enable, jam, 0};
+
+static const struct script scripts[] = {
+    {"moves", moves_parts},
+    {"flood", flood_parts},
+    {"damage", damage_parts},
+    {"stall", stall_parts},
+    {"jam", jam_parts},
+};
+
+const struct script *script_named(const char *name)
+{
+    for (uint32_t i = 0; i < sizeof scripts / sizeof scripts[0]; i++)
+        if (strcmp(scripts[i].name, name) == 0)
+            return &scripts[i];
+    return 0;
+}

@@ -1,0 +1,60 @@
+/* What the bus master does: scripts of steps, each of which sends something, waits for something, or plants a trouble. */
+#ifndef SCRIPT_H
+#define SCRIPT_H
+
+#include <stdint.h>
+
+enum step_kind {
+    /* sent; the next step follows in the same millisecond */
+    STEP_NMT,     /* `value` is the command */
+    STEP_SYNC,    /* from now on a SYNC every `value` ms */
+    STEP_CONTROL, /* RPDO 1: control word `value` */
+    STEP_MOVE,    /* RPDO 3: control word `value`, target `target` */
+    STEP_FLOOD,   /* RPDO 1, `value` frames each millisecond for `within` ms */
+    STEP_PLANT,   /* the trouble `value` happens to the amplifier */
+    STEP_WAIT,    /* for `within` ms */
+    /* checked: it holds within so many ms, or has failed */
+    STEP_WRITE,     /* SDO download; `expected` is the abort code, 0 for none */
+    STEP_READ,      /* SDO upload; `expected` is the value */
+    STEP_BOOT_UP,   /* the boot-up frame */
+    STEP_HEARTBEAT, /* a heartbeat with the NMT state `expected` */
+    STEP_STATUS,    /* the status word under `mask` is `expected` */
+    STEP_EMERGENCY, /* an emergency with the code `value` and the register `expected` */
+    STEP_POSITION,  /* the position is `target` */
+    STEP_SPEED,     /* the velocity is `target` */
+    STEP_SILENCE,   /* nothing is heard for `within` ms */
+    STEP_END
+};
+
+/* What can happen to the amplifier. */
+enum trouble {
+    TROUBLE_NONE,
+    TROUBLE_TRIP,        /* the over-current line rises, and stays */
+    TROUBLE_CURE,        /* it falls */
+    TROUBLE_HOLD_UP,     /* the main loop is kept busy elsewhere for some milliseconds */
+    TROUBLE_STALL,       /* the bus is kept busy by others, and carries nothing of the node for a while */
+    TROUBLE_FLIP,        /* a bit of the dictionary flips */
+    TROUBLE_JAM,         /* the motor's shaft does not turn any more */
+    TROUBLE_POWER_CYCLE, /* the amplifier is switched off and on */
+    TROUBLES
+};
+
+struct step {
+    enum step_kind kind;
+    const char *says; /* the name of what is sent or expected, for the account */
+    uint32_t index, subindex, size; /* of an SDO's object */
+    uint32_t value, mask, expected;
+    int32_t target;
+    uint32_t within;
+};
+
+/* A script is a list of parts, ended by 0; a part is a list of steps, ended by STEP_END. */
+struct script {
+    const char *name;
+    const struct step *const *parts;
+};
+
+/* The script of that name; 0 where there is none. */
+const struct script *script_named(const char *name);
+
+#endif
