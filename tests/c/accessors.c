@@ -6,21 +6,11 @@
 #include <string.h>
 
 #include "cendurak.h"
+#include "checks.h"
 
 enum { STATE_BITS = 0x006F, VOLTAGE_BIT = 0x0010, REMOTE_BIT = 0x0200 };
 
 static uint8_t state[CENDURAK_STATE_LEN], dict[CENDURAK_DICT_LEN], out[CENDURAK_OUT_LEN];
-static uint32_t passed, failed;
-
-static void check(int holds, const char *name)
-{
-    if (holds) {
-        passed++;
-    } else {
-        failed++;
-        printf("FAIL %s\n", name);
-    }
-}
 
 /* ---- calls */
 

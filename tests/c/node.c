@@ -6,6 +6,7 @@
 #include <string.h>
 
 #include "cendurak.h"
+#include "checks.h"
 
 enum { GUARD = 16, GUARD_BYTE = 0xA5, MOST_BYTES = 512 };
 
@@ -20,18 +21,6 @@ struct bench {
     struct buffer state, dict, out;
     uint32_t answer;
 };
-
-static uint32_t passed, failed;
-
-static void check(int holds, const char *name)
-{
-    if (holds) {
-        passed++;
-    } else {
-        failed++;
-        printf("FAIL %s\n", name);
-    }
-}
 
 /* ---- buffers */
 
