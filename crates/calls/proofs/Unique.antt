@@ -1,5 +1,5 @@
--- Each public call's promise determines everything: any two answers that it allows, with every lent byte, are the same. It is stated of
--- the contract as Rattle reads it (`Reads`), and not of a copy.
+-- Each public call's promise determines everything: any two answers that it allows, with every lent byte, are the same; of a call in brief,
+-- the whole answers. It is stated of the contract as Rattle reads it (`Reads`), and not of a copy.
 -- Assumes nothing.
 use Prim.Native.Nat.{ℕ}
 use mathlib.Core.Path.{_≡_, sym, _∙_, ap}
@@ -13,7 +13,7 @@ use Rattle.state.specs.declared.State.{State}
 use Rattle.state.specs.declared.Refusal.{Refusal}
 use Rattle.state.specs.declared.Answer.{Answer}
 use Rattle.rules.specs.Calls.{Outcome}
-use Rattle.answers.specs.Briefs.{outcome}
+use Rattle.answers.specs.Briefs.{outcome, whole}
 use Rattle.calls.proofs.power_up as power-up
 use Rattle.calls.proofs.power_up.Kinds as power-up-kinds
 use Rattle.calls.proofs.power_up.Reads as power-up-reads
@@ -23,6 +23,15 @@ use Rattle.calls.proofs.frame.Reads as frame-reads
 use Rattle.calls.proofs.event as event
 use Rattle.calls.proofs.event.Kinds as event-kinds
 use Rattle.calls.proofs.event.Reads as event-reads
+use Rattle.calls.proofs.brief_power_up as brief-power-up
+use Rattle.calls.proofs.brief_power_up.Kinds as brief-power-up-kinds
+use Rattle.calls.proofs.brief_power_up.Reads as brief-power-up-reads
+use Rattle.calls.proofs.brief_frame as brief-frame
+use Rattle.calls.proofs.brief_frame.Kinds as brief-frame-kinds
+use Rattle.calls.proofs.brief_frame.Reads as brief-frame-reads
+use Rattle.calls.proofs.brief_event as brief-event
+use Rattle.calls.proofs.brief_event.Kinds as brief-event-kinds
+use Rattle.calls.proofs.brief_event.Reads as brief-event-reads
 
 as-answer : {x y : Refusal} {k m : ℕ} {s t : State} → x ≡ y → k ≡ m → s ≡ t →
     _≡_ {A = Answer} (record { refusal = x; frames = k; state = s }) (record { refusal = y; frames = m; state = t })
@@ -52,3 +61,26 @@ module _ (κs : Lfts 3) (a : ArgsD event.signature κs) where
   pub event-unique : (r r′ : ResD event.signature κs) (x x′ : AtExit (endedOf 3 event-kinds.ps event-kinds.r) κs) →
       event-reads.Post κs a r x → event-reads.Post κs a r′ x′ → Same r (now (x .1 .0)) (now (x .1 .1 .0)) r′ (now (x′ .1 .0)) (now (x′ .1 .1 .0))
   event-unique r r′ x x′ p q = same r r′ (now (x .1 .0)) (now (x .1 .1 .0)) (now (x′ .1 .0)) (now (x′ .1 .1 .0)) (p ∙ sym q)
+
+-- ---- in brief
+
+module _ (κs : Lfts 2) (a : ArgsD brief-power-up.signature κs) where
+  pub brief-power-up-unique : (r r′ : ResD brief-power-up.signature κs) (x x′ : AtExit (endedOf 2 brief-power-up-kinds.ps brief-power-up-kinds.r) κs) →
+      brief-power-up-reads.Post κs a r x → brief-power-up-reads.Post κs a r′ x′ →
+      Same (whole (a .0) (now (x .1 .0)) r) (now (x .1 .0)) (now (x .1 .1 .0)) (whole (a .0) (now (x′ .1 .0)) r′) (now (x′ .1 .0)) (now (x′ .1 .1 .0))
+  brief-power-up-unique r r′ x x′ p q =
+      same (whole (a .0) (now (x .1 .0)) r) (whole (a .0) (now (x′ .1 .0)) r′) (now (x .1 .0)) (now (x .1 .1 .0)) (now (x′ .1 .0)) (now (x′ .1 .1 .0)) (p .0 ∙ sym (q .0))
+
+module _ (κs : Lfts 3) (a : ArgsD brief-frame.signature κs) where
+  pub brief-frame-unique : (r r′ : ResD brief-frame.signature κs) (x x′ : AtExit (endedOf 3 brief-frame-kinds.ps brief-frame-kinds.r) κs) →
+      brief-frame-reads.Post κs a r x → brief-frame-reads.Post κs a r′ x′ →
+      Same (whole (a .0) (now (x .1 .0)) r) (now (x .1 .0)) (now (x .1 .1 .0)) (whole (a .0) (now (x′ .1 .0)) r′) (now (x′ .1 .0)) (now (x′ .1 .1 .0))
+  brief-frame-unique r r′ x x′ p q =
+      same (whole (a .0) (now (x .1 .0)) r) (whole (a .0) (now (x′ .1 .0)) r′) (now (x .1 .0)) (now (x .1 .1 .0)) (now (x′ .1 .0)) (now (x′ .1 .1 .0)) (p .0 ∙ sym (q .0))
+
+module _ (κs : Lfts 3) (a : ArgsD brief-event.signature κs) where
+  pub brief-event-unique : (r r′ : ResD brief-event.signature κs) (x x′ : AtExit (endedOf 3 brief-event-kinds.ps brief-event-kinds.r) κs) →
+      brief-event-reads.Post κs a r x → brief-event-reads.Post κs a r′ x′ →
+      Same (whole (a .0) (now (x .1 .0)) r) (now (x .1 .0)) (now (x .1 .1 .0)) (whole (a .0) (now (x′ .1 .0)) r′) (now (x′ .1 .0)) (now (x′ .1 .1 .0))
+  brief-event-unique r r′ x x′ p q =
+      same (whole (a .0) (now (x .1 .0)) r) (whole (a .0) (now (x′ .1 .0)) r′) (now (x .1 .0)) (now (x .1 .1 .0)) (now (x′ .1 .0)) (now (x′ .1 .1 .0)) (p .0 ∙ sym (q .0))
