@@ -19,6 +19,8 @@
 extern "C" {
 #endif
 
+/* ---- places and lengths: tools/header writes them from the source */
+
 /* The lengths of the three buffers. State and dictionary have just these; output has this many bytes or more. */
 #define CENDURAK_STATE_LEN 387u
 #define CENDURAK_DICT_LEN 389u
@@ -28,12 +30,46 @@ extern "C" {
 #define CENDURAK_MOST_FRAMES 6u
 #define CENDURAK_FRAME_LEN 11u
 
+/* In a frame, behind its identifier: how many data bytes it has, and the first of them. */
+#define CENDURAK_FRAME_AT_LENGTH 2u
+#define CENDURAK_FRAME_AT_DATA 3u
+
+/* The first and the last node-ID. */
+#define CENDURAK_FIRST_NODE 1u
+#define CENDURAK_LAST_NODE 127u
+
+/* In the dictionary: 603Fh, 6040h, 6041h, 6061h, 6064h, 606Ch, 607Ah, 6083h, 6084h and 60FFh. */
+#define CENDURAK_DICT_AT_ERROR_CODE 332u
+#define CENDURAK_DICT_AT_CONTROL_WORD 334u
+#define CENDURAK_DICT_AT_STATUS_WORD 336u
+#define CENDURAK_DICT_AT_MODE_DISPLAY 339u
+#define CENDURAK_DICT_AT_POSITION 340u
+#define CENDURAK_DICT_AT_VELOCITY 348u
+#define CENDURAK_DICT_AT_TARGET_POSITION 356u
+#define CENDURAK_DICT_AT_ACCELERATION 373u
+#define CENDURAK_DICT_AT_DECELERATION 377u
+#define CENDURAK_DICT_AT_TARGET_VELOCITY 381u
+
+/* In the state: what the accessors below read. */
+#define CENDURAK_STATE_AT_NMT 1u
+#define CENDURAK_STATE_AT_VOLTAGE 2u
+#define CENDURAK_STATE_AT_DRIVE 5u
+#define CENDURAK_STATE_AT_MODE 6u
+#define CENDURAK_STATE_AT_CAUSE 9u
+#define CENDURAK_STATE_AT_STORE 10u
+#define CENDURAK_STATE_AT_ACTIVE_TARGET 11u
+#define CENDURAK_STATE_AT_ACTIVE_VELOCITY 15u
+#define CENDURAK_STATE_AT_ACTIVE_ACCELERATION 19u
+#define CENDURAK_STATE_AT_ACTIVE_DECELERATION 23u
+
+/* ---- end of places and lengths */
+
 /* The refusals, lowest first. */
 enum cendurak_refusal_number {
     CENDURAK_ACCEPTED = 0,
-    CENDURAK_BAD_DICT_LEN = 1,  /* the dictionary is not 389 bytes */
-    CENDURAK_BAD_OUT_LEN = 2,   /* the output has under 66 bytes */
-    CENDURAK_BAD_NODE_ID = 3,   /* power-up with a node-ID outside 1..127 */
+    CENDURAK_BAD_DICT_LEN = 1,  /* the dictionary is not CENDURAK_DICT_LEN bytes */
+    CENDURAK_BAD_OUT_LEN = 2,   /* the output has under CENDURAK_OUT_LEN bytes */
+    CENDURAK_BAD_NODE_ID = 3,   /* power-up with a node-ID outside CENDURAK_FIRST_NODE..CENDURAK_LAST_NODE */
     CENDURAK_NOT_SOUND = 4,     /* state bytes that are no state, or state and dictionary not sound */
     CENDURAK_BAD_FRAME = 5,     /* an identifier over 7FFh, or more than eight data bytes */
     CENDURAK_BAD_EVENT = 6,     /* an unknown event, a wrong argument size, a voltage flag not 0 or 1, fault code 0 */
@@ -81,32 +117,48 @@ static inline uint32_t cendurak_frames(uint32_t answer)
     return answer % 256u;
 }
 
+/* Two bytes, low byte first; four bytes; and four bytes as a signed value. */
+static inline uint16_t cendurak_half(const uint8_t *bytes)
+{
+    return (uint16_t)(bytes[0] + 256u * bytes[1]);
+}
+
+static inline uint32_t cendurak_word(const uint8_t *bytes)
+{
+    return bytes[0] + 256u * bytes[1] + 65536u * bytes[2] + 16777216u * bytes[3];
+}
+
+static inline int32_t cendurak_signed(const uint8_t *bytes)
+{
+    uint32_t word = cendurak_word(bytes);
+    return word < 0x80000000u ? (int32_t)word : -(int32_t)(0xFFFFFFFFu - word) - 1;
+}
+
 /* Frame i of the output, counted from 0: its identifier, how many data bytes it has, and where they stand. */
 static inline uint16_t cendurak_identifier(const uint8_t *out, uint32_t i)
 {
-    const uint8_t *frame = out + CENDURAK_FRAME_LEN * i;
-    return (uint16_t)(frame[0] + 256u * frame[1]);
+    return cendurak_half(out + CENDURAK_FRAME_LEN * i);
 }
 
 static inline uint8_t cendurak_length(const uint8_t *out, uint32_t i)
 {
-    return out[CENDURAK_FRAME_LEN * i + 2u];
+    return out[CENDURAK_FRAME_LEN * i + CENDURAK_FRAME_AT_LENGTH];
 }
 
 static inline const uint8_t *cendurak_data(const uint8_t *out, uint32_t i)
 {
-    return out + CENDURAK_FRAME_LEN * i + 3u;
+    return out + CENDURAK_FRAME_LEN * i + CENDURAK_FRAME_AT_DATA;
 }
 
 /* The status word, 6041h, as the dictionary holds it. */
 static inline uint16_t cendurak_status_word(const uint8_t *dict)
 {
-    return (uint16_t)(dict[336] + 256u * dict[337]);
+    return cendurak_half(dict + CENDURAK_DICT_AT_STATUS_WORD);
 }
 
 /*
- * What the amplifier follows between two calls, read from the buffers that an accepted call left. The places in the state are those of
- * docs/STATE.md, the places in the dictionary those of its entries, packed in rising order.
+ * What the amplifier follows between two calls, read from the buffers that an accepted call left. docs/STATE.md tells what each byte of the
+ * state is; the dictionary's entries are packed in rising order.
  */
 
 /* The NMT states, and the node's own. */
@@ -118,13 +170,13 @@ enum cendurak_nmt_number {
 
 static inline uint8_t cendurak_nmt(const uint8_t *state)
 {
-    return state[1];
+    return state[CENDURAK_STATE_AT_NMT];
 }
 
 /* The voltage flag, 0 or 1, as the last event 9 gave it. Power-up, by NMT too, puts it to 0: the firmware then has to tell it again. */
 static inline uint8_t cendurak_voltage(const uint8_t *state)
 {
-    return state[2];
+    return state[CENDURAK_STATE_AT_VOLTAGE];
 }
 
 /* The drive states, and the axis's own. */
@@ -141,7 +193,7 @@ enum cendurak_drive_number {
 
 static inline uint8_t cendurak_drive(const uint8_t *state)
 {
-    return state[5];
+    return state[CENDURAK_STATE_AT_DRIVE];
 }
 
 /* The modes, and the one that is in force (6061h). */
@@ -153,31 +205,20 @@ enum cendurak_mode_number {
 
 static inline uint8_t cendurak_mode(const uint8_t *state)
 {
-    return state[6];
+    return state[CENDURAK_STATE_AT_MODE];
 }
 
 /* Whether a fault's cause is present, 0 or 1: since event 3, until event 8. */
 static inline uint8_t cendurak_cause(const uint8_t *state)
 {
-    return state[9];
+    return state[CENDURAK_STATE_AT_CAUSE];
 }
 
 /* How many set-points wait to be reached: 0, 1, or 2 with one queued. Event 6 is in place only where it is not 0. */
 static inline uint32_t cendurak_set_points(const uint8_t *state)
 {
-    return state[10] < 2u ? 0u : state[10] - 1u;
-}
-
-/* Four bytes, low byte first; and the same bytes as a signed value. */
-static inline uint32_t cendurak_word(const uint8_t *bytes)
-{
-    return bytes[0] + 256u * bytes[1] + 65536u * bytes[2] + 16777216u * bytes[3];
-}
-
-static inline int32_t cendurak_signed(const uint8_t *bytes)
-{
-    uint32_t word = cendurak_word(bytes);
-    return word < 0x80000000u ? (int32_t)word : -(int32_t)(0xFFFFFFFFu - word) - 1;
+    uint8_t kind = state[CENDURAK_STATE_AT_STORE];
+    return kind < 2u ? 0u : kind - 1u;
 }
 
 /* A set-point as it was taken: the target, and 6081h, 6083h and 6084h of that moment. */
@@ -189,46 +230,47 @@ struct cendurak_set_point {
 /* The active set-point, which the axis is to move to. Only where cendurak_set_points is not 0. */
 static inline struct cendurak_set_point cendurak_active_set_point(const uint8_t *state)
 {
-    struct cendurak_set_point active = {cendurak_signed(state + 11), cendurak_word(state + 15), cendurak_word(state + 19),
-                                        cendurak_word(state + 23)};
+    struct cendurak_set_point active = {
+        cendurak_signed(state + CENDURAK_STATE_AT_ACTIVE_TARGET), cendurak_word(state + CENDURAK_STATE_AT_ACTIVE_VELOCITY),
+        cendurak_word(state + CENDURAK_STATE_AT_ACTIVE_ACCELERATION), cendurak_word(state + CENDURAK_STATE_AT_ACTIVE_DECELERATION)};
     return active;
 }
 
 /* Objects of the dictionary: error code 603Fh, control word 6040h, position 6064h, velocity 606Ch. */
 static inline uint16_t cendurak_error_code(const uint8_t *dict)
 {
-    return (uint16_t)(dict[332] + 256u * dict[333]);
+    return cendurak_half(dict + CENDURAK_DICT_AT_ERROR_CODE);
 }
 
 static inline uint16_t cendurak_control_word(const uint8_t *dict)
 {
-    return (uint16_t)(dict[334] + 256u * dict[335]);
+    return cendurak_half(dict + CENDURAK_DICT_AT_CONTROL_WORD);
 }
 
 static inline int32_t cendurak_position(const uint8_t *dict)
 {
-    return cendurak_signed(dict + 340);
+    return cendurak_signed(dict + CENDURAK_DICT_AT_POSITION);
 }
 
 static inline int32_t cendurak_velocity(const uint8_t *dict)
 {
-    return cendurak_signed(dict + 348);
+    return cendurak_signed(dict + CENDURAK_DICT_AT_VELOCITY);
 }
 
 /* For profile velocity: acceleration 6083h, deceleration 6084h and target velocity 60FFh. */
 static inline uint32_t cendurak_acceleration(const uint8_t *dict)
 {
-    return cendurak_word(dict + 373);
+    return cendurak_word(dict + CENDURAK_DICT_AT_ACCELERATION);
 }
 
 static inline uint32_t cendurak_deceleration(const uint8_t *dict)
 {
-    return cendurak_word(dict + 377);
+    return cendurak_word(dict + CENDURAK_DICT_AT_DECELERATION);
 }
 
 static inline int32_t cendurak_target_velocity(const uint8_t *dict)
 {
-    return cendurak_signed(dict + 381);
+    return cendurak_signed(dict + CENDURAK_DICT_AT_TARGET_VELOCITY);
 }
 
 #ifdef __cplusplus

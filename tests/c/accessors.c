@@ -56,7 +56,8 @@ static int agrees(void)
 
     return cendurak_drive(state) < 8 && (status & STATE_BITS) == bits[cendurak_drive(state)]
            && cendurak_voltage(state) == (status & VOLTAGE_BIT) / VOLTAGE_BIT
-           && (cendurak_nmt(state) != CENDURAK_NMT_STOPPED) == (status & REMOTE_BIT) / REMOTE_BIT && cendurak_mode(state) == dict[339];
+           && (cendurak_nmt(state) != CENDURAK_NMT_STOPPED) == (status & REMOTE_BIT) / REMOTE_BIT
+           && cendurak_mode(state) == dict[CENDURAK_DICT_AT_MODE_DISPLAY];
 }
 
 static void in_drive(uint8_t drive, const char *name)

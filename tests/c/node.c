@@ -86,6 +86,11 @@ static uint16_t status(struct bench *b)
     return cendurak_status_word(lent(&b->dict));
 }
 
+static uint32_t target_position(struct bench *b)
+{
+    return cendurak_word(lent(&b->dict) + CENDURAK_DICT_AT_TARGET_POSITION);
+}
+
 /* A fresh node of node-ID 5, with room in the output. */
 static void fresh(struct bench *b)
 {
@@ -192,9 +197,9 @@ static void examples_of_pdos(void)
     started(&b);
     nmt(&b, 0x01);
     frame(&b, 0x405, data, 5);
-    check(sent(&b, 0, 0x085, emergency, 8) && lent(&b.dict)[356] == 0, "example 7: five bytes");
+    check(sent(&b, 0, 0x085, emergency, 8) && target_position(&b) == 0, "example 7: five bytes");
     frame(&b, 0x405, data, 6);
-    check(lent(&b.dict)[356] == 0x78 && lent(&b.dict)[359] == 0x12, "example 7: six bytes");
+    check(target_position(&b) == 0x12345678, "example 7: six bytes");
 
     started(&b);
     sdo(&b, 0x23, 0x1801, 1, 0xC0000285);
@@ -202,7 +207,7 @@ static void examples_of_pdos(void)
     sdo(&b, 0x23, 0x1A01, 1, 0x60640020);
     sdo(&b, 0x23, 0x1A01, 2, 0x606C0020);
     sdo(&b, 0x2F, 0x1A01, 0, 2);
-    check(lent(&b.out)[3] == 0x60, "example 8: eight bytes mapped");
+    check(cendurak_data(lent(&b.out), 0)[0] == 0x60, "example 8: eight bytes mapped");
     sdo(&b, 0x2F, 0x1A01, 0, 0);
     sdo(&b, 0x23, 0x1A01, 3, 0x60610008);
     sdo(&b, 0x2F, 0x1A01, 0, 3);
@@ -266,7 +271,9 @@ static void all_refused(struct bench *b, uint32_t refusal, const char *power_up_
 static void refusals_of_lengths(void)
 {
     static struct bench b;
-    static const uint32_t lengths[] = {0, 1, 65, 66, 386, 388, 389, 390, 500};
+    static const uint32_t lengths[] = {
+        0, 1, CENDURAK_OUT_LEN - 1, CENDURAK_OUT_LEN, CENDURAK_STATE_LEN - 1, CENDURAK_STATE_LEN + 1,
+        CENDURAK_DICT_LEN - 1, CENDURAK_DICT_LEN, CENDURAK_DICT_LEN + 1, MOST_BYTES};
 
     for (uint32_t i = 0; i < sizeof lengths / sizeof lengths[0]; i++) {
         uint32_t n = lengths[i];
@@ -278,6 +285,8 @@ static void refusals_of_lengths(void)
         b.out.length = n;
         if (n < CENDURAK_OUT_LEN)
             all_refused(&b, CENDURAK_BAD_OUT_LEN, "power-up, output's length", "frame, output's length", "event, output's length");
+        if (n == CENDURAK_STATE_LEN)
+            continue;
         fresh(&b);
         b.state.length = n;
         before = b;

@@ -1,9 +1,6 @@
 // An answer in brief and whole: the plans, most of a state's bytes, change only where a mapping is written.
 ghost use mathlib.Core.Path.{_≡_};
 ghost use mathlib.Core.Bool.{true, cond};
-ghost use Prim.Native.Nat.{_≤_};
-ghost use lib.ListN.{length};
-ghost use Rattle.rules_dictionary.specs.Table.{dictionaryLength};
 ghost use Rattle.rules_dictionary.specs.Plans.{plansOf};
 ghost use Rattle.answers.specs.Briefs.{refusal, whole, GivesPlans};
 use crate::Brief;

@@ -1,11 +1,12 @@
 // The lines of an answer. Per record: its number, the refusal, 6041h as stored; per frame: its identifier and its data.
-use crate::node::DATA;
-use crate::node::DICTIONARY;
-use crate::node::FRAME_SIZE;
-use crate::node::LENGTH;
-use crate::node::OUTPUT;
-use crate::node::STATUS_WORD;
+use dictionary::places::DICTIONARY_LENGTH;
+use dictionary::places::STATUS_WORD;
 use libc::STDOUT_FILENO;
+use output::DATA;
+use output::FRAME_LENGTH;
+use output::LENGTH;
+use output::MOST_DATA;
+use output::OUTPUT_LENGTH;
 ghost use Prim.Native.Nat.{_<_};
 
 // An upper-case hexadecimal digit.
@@ -15,7 +16,7 @@ fn digit(n: u8) -> u8 {
 }
 
 // The record's line.
-fn print_record(number: u64, refusal: u32, dictionary: &[u8; DICTIONARY]) -> bool {
+fn print_record(number: u64, refusal: u32, dictionary: &[u8; DICTIONARY_LENGTH]) -> bool {
     let low = dictionary[STATUS_WORD];
     let high = dictionary[STATUS_WORD + 1];
     let status = [
@@ -32,8 +33,8 @@ fn print_record(number: u64, refusal: u32, dictionary: &[u8; DICTIONARY]) -> boo
         && io::write_all(STDOUT_FILENO, &status)
 }
 
-// The longest line of a frame: identifier, eight bytes with a space before each, the line's end.
-const MOST_TEXT: usize = 28;
+// The longest line of a frame: the identifier's three digits, two for each byte with a space before them, the line's end.
+const MOST_TEXT: usize = 3 + 3 * MOST_DATA + 1;
 
 // A line as far as it is made: its first bytes, and how many.
 struct Line {
@@ -101,8 +102,8 @@ fn length_of(byte: u8) -> usize
 
 // The line of the n-th frame, from 0. False where the output has no such frame or the line cannot be written.
 fn print_frame(output: &[u8], n: u32) -> bool {
-    let start = FRAME_SIZE * (n as usize);
-    let end = start + FRAME_SIZE;
+    let start = FRAME_LENGTH * (n as usize);
+    let end = start + FRAME_LENGTH;
     if output.len() < end {
         return false;
     }
@@ -130,8 +131,8 @@ fn print_frames(output: &[u8], frames: u32) -> bool {
 pub fn print_answer(
     number: u64,
     status: u32,
-    dictionary: &[u8; DICTIONARY],
-    output: &[u8; OUTPUT],
+    dictionary: &[u8; DICTIONARY_LENGTH],
+    output: &[u8; OUTPUT_LENGTH],
 ) -> bool {
     print_record(number, status / 256, dictionary) && print_frames(output, status % 256)
 }

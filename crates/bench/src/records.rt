@@ -1,13 +1,12 @@
 // One record: payload length (2), kind (2), little-endian, payload.
 use crate::lines::print_answer;
-use crate::node::BAD_RECORD;
-use crate::node::DICTIONARY;
-use crate::node::OUTPUT;
-use crate::node::STATE;
 use cendurak::cendurak_event;
 use cendurak::cendurak_frame;
 use cendurak::cendurak_power_up;
+use dictionary::places::DICTIONARY_LENGTH;
+use form::places::STATE_LENGTH;
 use libc::STDIN_FILENO;
+use output::OUTPUT_LENGTH;
 ghost use Prim.Native.Nat.{_≤_};
 ghost use lib.ListN.{length};
 
@@ -21,6 +20,9 @@ const FRAME: u16 = 1;
 const EVENT: u16 = 2;
 
 const POWER_UP: u16 = 3;
+
+// Refusal 8, a bad record, as an answer: the refusal times 256 plus the number of frames.
+const BAD_RECORD: u32 = 0x800;
 
 // A byte as a number of 32 bits.
 fn wide(byte: u8) -> u32 {
@@ -62,9 +64,9 @@ fn call(
     kind: u16,
     number: u32,
     data: &[u8],
-    state: &mut [u8; STATE],
-    dictionary: &mut [u8; DICTIONARY],
-    output: &mut [u8; OUTPUT],
+    state: &mut [u8; STATE_LENGTH],
+    dictionary: &mut [u8; DICTIONARY_LENGTH],
+    output: &mut [u8; OUTPUT_LENGTH],
 ) -> u32 {
     if kind == FRAME {
         return cendurak_frame(state, dictionary, output, number, data);
@@ -87,9 +89,9 @@ fn read_payload(payload: &mut [u8], count: usize) -> bool
 fn answer(
     kind: u16,
     length: usize,
-    state: &mut [u8; STATE],
-    dictionary: &mut [u8; DICTIONARY],
-    output: &mut [u8; OUTPUT],
+    state: &mut [u8; STATE_LENGTH],
+    dictionary: &mut [u8; DICTIONARY_LENGTH],
+    output: &mut [u8; OUTPUT_LENGTH],
 ) -> u32 {
     let start = least(kind);
     if length < start {
@@ -115,9 +117,9 @@ fn answer(
 
 // The next record, served and its lines printed; false where there is none, it is bad, or its lines cannot be written.
 pub fn serve(
-    state: &mut [u8; STATE],
-    dictionary: &mut [u8; DICTIONARY],
-    output: &mut [u8; OUTPUT],
+    state: &mut [u8; STATE_LENGTH],
+    dictionary: &mut [u8; DICTIONARY_LENGTH],
+    output: &mut [u8; OUTPUT_LENGTH],
     number: u64,
 ) -> bool {
     let mut head = [0u8; HEAD];

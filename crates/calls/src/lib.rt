@@ -12,14 +12,19 @@ use answers::Brief;
 use answers::anew;
 use answers::refuse;
 use answers::with_plans;
+use dictionary::places::DICTIONARY_LENGTH;
 use events::event_of;
 use events::is_bad;
 use events::is_in_place;
+use output::MOST_DATA;
+use output::OUTPUT_LENGTH;
 use powering::start;
 use rules_dictionary::PdoData;
 use served::take_frame;
 use soundness::is_sound;
 use state::Answer;
+use state::FIRST_NODE;
+use state::LAST_NODE;
 use state::Refusal;
 use state::State;
 use told::happen;
@@ -31,29 +36,17 @@ ghost use Rattle.rules.specs.Calls.{powerUpCall, frameCall, eventCall, answer};
 ghost use Rattle.answers.specs.Briefs.{outcome};
 ghost use Rattle.calls.specs.Promise.{InBrief};
 
-// The bytes of a dictionary, and the fewest of an output.
-const DICTIONARY: usize = 389;
-
-const OUTPUT: usize = 66;
-
-// The node-IDs.
-const FIRST_NODE: u32 = 1;
-
-const LAST_NODE: u32 = 127;
-
-// The greatest identifier, and the most data bytes of a frame.
+// The greatest identifier of a frame.
 const LAST_IDENTIFIER: u32 = 0x7FF;
-
-const MOST_DATA: usize = 8;
 
 // Power-up as node n, in brief.
 pub fn brief_power_up(s: State, d: &mut [u8], output: &mut [u8], n: u32) -> Brief
     ensures { λ r. ⌜ InBrief (powerUpCall n) s (now (d .entry)) (now (output .entry)) r (now (d .exit)) (now (output .exit)) ⌝ }
 {
-    if d.len() != DICTIONARY {
+    if d.len() != DICTIONARY_LENGTH {
         return refuse(Refusal::DictionaryLength, s);
     }
-    if output.len() < OUTPUT {
+    if output.len() < OUTPUT_LENGTH {
         return refuse(Refusal::OutputLength, s);
     }
     if n < FIRST_NODE {
@@ -93,10 +86,10 @@ pub fn brief_frame(
 ) -> Brief
     ensures { λ r. ⌜ InBrief (frameCall identifier (now (bytes .entry))) s (now (d .entry)) (now (output .entry)) r (now (d .exit)) (now (output .exit)) ⌝ }
 {
-    if d.len() != DICTIONARY {
+    if d.len() != DICTIONARY_LENGTH {
         return refuse(Refusal::DictionaryLength, s);
     }
-    if output.len() < OUTPUT {
+    if output.len() < OUTPUT_LENGTH {
         return refuse(Refusal::OutputLength, s);
     }
     if !is_sound(s, d) {
@@ -121,10 +114,10 @@ pub fn brief_event(
 ) -> Brief
     ensures { λ r. ⌜ InBrief (eventCall number (now (arguments .entry))) s (now (d .entry)) (now (output .entry)) r (now (d .exit)) (now (output .exit)) ⌝ }
 {
-    if d.len() != DICTIONARY {
+    if d.len() != DICTIONARY_LENGTH {
         return refuse(Refusal::DictionaryLength, s);
     }
-    if output.len() < OUTPUT {
+    if output.len() < OUTPUT_LENGTH {
         return refuse(Refusal::OutputLength, s);
     }
     if !is_sound(s, d) {

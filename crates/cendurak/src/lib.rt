@@ -8,23 +8,16 @@ use answering::leave_brief;
 use calls::brief_event;
 use calls::brief_frame;
 use calls::power_up;
+use dictionary::places::DICTIONARY_LENGTH;
 use form::is_form;
+use form::places::STATE_LENGTH;
 use form::read_state;
+use output::OUTPUT_LENGTH;
+use state::FIRST_NODE;
+use state::LAST_NODE;
 ghost use mathlib.Core.Path.{_≡_};
 ghost use Rattle.rules.specs.Calls.{powerUpCall, frameCall, eventCall};
 ghost use Rattle.cendurak.specs.Boundary.{left, lentAnswer};
-
-// The bytes of the state and the dictionary, and the fewest of the output.
-const STATE: usize = 387;
-
-const DICTIONARY: usize = 389;
-
-const OUTPUT: usize = 66;
-
-// The node-IDs.
-const FIRST_NODE: u32 = 1;
-
-const LAST_NODE: u32 = 127;
 
 // The refusals that need no state, as answers.
 const BAD_DICTIONARY: u32 = 0x100;
@@ -45,10 +38,10 @@ pub extern "C" fn cendurak_power_up(
 ) -> u32
     ensures { λ r. ⌜ left r (now (state .exit)) (now (dict .exit)) (now (out .exit)) ≡ lentAnswer (powerUpCall n) (now (state .entry)) (now (dict .entry)) (now (out .entry)) ⌝ }
 {
-    if dict.len() != DICTIONARY {
+    if dict.len() != DICTIONARY_LENGTH {
         return BAD_DICTIONARY;
     }
-    if out.len() < OUTPUT {
+    if out.len() < OUTPUT_LENGTH {
         return BAD_OUTPUT;
     }
     if n < FIRST_NODE {
@@ -57,7 +50,7 @@ pub extern "C" fn cendurak_power_up(
     if LAST_NODE < n {
         return BAD_NODE;
     }
-    if state.len() != STATE {
+    if state.len() != STATE_LENGTH {
         return NO_STATE;
     }
     let answer = power_up(read_state(state), dict, out, n);
@@ -75,13 +68,13 @@ pub extern "C" fn cendurak_frame(
 ) -> u32
     ensures { λ r. ⌜ left r (now (state .exit)) (now (dict .exit)) (now (out .exit)) ≡ lentAnswer (frameCall identifier (now (bytes .entry))) (now (state .entry)) (now (dict .entry)) (now (out .entry)) ⌝ }
 {
-    if dict.len() != DICTIONARY {
+    if dict.len() != DICTIONARY_LENGTH {
         return BAD_DICTIONARY;
     }
-    if out.len() < OUTPUT {
+    if out.len() < OUTPUT_LENGTH {
         return BAD_OUTPUT;
     }
-    if state.len() != STATE {
+    if state.len() != STATE_LENGTH {
         return NO_STATE;
     }
     if !is_form(state) {
@@ -102,13 +95,13 @@ pub extern "C" fn cendurak_event(
 ) -> u32
     ensures { λ r. ⌜ left r (now (state .exit)) (now (dict .exit)) (now (out .exit)) ≡ lentAnswer (eventCall number (now (arguments .entry))) (now (state .entry)) (now (dict .entry)) (now (out .entry)) ⌝ }
 {
-    if dict.len() != DICTIONARY {
+    if dict.len() != DICTIONARY_LENGTH {
         return BAD_DICTIONARY;
     }
-    if out.len() < OUTPUT {
+    if out.len() < OUTPUT_LENGTH {
         return BAD_OUTPUT;
     }
-    if state.len() != STATE {
+    if state.len() != STATE_LENGTH {
         return NO_STATE;
     }
     if !is_form(state) {

@@ -7,11 +7,13 @@ use native.Mathlib.Nat.{zero-add, add-zero, add-suc, suc-add}
 use native.Mathlib.Numerals.{add-one}
 use native.Mathlib.Omega.{arith}
 use lib.ListN.{length, getD, drop, set, drop-of-length-le}
-use lib.Seq.{sets, paste, paste-suc, take-all, drop-cons}
+use lib.Seq.{paste, paste-suc, take-all, drop-cons}
 use Rattle.rules_dictionary.specs.Numbers.{bytes}
-use Rattle.rules_dictionary.specs.Table.{table, errorCode, errorRegister, dictionaryLength}
+use Rattle.rules_dictionary.specs.Table.{table, errorCode, errorRegister, emergencyIdentifier, eachWay, placeOf, dictionaryLength, open-table}
 use Rattle.rules_dictionary.specs.Values.{store, stored, toDefaults}
 use Rattle.rules_dictionary.proofs.Defaults.{packedDefaults, all-defaults}
+use Rattle.rules_dictionary.proofs.Tests.{In}
+use Rattle.rules_dictionary.proofs.Packing.{within, found-in}
 use Rattle.dictionary.specs.Identifiers.{fourFrom, nodeIdentifiers}
 use Rattle.dictionary.specs.Communication.{communicationObjects}
 
@@ -24,24 +26,24 @@ copied before d s i e hs hd =
     ∙ rw add-one (paste-suc before 0 s i 0 (omega arith) hs)
 
 length-defaults : length (packedDefaults 0 table) ≡ dictionaryLength
-unfolding packedDefaults table bytes
+unfolding packedDefaults table bytes dictionaryLength
 length-defaults = refl
 
 -- 1014h, then the identifiers of either direction
 pub by-direction : (n : ℕ) (d : List ℕ) →
-    fourFrom 177 0x40000180 n (fourFrom 21 0x200 n (sets d 9 (bytes 4 (0x80 + n)))) ≡ stored (toDefaults n nodeIdentifiers) d
-unfolding fourFrom stored store
+    fourFrom eachWay 0x40000180 n (fourFrom 0 0x200 n (store emergencyIdentifier (0x80 + n) d)) ≡ stored (toDefaults n nodeIdentifiers) d
+unfolding fourFrom stored
 by-direction n d = refl
 
 node-bytes : (n : ℕ) → stored (toDefaults n nodeIdentifiers) (packedDefaults 0 table) ≡ packedDefaults n table
-unfolding stored store packedDefaults table bytes
+unfolding stored store packedDefaults open-table bytes
 node-bytes n = refl
 
 -- THE LAW: with the identifiers for the node, the default bytes are the node's
 pub for-node : (n : ℕ) (d : List ℕ) → length d ≡ dictionaryLength →
     stored (toDefaults n nodeIdentifiers) (paste d 0 (packedDefaults 0 table) dictionaryLength) ≡ stored (toDefaults n table) d
 for-node n d h =
-    rw (take-all dictionaryLength (packedDefaults 0 table) (omega (arith, length-defaults)), drop-of-length-le d {i = dictionaryLength} (omega arith), append-nil)
+    rw (zero-add, take-all dictionaryLength (packedDefaults 0 table) (omega (arith, length-defaults)), drop-of-length-le d {i = dictionaryLength} (omega arith), append-nil)
     (node-bytes n ∙ sym (all-defaults n d h))
 
 -- ---- the communication objects
@@ -59,15 +61,19 @@ spread-is d i (suc k) h = rw (drop-cons d i 0 (omega arith)) (ap (λ (l : List �
 abbrev pub communicationBytes : ℕ → List ℕ → List ℕ
 communicationBytes n d =
     stored (toDefaults n nodeIdentifiers)
-    (set (paste d 0 (packedDefaults 0 table) (errorCode .place)) (errorRegister .place) (getD d (errorRegister .place) 0))
+    (set (paste d 0 (packedDefaults 0 table) (placeOf errorCode)) (placeOf errorRegister) (getD d (placeOf errorRegister) 0))
 
 computed : (n : ℕ) (d : List ℕ) →
-    communicationBytes n d ≡ stored (toDefaults n communicationObjects) (spread 0 (errorCode .place) d ++ drop (errorCode .place) d)
-unfolding stored store packedDefaults table bytes communicationObjects
+    communicationBytes n d ≡ stored (toDefaults n communicationObjects) (spread 0 (placeOf errorCode) d ++ drop (placeOf errorCode) d)
+unfolding stored store packedDefaults open-table bytes communicationObjects
 computed n d = refl
+
+code-in : In errorCode table
+unfolding open-table
+code-in = found-in (errorCode .index) (errorCode .subindex) refl
 
 -- THE LAW: the default bytes in front of the drive's, with 1001h put back and the identifiers for the node
 pub communication-for-node : (n : ℕ) (d : List ℕ) → length d ≡ dictionaryLength →
     communicationBytes n d ≡ stored (toDefaults n communicationObjects) d
 communication-for-node n d h =
-    computed n d ∙ ap (λ (l : List ℕ). stored (toDefaults n communicationObjects) l) (spread-is d 0 (errorCode .place) (omega arith))
+    computed n d ∙ ap (λ (l : List ℕ). stored (toDefaults n communicationObjects) l) (rw zero-add at (spread-is d 0 (placeOf errorCode) (omega (arith, within code-in))))

@@ -1,23 +1,32 @@
--- The look-up by lines: the lines of an entry and of its object's first entry tell what is found.
+-- The look-up by the last row up to its index and subindex: that row tells what is found.
 -- Assumes nothing.
-use Prim.Native.Nat.{ℕ, _+_, _*_, _/_, _%_, _<_}
+use Prim.Native.Nat.{ℕ, _+_, _*_, _/_, _^_, _<_, _≤_}
+use native.Mathlib.Decide.{ℕ-discrete}
+use native.Mathlib.Nat.{not-suc-le-zero, lt-trans}
 use native.Mathlib.Omega.{arith}
 use mathlib.Core.Path.{_≡_, refl, sym, _∙_, ap}
 use mathlib.Core.Bool.{Bool, true, false, cond, false≢true}
 use mathlib.Core.List.{List, [], _∷_}
-use borrow.Author.Tests.{eqb-true, ne-eqb}
-use lib.Dec.{eqb}
-use Rattle.rules_dictionary.specs.Numbers.{all}
-use Rattle.rules_dictionary.specs.Table.{Row, Found, found, noObject, noSubindex, search, lookup, table}
+use mathlib.Core.Logic.{_⊎_, ⊎-elim}
+use borrow.Author.Tests.{eqb-true, leb-true, leb-false, eq-eqb, ne-eqb}
+use lib.Dec.{eqb, leb}
+use Rattle.rules_dictionary.specs.Table.{Row, Found, found, noObject, noSubindex, search, lookup, table, key}
 use Rattle.rules_dictionary.proofs.Tests.{and-left, and-right}
-use Rattle.rules_dictionary.proofs.Packing.{key}
-use Rattle.dictionary.specs.declared.Found.the-variants.{Entry, NoObject, NoSubindex}
-use Rattle.dictionary.specs.Entries.{foundOf}
-use Rattle.dictionary.specs.Lines.{Line, lineIn, lineOf, linesIn, linesOf, linesAt, entryIn}
+use Rattle.dictionary.specs.Lines.{lineOf, spotOf, lastFrom, lastUpTo}
+use Rattle.dictionary.proofs.Order.{orderly, table-orderly, rise, Next, next, rest, above-all, last-from, key-of, last-in}
 
--- ---- the search, row by row
+-- ---- the look-up, by the last row up to the key
 
 module _ (i s : ℕ) where
+  at-end : search true i s [] ≡ noSubindex
+  unfolding search
+  at-end = refl
+
+  at-end-unseen : search false i s [] ≡ noObject
+  unfolding search
+  at-end-unseen = refl
+
+  -- one row of the search
   cases : (a b : Bool) (x : Row) (f g : Found) →
       elim a [ true ↦ elim b [ true ↦ found x | false ↦ f ] | false ↦ g ] ≡ cond a (cond b (found x) f) g
   cases true true x f g = refl
@@ -29,127 +38,133 @@ module _ (i s : ℕ) where
   unfolding search
   one-row b x xs = cases (eqb (x .index) i) (eqb (x .subindex) s) x (search true i s xs) (search b i s xs)
 
-  -- an object that was seen is there
-  there : (xs : List Row) → search true i s xs ≡ noObject → ⊥
-  unfolding search
-  there [] e = let z : _≡_ {A = ℕ} 0 1 = cc in absurd (omega arith)
-  there (x ∷ xs) e = go (eqb (x .index) i) (eqb (x .subindex) s) (sym (one-row true x xs) ∙ e) (there xs)
+  -- the object's rows are taken as they are, seen before or not
+  unmarked : (x : Row) (xs : List Row) → x .index ≡ i → search true i s (x ∷ xs) ≡ search false i s (x ∷ xs)
+  unmarked x xs e = rw (one-row true x xs, one-row false x xs) (simp (eq-eqb (x .index) i e))
+
+  at-row : (b : Bool) (x : Row) (xs : List Row) → x .index ≡ i → x .subindex ≡ s → search b i s (x ∷ xs) ≡ found x
+  at-row b x xs e f = one-row b x xs ∙ simp (eq-eqb (x .index) i e, eq-eqb (x .subindex) s f)
+
+  of-object : (b : Bool) (x : Row) (xs : List Row) → x .index ≡ i → (x .subindex ≡ s → ⊥) → search b i s (x ∷ xs) ≡ search true i s xs
+  of-object b x xs e f = one-row b x xs ∙ simp (eq-eqb (x .index) i e, ne-eqb (x .subindex) s f)
+
+  past : (b : Bool) (x : Row) (xs : List Row) → (x .index ≡ i → ⊥) → search b i s (x ∷ xs) ≡ search b i s xs
+  past b x xs e = one-row b x xs ∙ simp (ne-eqb (x .index) i e)
+
+module _ (i s : ℕ) (small : s < 256) where
+  -- what the last row up to the key tells
+  pub answer : Row → Found
+  answer x = cond (eqb (key x) (i * 256 + s)) (found x) (cond (eqb (key x / 256) i) noSubindex noObject)
+
+  -- once the object is seen, no row above the key tells more
+  skipped : (x : Row) (xs : List Row) → x .subindex < 256 → i * 256 + s < key x → search true i s (x ∷ xs) ≡ search true i s xs
+  skipped x xs h a = go (ℕ-discrete (x .index) i)
     where
-      go : (a b : Bool) → cond a (cond b (found x) (search true i s xs)) (search true i s xs) ≡ noObject →
-          (search true i s xs ≡ noObject → ⊥) → ⊥
-      go true true e more = let z : _≡_ {A = ℕ} 0 1 = cc in absurd (omega arith)
-      go true false e more = more e
-      go false b e more = more e
+      go : Dec (x .index ≡ i) → search true i s (x ∷ xs) ≡ search true i s xs
+      go (yes e) = of-object i s true x xs e (λ f. omega arith)
+      go (no e) = past i s true x xs e
 
-  -- what is true of every row's index is true of an object that is there
-  of-object : (f : ℕ → Bool) (xs : List Row) → all (λ x. f (x .index)) xs ≡ true → search false i s xs ≡ noSubindex → f i ≡ true
-  unfolding search
-  of-object f [] h e = let z : _≡_ {A = ℕ} 0 1 = cc in absurd (omega arith)
-  of-object f (x ∷ xs) h e =
-      go (eqb (x .index) i) refl (sym (one-row false x xs) ∙ e) (of-object f xs (and-right (f (x .index)) (all (λ y. f (y .index)) xs) h))
+  seen-above : (x : Row) (xs : List Row) → rise x xs ≡ true → x .subindex < 256 → i * 256 + s < key x → search true i s (x ∷ xs) ≡ noSubindex
+  seen-above x [] r h a = skipped x [] h a ∙ at-end i s
+  seen-above x (y ∷ ys) r h a =
+      let n = next x y ys r in
+      skipped x (y ∷ ys) h a ∙ seen-above y ys (rest x y ys r) (n .small) (lt-trans a (n .above))
+
+  -- no row of a higher object tells anything
+  none-above : (x : Row) (xs : List Row) → rise x xs ≡ true → i < x .index → search false i s (x ∷ xs) ≡ noObject
+  none-above x [] r a = past i s false x [] (λ e. omega arith) ∙ at-end-unseen i s
+  none-above x (y ∷ ys) r a =
+      let n = next x y ys r in
+      past i s false x (y ∷ ys) (λ e. omega arith) ∙ none-above y ys (rest x y ys r) (omega (arith, n .above, n .small))
+
+  -- a row with nothing but rows above the key behind it
+  ends-here : (x : Row) (xs : List Row) → x .subindex < 256 → key x ≤ i * 256 + s → search true i s xs ≡ noSubindex →
+      (x .index < i → search false i s xs ≡ noObject) → search false i s (x ∷ xs) ≡ answer x
+  unfolding answer
+  ends-here x xs h a seen none = go (ℕ-discrete (x .index) i) (ℕ-discrete (x .subindex) s)
     where
-      go : (a : Bool) → eqb (x .index) i ≡ a →
-          cond a (cond (eqb (x .subindex) s) (found x) (search true i s xs)) (search false i s xs) ≡ noSubindex →
-          (search false i s xs ≡ noSubindex → f i ≡ true) → f i ≡ true
-      go true q e more = ap f (sym (eqb-true _ _ q)) ∙ and-left (f (x .index)) (all (λ y. f (y .index)) xs) h
-      go false q e more = more e
+      go : Dec (x .index ≡ i) → Dec (x .subindex ≡ s) → search false i s (x ∷ xs) ≡ answer x
+      go (yes e) (yes f) = at-row i s false x xs e f ∙ simp (eq-eqb (key x) (i * 256 + s) (omega arith))
+      go (yes e) (no f) =
+          of-object i s false x xs e f ∙ seen
+          ∙ simp (ne-eqb (key x) (i * 256 + s) (λ q. f (omega arith)), eq-eqb (key x / 256) i (omega arith))
+      go (no e) f =
+          past i s false x xs e ∙ none (omega arith)
+          ∙ simp (ne-eqb (key x) (i * 256 + s) (λ q. e (omega arith)), ne-eqb (key x / 256) i (λ q. e (omega arith)))
 
--- an object that is not there is not there at another subindex
-nowhere : (i s t : ℕ) (xs : List Row) → search false i s xs ≡ noObject → search false i t xs ≡ noObject
-unfolding search
-nowhere i s t [] e = refl
-nowhere i s t (x ∷ xs) e =
-    one-row i t false x xs
-    ∙ go (eqb (x .index) i) (eqb (x .subindex) s) (sym (one-row i s false x xs) ∙ e) (nowhere i s t xs)
-  where
-    go : (a b : Bool) → cond a (cond b (found x) (search true i s xs)) (search false i s xs) ≡ noObject →
-        (search false i s xs ≡ noObject → search false i t xs ≡ noObject) →
-        cond a (cond (eqb (x .subindex) t) (found x) (search true i t xs)) (search false i t xs) ≡ noObject
-    go true true e more = let z : _≡_ {A = ℕ} 0 1 = cc in absurd (omega arith)
-    go true false e more = absurd (there i s xs e)
-    go false b e more = more e
-
--- ---- a key that no row has
-
--- it differs from the keys of these rows, in their order, as the last arm of the code's table knows
-abbrev pub Unlike : Type 0 → ℕ → List Row → Type 0
-Unlike before k [] = before
-Unlike before k (x ∷ xs) = Unlike (before × (k ≡ key x → ⊥)) k xs
-
-before-them : (P : Type 0) (k : ℕ) (xs : List Row) → Unlike P k xs → P
-before-them P k [] h = h
-before-them P k (x ∷ xs) h = before-them (P × (k ≡ key x → ⊥)) k xs h .0
-
-unlisted : (b : Bool) (P : Type 0) (k : ℕ) (xs : List Row) → Unlike P k xs → linesOf (search b (k / 256) (k % 256) xs) ≡ []
-unfolding search
-unlisted true P k [] h = refl
-unlisted false P k [] h = refl
-unlisted b P k (x ∷ xs) h =
-    let i = k / 256 in
-    let s = k % 256 in
-    let more = P × (k ≡ key x → ⊥) in
-    ap linesOf (one-row i s b x xs)
-    ∙ go (eqb (x .index) i) (eqb (x .subindex) s) refl refl (before-them more k xs h .1) (unlisted true more k xs h) (unlisted b more k xs h)
-  where
-    go : (m n : Bool) → eqb (x .index) (k / 256) ≡ m → eqb (x .subindex) (k % 256) ≡ n → (k ≡ key x → ⊥) →
-        linesOf (search true (k / 256) (k % 256) xs) ≡ [] → linesOf (search b (k / 256) (k % 256) xs) ≡ [] →
-        linesOf (cond m (cond n (found x) (search true (k / 256) (k % 256) xs)) (search b (k / 256) (k % 256) xs)) ≡ []
-    go true true p q other f g =
-        let a : x .index ≡ k / 256 = eqb-true _ _ p in
-        let c : x .subindex ≡ k % 256 = eqb-true _ _ q in
-        absurd (other (omega arith))
-    go true false p q other f g = f
-    go false n p q other f g = g
-
-pub no-line : (k : ℕ) → Unlike (Unit {0}) k table → linesIn 0 ≡ linesAt k
-unfolding lookup
-no-line k h = sym (unlisted false (Unit {0}) k table h)
-
--- ---- what the code answers, by its lines
-
-some : List Line → Bool
-some [] = false
-some (l ∷ ls) = true
-
--- every object has an entry at subindex 0
-begun : all (λ x. some (linesOf (lookup (x .index) 0))) table ≡ true
-unfolding some table lookup search
-begun = refl
-
--- where nothing is found, the object's first entry tells whether the object is there
-by-first : (i s : ℕ) (f : Found) → lookup i s ≡ f → linesOf f ≡ [] → f ≡ cond (some (linesOf (lookup i 0))) noSubindex noObject
-unfolding some lookup
-by-first i s (found x) e h = let z : _≡_ {A = ℕ} 0 1 = cc in absurd (omega arith)
-by-first i s noObject e h = ap (λ (f : Found). cond (some (linesOf f)) noSubindex noObject) (sym (nowhere i s 0 table e))
-by-first i s noSubindex e h =
-    ap (λ (b : Bool). cond b noSubindex noObject) (sym (of-object i s (λ j. some (linesOf (lookup j 0))) table begun e))
-
--- the line of a key is that of its index and subindex
-key-of : (line k i s : ℕ) → linesIn line ≡ linesAt k → k ≡ i * 256 + s → s < 256 → linesIn line ≡ linesOf (lookup i s)
-key-of line k i s e h small =
-    let a : k / 256 ≡ i = omega arith in
-    let b : k % 256 ≡ s = omega arith in
-    rw (a, b) at e
-
-module _ (i s : ℕ) (small : s < 256) (line k : ℕ) (e : linesIn line ≡ linesAt k) (h : k ≡ i * 256 + s) where
-  pub tells-entry : (line ≡ 0 → ⊥) → Entry (entryIn line) ≡ foundOf (lookup i s)
-  tells-entry n = go (lookup i s) (simp (ne-eqb line 0 n) at (key-of line k i s e h small))
+  -- a row below one that is not above the key
+  goes-on : (x y : Row) (ys : List Row) → Next x y → key y ≤ i * 256 + s → search false i s (x ∷ y ∷ ys) ≡ search false i s (y ∷ ys)
+  goes-on x y ys n h = go (ℕ-discrete (x .index) i)
     where
-      go : (f : Found) → (lineIn line ∷ []) ≡ linesOf f → Entry (entryIn line) ≡ foundOf f
-      go (found x) e = let same : lineIn line ≡ lineOf x = cc in ap (λ (l : Line). Entry (l .entry)) same
-      go noObject e = let z : _≡_ {A = ℕ} 0 1 = cc in absurd (omega arith)
-      go noSubindex e = let z : _≡_ {A = ℕ} 0 1 = cc in absurd (omega arith)
+      go : Dec (x .index ≡ i) → search false i s (x ∷ y ∷ ys) ≡ search false i s (y ∷ ys)
+      go (yes e) =
+          let f : y .index ≡ i = omega (arith, n .above, n .small) in
+          of-object i s false x (y ∷ ys) e (λ q. omega (arith, n .above)) ∙ unmarked i s y ys f
+      go (no e) = past i s false x (y ∷ ys) e
 
-  module _ (none : line ≡ 0) (first j : ℕ) (f : linesIn first ≡ linesAt j) (g : j ≡ i * 256) where
-    by-line : lookup i s ≡ cond (some (linesIn first)) noSubindex noObject
-    by-line =
-        by-first i s (lookup i s) refl (sym (rw none at (key-of line k i s e h small)))
-        ∙ ap (λ (l : List Line). cond (some l) noSubindex noObject) (sym (key-of first j i 0 f (omega arith) (omega arith)))
+  last-tells : (x : Row) (xs : List Row) → rise x xs ≡ true → x .subindex < 256 → key x ≤ i * 256 + s →
+      search false i s (x ∷ xs) ≡ answer (lastFrom (i * 256 + s) x xs)
+  last-tells x [] r h a = ends-here x [] h a (at-end i s) (λ _. at-end-unseen i s)
+  last-tells x (y ∷ ys) r h a =
+      go (leb (key y) (i * 256 + s)) refl (next x y ys r) (last-tells y ys (rest x y ys r) (next x y ys r .small))
+    where
+      go : (b : Bool) → leb (key y) (i * 256 + s) ≡ b → Next x y →
+          (key y ≤ i * 256 + s → search false i s (y ∷ ys) ≡ answer (lastFrom (i * 256 + s) y ys)) →
+          search false i s (x ∷ y ∷ ys) ≡ answer (lastFrom (i * 256 + s) x (y ∷ ys))
+      go true e n more = simp e (goes-on x y ys n (leb-true _ _ e) ∙ more (leb-true _ _ e))
+      go false e n more =
+          let over : i * 256 + s < key y = leb-false _ _ e in
+          simp e
+          (ends-here x (y ∷ ys) h a (seen-above y ys (rest x y ys r) (n .small) over)
+          (λ l. none-above y ys (rest x y ys r) (⊎-elim (λ q. omega arith) (λ q. omega arith) (n .begins))))
 
-    pub tells-no-subindex : (first ≡ 0 → ⊥) → NoSubindex ≡ foundOf (lookup i s)
-    unfolding some
-    tells-no-subindex n = rw by-line (simp (ne-eqb first 0 n))
+  -- of rows in order, the last up to the key tells what a search finds
+  told : (xs : List Row) → orderly xs ≡ true → search false i s xs ≡ answer (lastUpTo (i * 256 + s) xs)
+  unfolding orderly lastUpTo answer
+  told [] o = absurd (false≢true o)
+  told (x ∷ xs) o =
+      go (leb (key x) (i * 256 + s)) refl (eqb-true _ _ (and-left (eqb (x .subindex) 0) (rise x xs) o))
+      (and-right (eqb (x .subindex) 0) (rise x xs) o)
+    where
+      go : (b : Bool) → leb (key x) (i * 256 + s) ≡ b → x .subindex ≡ 0 → rise x xs ≡ true →
+          search false i s (x ∷ xs) ≡ answer (lastFrom (i * 256 + s) x xs)
+      go true e z r = last-tells x xs r (omega arith) (leb-true _ _ e)
+      go false e z r =
+          let over : i * 256 + s < key x = leb-false _ _ e in
+          let first : lastFrom (i * 256 + s) x xs ≡ x =
+          last-from (i * 256 + s) x xs 0 r (omega arith) (λ h. absurd (not-suc-le-zero h)) (λ h. lt-trans over (above-all x xs 0 r h)) in
+          none-above x xs r (omega arith)
+          ∙ rw first (simp (ne-eqb (key x) (i * 256 + s) (λ q. omega arith), ne-eqb (key x / 256) i (λ q. omega arith)))
 
-    pub tells-no-object : first ≡ 0 → NoObject ≡ foundOf (lookup i s)
-    unfolding some
-    tells-no-object z = rw (by-line, z)
+  -- THE LAW: the last row up to the key tells what the look-up finds
+  pub looked-up : lookup i s ≡ answer (lastUpTo (i * 256 + s) table)
+  unfolding lookup
+  looked-up = told table table-orderly
+
+-- ---- what the look-up finds, by the last row up to the key
+
+module _ (i s : ℕ) (small : s < 256) (x : Row) (e : x ≡ lastUpTo (i * 256 + s) table) (there : ℕ) (the-key : there ≡ key x) where
+  found-by : lookup i s ≡ answer i s small x
+  found-by = looked-up i s small ∙ ap (answer i s small) (sym e)
+
+  pub is-entry : there ≡ i * 256 + s → lookup i s ≡ found x
+  unfolding answer
+  is-entry h = rw found-by (simp (eq-eqb (key x) (i * 256 + s) (sym the-key ∙ h)))
+
+  pub is-no-subindex : (there ≡ i * 256 + s → ⊥) → there / 256 ≡ i → lookup i s ≡ noSubindex
+  unfolding answer
+  is-no-subindex h o =
+      rw found-by
+      (simp (
+        ne-eqb (key x) (i * 256 + s) (λ q. h (the-key ∙ q)),
+        eq-eqb (key x / 256) i (ap (λ (l : ℕ). l / 256) (sym the-key) ∙ o),
+      ))
+
+  pub is-no-object : (there ≡ i * 256 + s → ⊥) → (there / 256 ≡ i → ⊥) → lookup i s ≡ noObject
+  unfolding answer
+  is-no-object h o =
+      rw found-by
+      (simp (
+        ne-eqb (key x) (i * 256 + s) (λ q. h (the-key ∙ q)),
+        ne-eqb (key x / 256) i (λ q. o (ap (λ (l : ℕ). l / 256) the-key ∙ q)),
+      ))

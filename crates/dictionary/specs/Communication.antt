@@ -8,7 +8,7 @@ use Rattle.rules_dictionary.specs.Table.{Row, table, same, errorRegister, error
 
 -- in front of the drive's rows, of which 603Fh is the first
 abbrev pub isCommunication : Row → Bool
-isCommunication x = ltb (x .place) (errorCode .place) && not (same x errorRegister)
+isCommunication x = ltb (x .index) (errorCode .index) && not (same x errorRegister)
 
 unfoldable pub communicationObjects : List Row
 communicationObjects = filter isCommunication table

@@ -6,6 +6,8 @@ use Rattle.dictionary.specs.declared.Access.the-variants.{Constant, Node
 use Rattle.dictionary.specs.declared.Role.{Role}
 use Rattle.dictionary.specs.declared.Role.the-variants.{Plain, ModeOfOperation, PdoIdentifier, PdoType, MappingCount, MappingEntry}
 use Rattle.dictionary.specs.declared.Entry.{Entry}
+use Rattle.dictionary.specs.declared.Presence.{Presence}
+use Rattle.dictionary.specs.declared.Presence.the-variants as presence
 use Rattle.dictionary.specs.declared.Found.{Found}
 use Rattle.dictionary.specs.declared.Found.the-variants as found
 
@@ -25,7 +27,7 @@ roleOf (rows.mappingEntry p) = MappingEntry p
 abbrev pub entryOf : rows.Row → Entry
 entryOf x =
     record {
-      place = x .place;
+      place = rows.placeOf x;
       size = rows.sizeOf x;
       access = accessOf (x .access);
       least = x .range .least;
@@ -37,3 +39,8 @@ abbrev pub foundOf : rows.Found → Found
 foundOf (rows.found x) = found.Entry (entryOf x)
 foundOf rows.noObject = found.NoObject
 foundOf rows.noSubindex = found.NoSubindex
+
+abbrev pub presenceOf : rows.Found → Presence
+presenceOf (rows.found x) = presence.Listed
+presenceOf rows.noObject = presence.NoObject
+presenceOf rows.noSubindex = presence.NoSubindex

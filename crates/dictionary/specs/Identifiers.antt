@@ -2,20 +2,16 @@
 -- Assumes nothing.
 use Prim.Native.Nat.{ℕ, _+_}
 use mathlib.Core.List.{List, _∷_, map}
-use lib.Seq.{sets}
-use Rattle.rules_dictionary.specs.Numbers.{bytes}
 use Rattle.rules_dictionary.specs.Table.{Row, emergencyIdentifier, identifier, pdos}
+use Rattle.rules_dictionary.specs.Values.{store}
 
--- four values in steps of 100h, six bytes apart
+-- of four PDOs in a row, in steps of 100h
 unfoldable pub fourFrom : ℕ → ℕ → ℕ → List ℕ → List ℕ
-fourFrom place first n d =
-    sets
-    (sets
-    (sets (sets d place (bytes 4 (first + n))) (place + 6) (bytes 4 (first + 0x100 + n)))
-    (place + 12)
-    (bytes 4 (first + 0x200 + n)))
-    (place + 18)
-    (bytes 4 (first + 0x300 + n))
+fourFrom p first n d =
+    store (identifier (p + 3)) (first + 0x300 + n)
+    (store (identifier (p + 2)) (first + 0x200 + n)
+    (store (identifier (p + 1)) (first + 0x100 + n)
+    (store (identifier p) (first + n) d)))
 
 -- the rows whose default counts up from the node-ID
 abbrev pub nodeIdentifiers : List Row

@@ -1,23 +1,23 @@
 // The defaults.
-use crate::values::write4;
+use crate::objects::set_emergency_identifier;
+use crate::places::DICTIONARY_LENGTH;
+use crate::places::EACH_WAY;
+use crate::places::ERROR_CODE;
+use crate::places::ERROR_REGISTER;
+use crate::records::set_identifier;
 ghost use mathlib.Core.Path.{_≡_};
-ghost use Prim.Native.Nat.{_+_, _≤_};
+ghost use Prim.Native.Nat.{_≤_};
 ghost use lib.ListN.{length};
 ghost use lib.Seq.{paste};
-ghost use Rattle.rules_dictionary.specs.Table.{table, dictionaryLength};
+ghost use Rattle.rules_dictionary.specs.TheNode.{firstNode, lastNode};
+ghost use Rattle.rules_dictionary.specs.Table.{table, eachWay, dictionaryLength};
 ghost use Rattle.rules_dictionary.specs.Values.{stored, toDefaults};
 ghost use Rattle.rules_dictionary.proofs.Defaults.{packedDefaults};
 ghost use Rattle.dictionary.specs.Identifiers.{fourFrom, nodeIdentifiers};
 ghost use Rattle.dictionary.specs.Communication.{communicationObjects};
 
-// Where 1001h stands.
-const ERROR_REGISTER: usize = 4;
-
-// Where the drive's objects begin, behind the communication objects.
-const DRIVE_OBJECTS: usize = 332;
-
 // The default bytes, an object a line, without the node-ID: the packed defaults of the definitions' table, by one computed test.
-const DEFAULTS: [u8; 389] = *b"\
+const DEFAULTS: [u8; DICTIONARY_LENGTH] = *b"\
     \x92\x01\x02\0\
     \0\
     \x80\0\0\0\
@@ -71,44 +71,45 @@ fn write_first(d: &mut [u8], count: usize)
     }
 }
 
-// The identifiers of the four PDOs of a direction, in steps of 100h, plus n.
-fn write_identifiers(d: &mut [u8], place: usize, first: u32, n: u8)
-    requires { ⌜ ((place + 22 ≤ length (now d)) × (first ≤ 0x40000180)) × (n ≤ 127) ⌝ }
-    ensures { λ r. ⌜ now (d .exit) ≡ fourFrom place first n (now (d .entry)) ⌝ }
+// The identifiers of the four PDOs from PDO p on, in steps of 100h, plus n.
+fn write_identifiers(d: &mut [u8], p: usize, first: u32, n: u8)
+    requires { ⌜ (length (now d) ≡ dictionaryLength) × ((p ≤ eachWay) × ((first ≤ 0x40000180) × (n ≤ lastNode))) ⌝ }
+    ensures { λ r. ⌜ now (d .exit) ≡ fourFrom p first n (now (d .entry)) ⌝ }
 {
     let node = n as u32;
-    write4(d, place, first + node);
-    write4(d, place + 6, first + 0x100 + node);
-    write4(d, place + 12, first + 0x200 + node);
-    write4(d, place + 18, first + 0x300 + node);
+    set_identifier(d, p, first + node);
+    set_identifier(d, p + 1, first + 0x100 + node);
+    set_identifier(d, p + 2, first + 0x200 + node);
+    set_identifier(d, p + 3, first + 0x300 + node);
 }
 
 // The identifiers that count up from the node-ID, 1014h and those of the PDOs, to their defaults on node n.
 fn write_node_identifiers(d: &mut [u8], n: u8)
-    requires { ⌜ (length (now d) ≡ dictionaryLength) × (n ≤ 127) ⌝ }
+    requires { ⌜ (length (now d) ≡ dictionaryLength) × (n ≤ lastNode) ⌝ }
     ensures { λ r. ⌜ now (d .exit) ≡ stored (toDefaults n nodeIdentifiers) (now (d .entry)) ⌝ }
 {
-    write4(d, 9, 0x80 + (n as u32));
-    write_identifiers(d, 21, 0x200, n);
-    write_identifiers(d, 177, 0x4000_0180, n);
+    set_emergency_identifier(d, 0x80 + (n as u32));
+    write_identifiers(d, 0, 0x200, n);
+    write_identifiers(d, EACH_WAY, 0x4000_0180, n);
 }
 
 // Every row to its default on node n.
 pub fn write_defaults(d: &mut [u8], n: u8)
-    requires { ⌜ (length (now d) ≡ dictionaryLength) × ((1 ≤ n) × (n ≤ 127)) ⌝ }
+    requires { ⌜ (length (now d) ≡ dictionaryLength) × ((firstNode ≤ n) × (n ≤ lastNode)) ⌝ }
     ensures { λ r. ⌜ now (d .exit) ≡ stored (toDefaults n table) (now (d .entry)) ⌝ }
 {
-    write_first(d, 389);
+    write_first(d, DICTIONARY_LENGTH);
     write_node_identifiers(d, n);
 }
 
-// The communication objects, 1000h to 1FFFh without 1001h, to their defaults on node n.
+// The communication objects, 1000h to 1FFFh without 1001h, to their defaults on node n: all in front of the drive's, of which 603Fh is
+// the first.
 pub fn write_communication_defaults(d: &mut [u8], n: u8)
-    requires { ⌜ (length (now d) ≡ dictionaryLength) × ((1 ≤ n) × (n ≤ 127)) ⌝ }
+    requires { ⌜ (length (now d) ≡ dictionaryLength) × ((firstNode ≤ n) × (n ≤ lastNode)) ⌝ }
     ensures { λ r. ⌜ now (d .exit) ≡ stored (toDefaults n communicationObjects) (now (d .entry)) ⌝ }
 {
     let register = d[ERROR_REGISTER];
-    write_first(d, DRIVE_OBJECTS);
+    write_first(d, ERROR_CODE);
     d[ERROR_REGISTER] = register;
     write_node_identifiers(d, n);
 }

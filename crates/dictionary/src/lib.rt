@@ -1,5 +1,8 @@
 // The object dictionary: values in its bytes, the flat table of its rows, its defaults.
 
+pub mod places; // where the values stand
+pub mod objects; // the objects that the node itself reads and writes
+pub mod records; // the records of the PDOs
 mod values; // a value read and written at a place
 mod table; // the rows, and the look-up by index and subindex
 mod defaults; // the values after power-up
@@ -7,6 +10,7 @@ mod defaults; // the values after power-up
 pub use defaults::write_communication_defaults;
 pub use defaults::write_defaults;
 pub use table::find;
+pub use table::seek;
 pub use values::read;
 pub use values::read1;
 pub use values::read2;
@@ -41,6 +45,13 @@ pub struct Entry {
     pub least: u32,
     pub greatest: u32,
     pub role: Role,
+}
+
+// Whether there is an entry.
+pub enum Presence {
+    Listed,
+    NoObject,
+    NoSubindex,
 }
 
 // What a look-up finds.

@@ -2,154 +2,226 @@
 use crate::Access;
 use crate::Entry;
 use crate::Found;
+use crate::Presence;
 use crate::Role;
+use crate::places;
+use crate::records::communication_place;
+use crate::records::mapping_place;
 ghost use mathlib.Core.Path.{_≡_};
-ghost use Rattle.rules_dictionary.specs.Table.{lookup};
-ghost use Rattle.dictionary.specs.Entries.{foundOf};
-ghost use Rattle.dictionary.specs.Lines.{accessIn, leastIn, greatestIn, roleIn, entryIn, linesIn, linesAt};
+ghost use mathlib.Core.List.{map};
+ghost use Prim.Native.Nat.{_-_, _<_, _≤_, _^_};
+ghost use Rattle.rules_dictionary.specs.Table.{table, entries, rowAt, placeOf, lookup};
+ghost use Rattle.dictionary.specs.Entries.{foundOf, presenceOf};
+ghost use Rattle.dictionary.specs.Lines.{lineOf, lastUpTo, accessIn, leastIn, greatestIn, roomOf, roleIn, PdoIn, communicationOffset, mappingOffset, sizesFrom, drivePlace, placeIn, entryIn, spotOf};
 
-// What stands for no line.
-const NO_LINE: u32 = 0;
+// What a line of the table holds: index and subindex, six digits, stand above one byte, ..
+const KEY: u32 = 0x100;
 
-// The table, a row a line, in rising order of index and subindex, which are the digits of `key`. The digits of a line, in hex:
-// - type: 1, 2, 4 unsigned, 9, C signed, which is the size in bytes, and 8 for a sign;
-// - access: 0 constant, 1 node-written, 2 writable;
-// - range: 0 the type's, 1 from 1, 7 up to 7FFFFFFFh, 8 up to 8;
-// - role: 0 plain, 1 mode of operation, 2 PDO identifier, 3 PDO type, 4 mapping count, 5 mapping entry;
-// - the role's PDO;
-// - place.
-// A `match`, since it compiles to tests and jumps; an array would be built on the stack at each look-up.
-fn line_at(key: u32) -> u32
-    ensures { λ r. ⌜ linesIn r ≡ linesAt key ⌝ }
-{
-    match key {
-        0x1000_00 => 0x4_0_0_0_0_000,
-        0x1001_00 => 0x1_1_0_0_0_004,
-        0x1005_00 => 0x4_0_0_0_0_005,
-        0x1014_00 => 0x4_0_0_0_0_009,
-        0x1017_00 => 0x2_2_0_0_0_00D,
-        0x1018_00 => 0x1_0_0_0_0_00F,
-        0x1018_01 => 0x4_0_0_0_0_010,
-        0x1400_00 => 0x1_0_0_0_0_014,
-        0x1400_01 => 0x4_2_0_2_0_015,
-        0x1400_02 => 0x1_2_0_3_0_019,
-        0x1401_00 => 0x1_0_0_0_0_01A,
-        0x1401_01 => 0x4_2_0_2_1_01B,
-        0x1401_02 => 0x1_2_0_3_1_01F,
-        0x1402_00 => 0x1_0_0_0_0_020,
-        0x1402_01 => 0x4_2_0_2_2_021,
-        0x1402_02 => 0x1_2_0_3_2_025,
-        0x1403_00 => 0x1_0_0_0_0_026,
-        0x1403_01 => 0x4_2_0_2_3_027,
-        0x1403_02 => 0x1_2_0_3_3_02B,
-        0x1600_00 => 0x1_2_8_4_0_02C,
-        0x1600_01 => 0x4_2_0_5_0_02D,
-        0x1600_02 => 0x4_2_0_5_0_031,
-        0x1600_03 => 0x4_2_0_5_0_035,
-        0x1600_04 => 0x4_2_0_5_0_039,
-        0x1600_05 => 0x4_2_0_5_0_03D,
-        0x1600_06 => 0x4_2_0_5_0_041,
-        0x1600_07 => 0x4_2_0_5_0_045,
-        0x1600_08 => 0x4_2_0_5_0_049,
-        0x1601_00 => 0x1_2_8_4_1_04D,
-        0x1601_01 => 0x4_2_0_5_1_04E,
-        0x1601_02 => 0x4_2_0_5_1_052,
-        0x1601_03 => 0x4_2_0_5_1_056,
-        0x1601_04 => 0x4_2_0_5_1_05A,
-        0x1601_05 => 0x4_2_0_5_1_05E,
-        0x1601_06 => 0x4_2_0_5_1_062,
-        0x1601_07 => 0x4_2_0_5_1_066,
-        0x1601_08 => 0x4_2_0_5_1_06A,
-        0x1602_00 => 0x1_2_8_4_2_06E,
-        0x1602_01 => 0x4_2_0_5_2_06F,
-        0x1602_02 => 0x4_2_0_5_2_073,
-        0x1602_03 => 0x4_2_0_5_2_077,
-        0x1602_04 => 0x4_2_0_5_2_07B,
-        0x1602_05 => 0x4_2_0_5_2_07F,
-        0x1602_06 => 0x4_2_0_5_2_083,
-        0x1602_07 => 0x4_2_0_5_2_087,
-        0x1602_08 => 0x4_2_0_5_2_08B,
-        0x1603_00 => 0x1_2_8_4_3_08F,
-        0x1603_01 => 0x4_2_0_5_3_090,
-        0x1603_02 => 0x4_2_0_5_3_094,
-        0x1603_03 => 0x4_2_0_5_3_098,
-        0x1603_04 => 0x4_2_0_5_3_09C,
-        0x1603_05 => 0x4_2_0_5_3_0A0,
-        0x1603_06 => 0x4_2_0_5_3_0A4,
-        0x1603_07 => 0x4_2_0_5_3_0A8,
-        0x1603_08 => 0x4_2_0_5_3_0AC,
-        0x1800_00 => 0x1_0_0_0_0_0B0,
-        0x1800_01 => 0x4_2_0_2_4_0B1,
-        0x1800_02 => 0x1_2_0_3_4_0B5,
-        0x1801_00 => 0x1_0_0_0_0_0B6,
-        0x1801_01 => 0x4_2_0_2_5_0B7,
-        0x1801_02 => 0x1_2_0_3_5_0BB,
-        0x1802_00 => 0x1_0_0_0_0_0BC,
-        0x1802_01 => 0x4_2_0_2_6_0BD,
-        0x1802_02 => 0x1_2_0_3_6_0C1,
-        0x1803_00 => 0x1_0_0_0_0_0C2,
-        0x1803_01 => 0x4_2_0_2_7_0C3,
-        0x1803_02 => 0x1_2_0_3_7_0C7,
-        0x1A00_00 => 0x1_2_8_4_4_0C8,
-        0x1A00_01 => 0x4_2_0_5_4_0C9,
-        0x1A00_02 => 0x4_2_0_5_4_0CD,
-        0x1A00_03 => 0x4_2_0_5_4_0D1,
-        0x1A00_04 => 0x4_2_0_5_4_0D5,
-        0x1A00_05 => 0x4_2_0_5_4_0D9,
-        0x1A00_06 => 0x4_2_0_5_4_0DD,
-        0x1A00_07 => 0x4_2_0_5_4_0E1,
-        0x1A00_08 => 0x4_2_0_5_4_0E5,
-        0x1A01_00 => 0x1_2_8_4_5_0E9,
-        0x1A01_01 => 0x4_2_0_5_5_0EA,
-        0x1A01_02 => 0x4_2_0_5_5_0EE,
-        0x1A01_03 => 0x4_2_0_5_5_0F2,
-        0x1A01_04 => 0x4_2_0_5_5_0F6,
-        0x1A01_05 => 0x4_2_0_5_5_0FA,
-        0x1A01_06 => 0x4_2_0_5_5_0FE,
-        0x1A01_07 => 0x4_2_0_5_5_102,
-        0x1A01_08 => 0x4_2_0_5_5_106,
-        0x1A02_00 => 0x1_2_8_4_6_10A,
-        0x1A02_01 => 0x4_2_0_5_6_10B,
-        0x1A02_02 => 0x4_2_0_5_6_10F,
-        0x1A02_03 => 0x4_2_0_5_6_113,
-        0x1A02_04 => 0x4_2_0_5_6_117,
-        0x1A02_05 => 0x4_2_0_5_6_11B,
-        0x1A02_06 => 0x4_2_0_5_6_11F,
-        0x1A02_07 => 0x4_2_0_5_6_123,
-        0x1A02_08 => 0x4_2_0_5_6_127,
-        0x1A03_00 => 0x1_2_8_4_7_12B,
-        0x1A03_01 => 0x4_2_0_5_7_12C,
-        0x1A03_02 => 0x4_2_0_5_7_130,
-        0x1A03_03 => 0x4_2_0_5_7_134,
-        0x1A03_04 => 0x4_2_0_5_7_138,
-        0x1A03_05 => 0x4_2_0_5_7_13C,
-        0x1A03_06 => 0x4_2_0_5_7_140,
-        0x1A03_07 => 0x4_2_0_5_7_144,
-        0x1A03_08 => 0x4_2_0_5_7_148,
-        0x603F_00 => 0x2_1_0_0_0_14C,
-        0x6040_00 => 0x2_2_0_0_0_14E,
-        0x6041_00 => 0x2_1_0_0_0_150,
-        0x6060_00 => 0x9_2_0_1_0_152,
-        0x6061_00 => 0x9_1_0_0_0_153,
-        0x6064_00 => 0xC_1_0_0_0_154,
-        0x6067_00 => 0x4_2_7_0_0_158,
-        0x606C_00 => 0xC_1_0_0_0_15C,
-        0x606D_00 => 0x2_2_0_0_0_160,
-        0x606F_00 => 0x2_2_0_0_0_162,
-        0x607A_00 => 0xC_2_0_0_0_164,
-        0x607D_00 => 0x1_0_0_0_0_168,
-        0x607D_01 => 0xC_2_0_0_0_169,
-        0x607D_02 => 0xC_2_0_0_0_16D,
-        0x6081_00 => 0x4_2_0_0_0_171,
-        0x6083_00 => 0x4_2_1_0_0_175,
-        0x6084_00 => 0x4_2_1_0_0_179,
-        0x60FF_00 => 0xC_2_0_0_0_17D,
-        0x6502_00 => 0x4_0_0_0_0_181,
-        _ => NO_LINE,
-    }
+// .. in which are the type: the size in bytes, and 8 for a sign; ..
+const U8: u32 = 1;
+
+const U16: u32 = 2;
+
+const U32: u32 = 4;
+
+const I8: u32 = 8 + U8;
+
+const I32: u32 = 8 + U32;
+
+// .. the access; ..
+const ACCESS: u32 = 0x10;
+
+const CONSTANT: u32 = 0 * ACCESS;
+
+const NODE_WRITTEN: u32 = 1 * ACCESS;
+
+const WRITABLE: u32 = 2 * ACCESS;
+
+// .. and the range, where it is not the whole of the type.
+const RANGE: u32 = 0x40;
+
+const FROM_1: u32 = 1 * RANGE;
+
+const UP_TO_8: u32 = 2 * RANGE;
+
+const UP_TO_7FFFFFFF: u32 = 3 * RANGE;
+
+// How many rows stand before those of the drive: the node's, and of each PDO a communication and a mapping record.
+const DRIVE_RANK: usize = 7 + places::PDOS * (3 + 9);
+
+const ENTRIES: usize = DRIVE_RANK + 19;
+
+// From this row on, the dictionary's end is nearer than the drive's first place.
+const MIDDLE_RANK: usize = (DRIVE_RANK + ENTRIES) / 2;
+
+// The last index of a communication object, and that of the mode of operation.
+const LAST_COMMUNICATION: u16 = 0x1FFF;
+
+const MODE_INDEX: u16 = 0x6060;
+
+// The table, in rising order of index and subindex. It has no places: they follow from the sizes and the regular records of the PDOs.
+const ROWS: [u32; ENTRIES] = [
+    0x1000_00 * KEY + U32 + CONSTANT,
+    0x1001_00 * KEY + U8 + NODE_WRITTEN,
+    0x1005_00 * KEY + U32 + CONSTANT,
+    0x1014_00 * KEY + U32 + CONSTANT,
+    0x1017_00 * KEY + U16 + WRITABLE,
+    0x1018_00 * KEY + U8 + CONSTANT,
+    0x1018_01 * KEY + U32 + CONSTANT,
+    0x1400_00 * KEY + U8 + CONSTANT,
+    0x1400_01 * KEY + U32 + WRITABLE,
+    0x1400_02 * KEY + U8 + WRITABLE,
+    0x1401_00 * KEY + U8 + CONSTANT,
+    0x1401_01 * KEY + U32 + WRITABLE,
+    0x1401_02 * KEY + U8 + WRITABLE,
+    0x1402_00 * KEY + U8 + CONSTANT,
+    0x1402_01 * KEY + U32 + WRITABLE,
+    0x1402_02 * KEY + U8 + WRITABLE,
+    0x1403_00 * KEY + U8 + CONSTANT,
+    0x1403_01 * KEY + U32 + WRITABLE,
+    0x1403_02 * KEY + U8 + WRITABLE,
+    0x1600_00 * KEY + U8 + WRITABLE + UP_TO_8,
+    0x1600_01 * KEY + U32 + WRITABLE,
+    0x1600_02 * KEY + U32 + WRITABLE,
+    0x1600_03 * KEY + U32 + WRITABLE,
+    0x1600_04 * KEY + U32 + WRITABLE,
+    0x1600_05 * KEY + U32 + WRITABLE,
+    0x1600_06 * KEY + U32 + WRITABLE,
+    0x1600_07 * KEY + U32 + WRITABLE,
+    0x1600_08 * KEY + U32 + WRITABLE,
+    0x1601_00 * KEY + U8 + WRITABLE + UP_TO_8,
+    0x1601_01 * KEY + U32 + WRITABLE,
+    0x1601_02 * KEY + U32 + WRITABLE,
+    0x1601_03 * KEY + U32 + WRITABLE,
+    0x1601_04 * KEY + U32 + WRITABLE,
+    0x1601_05 * KEY + U32 + WRITABLE,
+    0x1601_06 * KEY + U32 + WRITABLE,
+    0x1601_07 * KEY + U32 + WRITABLE,
+    0x1601_08 * KEY + U32 + WRITABLE,
+    0x1602_00 * KEY + U8 + WRITABLE + UP_TO_8,
+    0x1602_01 * KEY + U32 + WRITABLE,
+    0x1602_02 * KEY + U32 + WRITABLE,
+    0x1602_03 * KEY + U32 + WRITABLE,
+    0x1602_04 * KEY + U32 + WRITABLE,
+    0x1602_05 * KEY + U32 + WRITABLE,
+    0x1602_06 * KEY + U32 + WRITABLE,
+    0x1602_07 * KEY + U32 + WRITABLE,
+    0x1602_08 * KEY + U32 + WRITABLE,
+    0x1603_00 * KEY + U8 + WRITABLE + UP_TO_8,
+    0x1603_01 * KEY + U32 + WRITABLE,
+    0x1603_02 * KEY + U32 + WRITABLE,
+    0x1603_03 * KEY + U32 + WRITABLE,
+    0x1603_04 * KEY + U32 + WRITABLE,
+    0x1603_05 * KEY + U32 + WRITABLE,
+    0x1603_06 * KEY + U32 + WRITABLE,
+    0x1603_07 * KEY + U32 + WRITABLE,
+    0x1603_08 * KEY + U32 + WRITABLE,
+    0x1800_00 * KEY + U8 + CONSTANT,
+    0x1800_01 * KEY + U32 + WRITABLE,
+    0x1800_02 * KEY + U8 + WRITABLE,
+    0x1801_00 * KEY + U8 + CONSTANT,
+    0x1801_01 * KEY + U32 + WRITABLE,
+    0x1801_02 * KEY + U8 + WRITABLE,
+    0x1802_00 * KEY + U8 + CONSTANT,
+    0x1802_01 * KEY + U32 + WRITABLE,
+    0x1802_02 * KEY + U8 + WRITABLE,
+    0x1803_00 * KEY + U8 + CONSTANT,
+    0x1803_01 * KEY + U32 + WRITABLE,
+    0x1803_02 * KEY + U8 + WRITABLE,
+    0x1A00_00 * KEY + U8 + WRITABLE + UP_TO_8,
+    0x1A00_01 * KEY + U32 + WRITABLE,
+    0x1A00_02 * KEY + U32 + WRITABLE,
+    0x1A00_03 * KEY + U32 + WRITABLE,
+    0x1A00_04 * KEY + U32 + WRITABLE,
+    0x1A00_05 * KEY + U32 + WRITABLE,
+    0x1A00_06 * KEY + U32 + WRITABLE,
+    0x1A00_07 * KEY + U32 + WRITABLE,
+    0x1A00_08 * KEY + U32 + WRITABLE,
+    0x1A01_00 * KEY + U8 + WRITABLE + UP_TO_8,
+    0x1A01_01 * KEY + U32 + WRITABLE,
+    0x1A01_02 * KEY + U32 + WRITABLE,
+    0x1A01_03 * KEY + U32 + WRITABLE,
+    0x1A01_04 * KEY + U32 + WRITABLE,
+    0x1A01_05 * KEY + U32 + WRITABLE,
+    0x1A01_06 * KEY + U32 + WRITABLE,
+    0x1A01_07 * KEY + U32 + WRITABLE,
+    0x1A01_08 * KEY + U32 + WRITABLE,
+    0x1A02_00 * KEY + U8 + WRITABLE + UP_TO_8,
+    0x1A02_01 * KEY + U32 + WRITABLE,
+    0x1A02_02 * KEY + U32 + WRITABLE,
+    0x1A02_03 * KEY + U32 + WRITABLE,
+    0x1A02_04 * KEY + U32 + WRITABLE,
+    0x1A02_05 * KEY + U32 + WRITABLE,
+    0x1A02_06 * KEY + U32 + WRITABLE,
+    0x1A02_07 * KEY + U32 + WRITABLE,
+    0x1A02_08 * KEY + U32 + WRITABLE,
+    0x1A03_00 * KEY + U8 + WRITABLE + UP_TO_8,
+    0x1A03_01 * KEY + U32 + WRITABLE,
+    0x1A03_02 * KEY + U32 + WRITABLE,
+    0x1A03_03 * KEY + U32 + WRITABLE,
+    0x1A03_04 * KEY + U32 + WRITABLE,
+    0x1A03_05 * KEY + U32 + WRITABLE,
+    0x1A03_06 * KEY + U32 + WRITABLE,
+    0x1A03_07 * KEY + U32 + WRITABLE,
+    0x1A03_08 * KEY + U32 + WRITABLE,
+    0x603F_00 * KEY + U16 + NODE_WRITTEN,
+    0x6040_00 * KEY + U16 + WRITABLE,
+    0x6041_00 * KEY + U16 + NODE_WRITTEN,
+    0x6060_00 * KEY + I8 + WRITABLE,
+    0x6061_00 * KEY + I8 + NODE_WRITTEN,
+    0x6064_00 * KEY + I32 + NODE_WRITTEN,
+    0x6067_00 * KEY + U32 + WRITABLE + UP_TO_7FFFFFFF,
+    0x606C_00 * KEY + I32 + NODE_WRITTEN,
+    0x606D_00 * KEY + U16 + WRITABLE,
+    0x606F_00 * KEY + U16 + WRITABLE,
+    0x607A_00 * KEY + I32 + WRITABLE,
+    0x607D_00 * KEY + U8 + CONSTANT,
+    0x607D_01 * KEY + I32 + WRITABLE,
+    0x607D_02 * KEY + I32 + WRITABLE,
+    0x6081_00 * KEY + U32 + WRITABLE,
+    0x6083_00 * KEY + U32 + WRITABLE + FROM_1,
+    0x6084_00 * KEY + U32 + WRITABLE + FROM_1,
+    0x60FF_00 * KEY + I32 + WRITABLE,
+    0x6502_00 * KEY + U32 + CONSTANT,
+];
+
+// What rows stand one after another in: the node's part, a PDO's communication or mapping record, the drive's part.
+enum Room {
+    Node,
+    Communication(u8),
+    Mapping(u8),
+    Drive,
 }
 
-// The access that a line gives.
+// What a look-up finds is one number: the line of a row, and below it in 16 bits the row's place, or one of these, which no row has.
+const LINE: u64 = 0x1_0000;
+
+const NO_SUBINDEX: u64 = 0xFFFF;
+
+const NO_OBJECT: u64 = 0xFFFE;
+
+// The rank of the last row whose index and subindex are not above the key, by halving; the first where there is none. The width of what
+// is left is a power of two, whatever was found, so that the steps are always the same.
+fn last_up_to(rows: &[u32], key: u32) -> usize
+    requires { ⌜ (now rows ≡ map lineOf table) × (key < 2 ^ 24) ⌝ }
+    ensures { λ r. ⌜ (r < entries) × (rowAt r ≡ lastUpTo key table) ⌝ }
+{
+    let last_line = key * KEY + (KEY - 1);
+    let mut rank: usize = 0;
+    let mut width: usize = 128;
+    while 1 < width {
+        width /= 2;
+        let next = rank + width;
+        if next < ENTRIES {
+            if rows[next] <= last_line {
+                rank = next;
+            }
+        }
+    }
+    rank
+}
+
+// The access in a line.
 fn access_in(code: u32) -> Access
     ensures { λ r. ⌜ r ≡ accessIn code ⌝ }
 {
@@ -160,7 +232,7 @@ fn access_in(code: u32) -> Access
     }
 }
 
-// The least value that a line's range gives.
+// The least value of a line's range.
 fn least_in(range: u32) -> u32
     ensures { λ r. ⌜ r ≡ leastIn range ⌝ }
 {
@@ -170,15 +242,15 @@ fn least_in(range: u32) -> u32
     }
 }
 
-// The greatest value that a line's range gives, or else its size.
+// The greatest value of a line's range, or else of its size.
 fn greatest_in(range: u32, size: u8) -> u32
     ensures { λ r. ⌜ r ≡ greatestIn range size ⌝ }
 {
-    if range == 7 {
-        return 0x7FFF_FFFF;
-    }
-    if range == 8 {
+    if range == 2 {
         return 8;
+    }
+    if range == 3 {
+        return 0x7FFF_FFFF;
     }
     match size {
         1 => 0xFF,
@@ -187,48 +259,190 @@ fn greatest_in(range: u32, size: u8) -> u32
     }
 }
 
-// The role that a line gives.
-fn role_in(code: u32, pdo: u8) -> Role
-    ensures { λ r. ⌜ r ≡ roleIn code pdo ⌝ }
+// The room of an index: four records of each kind and direction stand in a row.
+fn room_of(index: u16) -> Room
+    ensures { λ r. ⌜ (r ≡ roomOf index) × PdoIn r ⌝ }
 {
-    match code {
-        0 => Role::Plain,
-        1 => Role::ModeOfOperation,
-        2 => Role::PdoIdentifier(pdo),
-        3 => Role::PdoType(pdo),
-        4 => Role::MappingCount(pdo),
-        _ => Role::MappingEntry(pdo),
+    if LAST_COMMUNICATION < index {
+        return Room::Drive;
+    }
+    let pdo = (index % 4) as u8;
+    match index - index % 4 {
+        0x1400 => Room::Communication(pdo),
+        0x1600 => Room::Mapping(pdo),
+        0x1800 => Room::Communication(pdo + 4),
+        0x1A00 => Room::Mapping(pdo + 4),
+        _ => Room::Node,
     }
 }
 
-// The entry that a line gives.
-fn entry_in(line: u32) -> Entry
-    ensures { λ r. ⌜ r ≡ entryIn line ⌝ }
+// The role of a row, by its room, index and subindex.
+fn role_in(room: Room, index: u16, subindex: u8) -> Role
+    ensures { λ r. ⌜ r ≡ roleIn room index subindex ⌝ }
 {
-    let size = (line / 0x1000_0000 % 8) as u8;
-    let range = line / 0x10_0000 % 16;
-    let pdo = (line / 0x1000 % 16) as u8;
+    match room {
+        Room::Node => Role::Plain,
+        Room::Communication(p) => match subindex {
+            1 => Role::PdoIdentifier(p),
+            2 => Role::PdoType(p),
+            _ => Role::Plain,
+        },
+        Room::Mapping(p) => if subindex == 0 {
+            Role::MappingCount(p)
+        } else {
+            Role::MappingEntry(p)
+        },
+        Room::Drive => if index == MODE_INDEX {
+            Role::ModeOfOperation
+        } else {
+            Role::Plain
+        },
+    }
+}
+
+// How far behind its communication record's place a row stands.
+fn communication_offset(subindex: u8) -> usize
+    ensures { λ r. ⌜ (r ≡ communicationOffset subindex) × (r < 2 ^ 16) ⌝ }
+{
+    match subindex {
+        1 => places::IDENTIFIER,
+        2 => places::TRANSMISSION_TYPE,
+        _ => 0,
+    }
+}
+
+// How far behind its mapping record's place a row stands.
+fn mapping_offset(subindex: u8) -> usize
+    ensures { λ r. ⌜ (r ≡ mappingOffset subindex) × (r < 2 ^ 16) ⌝ }
+{
+    if subindex == 0 {
+        return 0;
+    }
+    places::WORDS + places::WORD_LENGTH * (subindex as usize - 1)
+}
+
+// The bytes of the rows from one rank up to another.
+fn sizes_from(rows: &[u32], first: usize, last: usize) -> usize
+    requires { ⌜ (now rows ≡ map lineOf table) × (last ≤ entries) ⌝ }
+    ensures { λ r. ⌜ (r ≡ sizesFrom (now (rows .entry)) first (last - first)) × (r < 2 ^ 16) ⌝ }
+{
+    let mut bytes: usize = 0;
+    let mut k = first;
+    while k < last {
+        bytes += (rows[k] % 8) as usize;
+        k += 1;
+    }
+    bytes
+}
+
+// The place of a row of the drive: behind the rows before it, or in front of those from it to the end.
+fn drive_place(rows: &[u32], rank: usize) -> usize
+    requires { ⌜ (now rows ≡ map lineOf table) × (rank < entries) ⌝ }
+    ensures { λ r. ⌜ r ≡ drivePlace (now (rows .entry)) rank ⌝ }
+{
+    if rank < MIDDLE_RANK {
+        return places::ERROR_CODE + sizes_from(rows, DRIVE_RANK, rank);
+    }
+    places::DICTIONARY_LENGTH - sizes_from(rows, rank, ENTRIES)
+}
+
+// The place of a row, by its room, rank and subindex.
+fn place_in(rows: &[u32], room: Room, rank: usize, subindex: u8) -> usize
+    requires { ⌜ (now rows ≡ map lineOf table) × ((rank < entries) × PdoIn room) ⌝ }
+    ensures { λ r. ⌜ r ≡ placeIn (now (rows .entry)) room rank subindex ⌝ }
+{
+    match room {
+        Room::Node => sizes_from(rows, 0, rank),
+        Room::Communication(p) => communication_place(p as usize) + communication_offset(subindex),
+        Room::Mapping(p) => mapping_place(p as usize) + mapping_offset(subindex),
+        Room::Drive => drive_place(rows, rank),
+    }
+}
+
+// The place of the row of a rank.
+fn place_at(rows: &[u32], rank: usize) -> usize
+    requires { ⌜ (now rows ≡ map lineOf table) × (rank < entries) ⌝ }
+    ensures { λ r. ⌜ (r ≡ placeOf (rowAt rank)) × (r < 2 ^ 16) ⌝ }
+{
+    let line = rows[rank];
+    let room = room_of((line / KEY / 0x100 % 0x1_0000) as u16);
+    place_in(rows, room, rank, (line / KEY % 0x100) as u8)
+}
+
+// A line as a number of 64 bits.
+fn wide(line: u32) -> u64
+    ensures { λ r. ⌜ (r ≡ line) × (r < 2 ^ 32) ⌝ }
+{
+    line as u64
+}
+
+// What the look-up of an index and subindex finds: each object has an entry at subindex 0.
+fn spot_in(rows: &[u32], index: u16, subindex: u8) -> u64
+    requires { ⌜ now rows ≡ map lineOf table ⌝ }
+    ensures { λ r. ⌜ r ≡ spotOf (lookup index subindex) ⌝ }
+{
+    let object = index as u32;
+    let key = object * 256 + (subindex as u32);
+    let rank = last_up_to(rows, key);
+    let line = rows[rank];
+    if line / KEY == key {
+        return wide(line) * LINE + (place_at(rows, rank) as u64);
+    }
+    if line / KEY / 256 == object {
+        return NO_SUBINDEX;
+    }
+    NO_OBJECT
+}
+
+// The same in the table, which is lent once a look-up: it is laid on the stack.
+fn spot_of(index: u16, subindex: u8) -> u64
+    ensures { λ r. ⌜ r ≡ spotOf (lookup index subindex) ⌝ }
+{
+    spot_in(&ROWS, index, subindex)
+}
+
+// The entry of a line with that place.
+fn entry_in(line: u32, place: u16) -> Entry
+    ensures { λ r. ⌜ r ≡ entryIn line place ⌝ }
+{
+    let index = (line / KEY / 0x100 % 0x1_0000) as u16;
+    let size = (line % 8) as u8;
+    let range = line / RANGE % 4;
     Entry {
-        place: (line % 0x1000) as u16,
+        place,
         size,
-        access: access_in(line / 0x100_0000 % 16),
+        access: access_in(line / ACCESS % 4),
         least: least_in(range),
         greatest: greatest_in(range, size),
-        role: role_in(line / 0x1_0000 % 16, pdo),
+        role: role_in(room_of(index), index, (line / KEY % 0x100) as u8),
     }
 }
 
-// The entry of an index and subindex; without one, whether the object is there: each has an entry at subindex 0.
+// Whether there is an entry of that index and subindex; without one, whether the object is there.
+pub fn seek(index: u16, subindex: u8) -> Presence
+    ensures { λ r. ⌜ r ≡ presenceOf (lookup index subindex) ⌝ }
+{
+    let place = spot_of(index, subindex) % LINE;
+    if place == NO_OBJECT {
+        return Presence::NoObject;
+    }
+    if place == NO_SUBINDEX {
+        return Presence::NoSubindex;
+    }
+    Presence::Listed
+}
+
+// The entry of an index and subindex; without one, whether the object is there.
 pub fn find(index: u16, subindex: u8) -> Found
     ensures { λ r. ⌜ r ≡ foundOf (lookup index subindex) ⌝ }
 {
-    let object = (index as u32) * 256;
-    let line = line_at(object + (subindex as u32));
-    if line != NO_LINE {
-        return Found::Entry(entry_in(line));
+    let spot = spot_of(index, subindex);
+    let place = spot % LINE;
+    if place < NO_OBJECT {
+        return Found::Entry(entry_in((spot / LINE % 0x1_0000_0000) as u32, place as u16));
     }
-    if line_at(object) != NO_LINE {
-        return Found::NoSubindex;
+    if place == NO_OBJECT {
+        return Found::NoObject;
     }
-    Found::NoObject
+    Found::NoSubindex
 }

@@ -28,11 +28,6 @@ where-true b x y e = rw e
 pub where-false {ℓ} : {A : Type ℓ} (b : Bool) (x y : A) → b ≡ false → y ≡ cond b x y
 where-false b x y e = rw e
 
--- ---- through a match: what is right at the variant is right at what was found to be it
-
-pub found-to-be {ℓ ℓ'} : {A : Type ℓ} {B : Type ℓ'} (f : A → B) {x y : A} {r : B} → x ≡ y → r ≡ f y → r ≡ f x
-found-to-be f e p = rw e p
-
 -- ---- through an aim that a test decides
 
 where-at {ℓ} : {A : Type ℓ} (b : Bool) (w x : ℕ) (f : ℕ → A) (y : A) → At w ≡ cond b (At x) Outside → f w ≡ cond b (f x) y

@@ -1,8 +1,7 @@
 // Document 01, 'Drive states' and 'Set-points': the drive and its rules, defined in specs/.
 // states: the commands of 6040h and the states. set_points: the store, its marks, the edge of bit 4. status: 6041h.
-// words: what the integers of the rules are in words of 32 bits. places: where the drive's entries stand in the dictionary.
+// words: what the integers of the rules are in words of 32 bits.
 
-mod places;
 pub mod set_points;
 pub mod states;
 pub mod status;

@@ -3,6 +3,7 @@
 ghost use mathlib.Core.Path.{_≡_};
 ghost use mathlib.Core.Bool.{true, false, cond, not, _&&_};
 ghost use lib.ListN.{length};
+ghost use Rattle.rules_dictionary.specs.Table.{dictionaryLength};
 ghost use Rattle.drive.specs.SetPoints.{withState, withMode, withCause, withStore, withMarks, isPosition, positions, emptied, isEmpty, isQueued, isMoving, lastTarget, behind, reached, take, offered, setPointRule, enters, modeOf, modeWritten, controlWritten};
 ghost use Rattle.drive.specs.Words.{aimOf, setPointTo};
 use crate::Aim;
@@ -11,16 +12,13 @@ use crate::Drive;
 use crate::DriveState;
 use crate::SetPoint;
 use crate::Store;
-use crate::places;
 use crate::states::command;
 use crate::states::has;
 use crate::states::is_enabled;
 use crate::states::next;
 use crate::states::resets;
 use crate::words::aim;
-use dictionary::read1;
-use dictionary::read2;
-use dictionary::read4;
+use dictionary::objects;
 use rules_dictionary::Mode;
 
 // The bits of 6040h in mode 1.
@@ -232,10 +230,10 @@ impl Drive {
 
     // 6060h, acted on as it now stands in the dictionary.
     pub fn mode_written(self, d: &[u8]) -> Drive
-        requires { ⌜ length (now d) ≡ 389 ⌝ }
+        requires { ⌜ length (now d) ≡ dictionaryLength ⌝ }
         ensures { λ r. ⌜ r ≡ modeWritten (now (d .entry)) self ⌝ }
     {
-        self.with_mode(mode_of(read1(d, places::MODE))).emptied()
+        self.with_mode(mode_of(objects::mode(d))).emptied()
     }
 }
 
@@ -248,27 +246,27 @@ fn base(relative: bool, held: Store, here: u32) -> u32
 
 // "target is 607Ah, or with bit 6 the last taken target (Empty: 6064h) plus 607Ah", where it is inside 607Dh.
 fn aim_of(d: &[u8], word: u16, held: Store) -> Aim
-    requires { ⌜ length (now d) ≡ 389 ⌝ }
+    requires { ⌜ length (now d) ≡ dictionaryLength ⌝ }
     ensures { λ r. ⌜ r ≡ aimOf (now (d .entry)) word held ⌝ }
 {
-    let from = base(has(word, RELATIVE), held, read4(d, places::POSITION));
-    let step = read4(d, places::TARGET_POSITION);
+    let from = base(has(word, RELATIVE), held, objects::position(d));
+    let step = objects::target_position(d);
     aim(
         from,
         step,
-        read4(d, places::MINIMUM_POSITION),
-        read4(d, places::MAXIMUM_POSITION),
+        objects::minimum_position(d),
+        objects::maximum_position(d),
     )
 }
 
 // A set-point to that target, "taken with 6081h, 6083h, 6084h".
 fn set_point(d: &[u8], target: u32) -> SetPoint
-    requires { ⌜ length (now d) ≡ 389 ⌝ }
+    requires { ⌜ length (now d) ≡ dictionaryLength ⌝ }
     ensures { λ r. ⌜ r ≡ setPointTo (now (d .entry)) target ⌝ }
 {
-    let velocity = read4(d, places::PROFILE_VELOCITY);
-    let acceleration = read4(d, places::PROFILE_ACCELERATION);
-    let deceleration = read4(d, places::PROFILE_DECELERATION);
+    let velocity = objects::profile_velocity(d);
+    let acceleration = objects::profile_acceleration(d);
+    let deceleration = objects::profile_deceleration(d);
     SetPoint {
         target: target,
         velocity: velocity,
@@ -307,7 +305,7 @@ impl Drive {
 
     // "with bit 5 zero and Queued, not taken; .. outside 607Dh or i32, not taken, limit mark set. Otherwise taken".
     fn offered(self, d: &[u8], word: u16) -> Drive
-        requires { ⌜ length (now d) ≡ 389 ⌝ }
+        requires { ⌜ length (now d) ≡ dictionaryLength ⌝ }
         ensures { λ r. ⌜ r ≡ offered (now (d .entry)) word self ⌝ }
     {
         let held = self.store;
@@ -323,7 +321,7 @@ impl Drive {
 
     // "if enabled in mode 1 and bit 4 rose against the old 6040h"; "bit 4 zero clears the taken mark".
     fn set_point_rule(self, d: &[u8], old: u16, word: u16) -> Drive
-        requires { ⌜ length (now d) ≡ 389 ⌝ }
+        requires { ⌜ length (now d) ≡ dictionaryLength ⌝ }
         ensures { λ r. ⌜ r ≡ setPointRule (now (d .entry)) old word self ⌝ }
     {
         if !has(word, NEW_SET_POINT) {
@@ -341,11 +339,11 @@ impl Drive {
 
     // 6040h, acted on as it now stands in the dictionary: the drive command first, then the set-point. `old` is 6040h before the write.
     pub fn control_written(self, d: &[u8], old: u16) -> Controlled
-        requires { ⌜ length (now d) ≡ 389 ⌝ }
+        requires { ⌜ length (now d) ≡ dictionaryLength ⌝ }
         ensures { λ r. ⌜ r ≡ controlWritten (now (d .entry)) old self ⌝ }
     {
         let state = self.state;
-        let word = read2(d, places::CONTROL_WORD);
+        let word = objects::control_word(d);
         let asked = command(old, word);
         let entered = self.enters(next(self.cause, state, asked));
         let drive = entered.set_point_rule(d, old, word);

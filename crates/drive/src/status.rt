@@ -4,17 +4,15 @@ ghost use mathlib.Core.Path.{_≡_};
 ghost use lib.ListN.{length};
 ghost use Rattle.drive.specs.StatusWord.{haltBit, shown, slow, near, ackInMode, positionReached, velocityReached, standsStill, reachedInMode, enabledBits, status};
 ghost use Rattle.rules_dictionary.specs.Numbers.{bit};
-ghost use Rattle.rules_dictionary.specs.Table.{controlWord};
+ghost use Rattle.rules_dictionary.specs.Table.{controlWord, dictionaryLength};
 ghost use Rattle.rules_dictionary.specs.Values.{read};
 use crate::Drive;
 use crate::Store;
-use crate::places;
 use crate::states::has;
 use crate::states::is_enabled;
 use crate::states::state_word;
 use crate::words::is_within;
-use dictionary::read2;
-use dictionary::read4;
+use dictionary::objects;
 use rules_dictionary::Mode;
 
 // The bits of 6041h beside the state's, and the one of 6040h that they look at.
@@ -46,19 +44,19 @@ fn wide(x: u16) -> u32
 
 // Is the magnitude of 606Ch at most 606Fh.
 fn is_slow(d: &[u8]) -> bool
-    requires { ⌜ length (now d) ≡ 389 ⌝ }
+    requires { ⌜ length (now d) ≡ dictionaryLength ⌝ }
     ensures { λ r. ⌜ r ≡ slow (now (d .entry)) ⌝ }
 {
     is_within(
-        wide(read2(d, places::VELOCITY_THRESHOLD)),
-        read4(d, places::VELOCITY),
+        wide(objects::velocity_threshold(d)),
+        objects::velocity(d),
         0,
     )
 }
 
 // "bit 12 in mode 1, taken or Queued; in mode 3, magnitude of 606Ch at most 606Fh".
 fn is_ack(m: Mode, v: Drive, d: &[u8]) -> bool
-    requires { ⌜ length (now d) ≡ 389 ⌝ }
+    requires { ⌜ length (now d) ≡ dictionaryLength ⌝ }
     ensures { λ r. ⌜ r ≡ ackInMode m v (now (d .entry)) ⌝ }
 {
     let store = v.store;
@@ -71,19 +69,15 @@ fn is_ack(m: Mode, v: Drive, d: &[u8]) -> bool
 
 // Is the target within 6067h of 6064h.
 fn is_near(target: u32, d: &[u8]) -> bool
-    requires { ⌜ length (now d) ≡ 389 ⌝ }
+    requires { ⌜ length (now d) ≡ dictionaryLength ⌝ }
     ensures { λ r. ⌜ r ≡ near target (now (d .entry)) ⌝ }
 {
-    is_within(
-        read4(d, places::POSITION_WINDOW),
-        target,
-        read4(d, places::POSITION),
-    )
+    is_within(objects::position_window(d), target, objects::position(d))
 }
 
 // "in mode 1 Rested or active target within 6067h of 6064h (Empty: 0)".
 fn is_position_reached(store: Store, d: &[u8]) -> bool
-    requires { ⌜ length (now d) ≡ 389 ⌝ }
+    requires { ⌜ length (now d) ≡ dictionaryLength ⌝ }
     ensures { λ r. ⌜ r ≡ positionReached store (now (d .entry)) ⌝ }
 {
     match store {
@@ -96,35 +90,35 @@ fn is_position_reached(store: Store, d: &[u8]) -> bool
 
 // "in mode 3 60FFh within 606Dh of 606Ch".
 fn is_velocity_reached(d: &[u8]) -> bool
-    requires { ⌜ length (now d) ≡ 389 ⌝ }
+    requires { ⌜ length (now d) ≡ dictionaryLength ⌝ }
     ensures { λ r. ⌜ r ≡ velocityReached (now (d .entry)) ⌝ }
 {
     is_within(
-        wide(read2(d, places::VELOCITY_WINDOW)),
-        read4(d, places::TARGET_VELOCITY),
-        read4(d, places::VELOCITY),
+        wide(objects::velocity_window(d)),
+        objects::target_velocity(d),
+        objects::velocity(d),
     )
 }
 
 // With bit 8 of 6040h set: "606Ch is 0".
 fn stands_still(d: &[u8]) -> bool
-    requires { ⌜ length (now d) ≡ 389 ⌝ }
+    requires { ⌜ length (now d) ≡ dictionaryLength ⌝ }
     ensures { λ r. ⌜ r ≡ standsStill (now (d .entry)) ⌝ }
 {
-    read4(d, places::VELOCITY) == 0
+    objects::velocity(d) == 0
 }
 
 // Is bit 8 of 6040h set.
 fn halts(d: &[u8]) -> bool
-    requires { ⌜ length (now d) ≡ 389 ⌝ }
+    requires { ⌜ length (now d) ≡ dictionaryLength ⌝ }
     ensures { λ r. ⌜ r ≡ bit haltBit (read (now (d .entry)) controlWord) ⌝ }
 {
-    has(read2(d, places::CONTROL_WORD), HALT)
+    has(objects::control_word(d), HALT)
 }
 
 // "Bit 10 with bit 8 of 6040h set (modes 1, 3): 606Ch is 0; else .."
 fn is_reached(m: Mode, v: Drive, d: &[u8]) -> bool
-    requires { ⌜ length (now d) ≡ 389 ⌝ }
+    requires { ⌜ length (now d) ≡ dictionaryLength ⌝ }
     ensures { λ r. ⌜ r ≡ reachedInMode m v (now (d .entry)) ⌝ }
 {
     let store = v.store;
@@ -145,7 +139,7 @@ fn is_reached(m: Mode, v: Drive, d: &[u8]) -> bool
 
 // "Enabled only": bits 12, 11 and 10.
 fn enabled_bits(v: Drive, d: &[u8]) -> u16
-    requires { ⌜ length (now d) ≡ 389 ⌝ }
+    requires { ⌜ length (now d) ≡ dictionaryLength ⌝ }
     ensures { λ r. ⌜ r ≡ enabledBits v (now (d .entry)) ⌝ }
 {
     let mode = v.mode;
@@ -156,7 +150,7 @@ fn enabled_bits(v: Drive, d: &[u8]) -> u16
 
 // "Bit 4 voltage; bit 9 not Stopped; rest below, else 0." The flags: not Stopped, voltage.
 pub fn status(remote: bool, voltage: bool, v: Drive, d: &[u8]) -> u16
-    requires { ⌜ length (now d) ≡ 389 ⌝ }
+    requires { ⌜ length (now d) ≡ dictionaryLength ⌝ }
     ensures { λ r. ⌜ r ≡ status remote voltage v (now (d .entry)) ⌝ }
 {
     let state = v.state;

@@ -7,13 +7,12 @@ use mathlib.Core.List.{List, [], _∷_, _++_, append-nil}
 use mathlib.Core.Bool.{Bool, true, false, cond, false≢true}
 use lib.Dec.{lit≤}
 use lib.ListN.{length}
-use lib.Seq.{sets}
 use Rattle.state.specs.declared.Node.{Node}
 use Rattle.state.specs.declared.State.{State}
 use Rattle.rules_dictionary.specs.declared.PdoData.{PdoData}
-use Rattle.rules_dictionary.specs.Numbers.{value, bytes, part}
+use Rattle.rules_dictionary.specs.Numbers.{bytes}
 use Rattle.rules_dictionary.specs.Plans.{pdoData}
-use Rattle.rules_dictionary.specs.Table.{sizeOf, errorRegister, controlWord, mode, heartbeatTime}
+use Rattle.rules_dictionary.specs.Table.{errorRegister, controlWord, mode, heartbeatTime}
 use Rattle.rules_dictionary.specs.Values.{Write, read, store, stored}
 use Rattle.drive.specs.declared.Drive.{Drive}
 use Rattle.drive.specs.declared.Controlled.{Controlled}
@@ -43,10 +42,10 @@ silent code v d n o e = rw e (omega arith, sym (emitted-none n o))
 
 -- else one
 pub spoken : (code : ℕ) (v : Node) (d : List ℕ) (register : ℕ) (content : PdoData) (n r : ℕ) (o o′ : List ℕ) → isStopped (v .nmt) ≡ false →
-    register ≡ value (part (errorRegister .place) 1 d) → content ≡ pdoData (emergencyBytes code register) →
+    register ≡ read d errorRegister → content ≡ pdoData (emergencyBytes code register) →
     (r ≡ n + 1) × (o′ ≡ emitted n (frameOf (emergencyBase + v .id) content ∷ []) o) →
     (r ≡ n + length (emergencyOf code v d)) × (o′ ≡ emitted n (emergencyOf code v d) o)
-unfolding emergencyOf read bytes
+unfolding emergencyOf bytes
 spoken code v d register content n r o o′ e is c h =
     let f = frame-of-data (emergencyBase + v .id) (emergencyBytes code register) (lit≤ tt) in
     rw (e, ← is) (h .0, h .1 ∙ ap (λ (x : Frame). emitted n (x ∷ []) o) (ap (frameOf (emergencyBase + v .id)) c ∙ f))
@@ -85,10 +84,10 @@ pub calm-said : (s : State) (fs : List Frame) → Calm s (sends fs (becomes s))
 calm-said s fs = record { writes = refl; synced = refl; nmt = refl; voltage = refl; drive = refl }
 
 -- a fault reset
-pub reset-left : (p : Parts) (n k : ℕ) (d o d′ o′ : List ℕ) → d′ ≡ sets d (errorRegister .place) (bytes (sizeOf errorRegister) 0) →
+pub reset-left : (p : Parts) (n k : ℕ) (d o d′ o′ : List ℕ) → d′ ≡ store errorRegister 0 d →
     (k ≡ n + length (emergencyOf faultGone (p .node) d′)) × (o′ ≡ emitted n (emergencyOf faultGone (p .node) d′) o) →
     Did (faultReset (bare p) d) n d o (record { parts = p; frames = k; touched = true; remapped = false; synced = false; quiet = false }) d′ o′
-unfolding faultReset store stored
+unfolding faultReset stored
 reset-left p n k d o d′ o′ e h =
     record {
       parts = refl;
@@ -146,7 +145,7 @@ did-alike {e} {e′} {n} {d} {o} {r} {d′} {o′} a h =
 
 -- 6060h and 6040h are acted on by the parts alone
 pub acts-alike : (old : ℕ) (mode control : Bool) (s : State) (d : List ℕ) → Alike (acts old mode control s d) (acts old mode control (bare (partsOf s)) d)
-unfolding acts controlActs faultReset store
+unfolding acts controlActs faultReset
 acts-alike old mode false s d = record { parts = refl; writes = refl; sent = refl; synced = refl }
 acts-alike old mode true s d = go (controlWritten d old (modeActs mode (s .axis .drive) d))
   where

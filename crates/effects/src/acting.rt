@@ -3,29 +3,28 @@ ghost use mathlib.Core.Path.{_≡_};
 ghost use mathlib.Core.Bool.{false};
 ghost use Prim.Native.Nat.{_<_, _≤_};
 ghost use lib.ListN.{length};
+ghost use Rattle.rules_dictionary.specs.Table.{dictionaryLength};
+ghost use Rattle.rules_dictionary.specs.TheNode.{lastNode};
 ghost use Rattle.rules_services.specs.Written.{faultReset};
+ghost use Rattle.rules.specs.Outcome.{mostFrames};
 ghost use Rattle.rules.specs.Calls.{outputLength};
-ghost use Rattle.output.specs.Laying.{mostFrames};
 ghost use Rattle.effects.specs.Leaves.{bare, Did};
 ghost use Rattle.effects.specs.Acts.{modeActs, controlActs, acts};
 use crate::Done;
 use crate::Parts;
 use crate::emergencies::emergency;
-use dictionary::write1;
+use dictionary::objects;
 use drive::Drive;
-
-// Where 1001h stands.
-const ERROR_REGISTER: usize = 4;
 
 // The emergency code of a fault that is gone.
 const FAULT_GONE: u16 = 0x0000;
 
 // "1001h to 0, emergency 0000h; 603Fh stays".
 fn fault_reset(parts: Parts, d: &mut [u8], output: &mut [u8], n: usize) -> Done
-    requires { ⌜ (length (now d) ≡ 389) × ((outputLength ≤ length (now output)) × ((n < mostFrames) × (parts .node .id ≤ 127))) ⌝ }
+    requires { ⌜ (length (now d) ≡ dictionaryLength) × ((outputLength ≤ length (now output)) × ((n < mostFrames) × (parts .node .id ≤ lastNode))) ⌝ }
     ensures { λ r. ⌜ Did (faultReset (bare parts) (now (d .entry))) n (now (d .entry)) (now (output .entry)) r (now (d .exit)) (now (output .exit)) × (r .quiet ≡ false) ⌝ }
 {
-    write1(d, ERROR_REGISTER, 0);
+    objects::set_error_register(d, 0);
     let node = parts.node;
     let frames = emergency(FAULT_GONE, node, d, output, n);
     Done {
@@ -40,7 +39,7 @@ fn fault_reset(parts: Parts, d: &mut [u8], output: &mut [u8], n: usize) -> Done
 
 // 6060h acted on, where it was written.
 fn mode_acted(drive: Drive, d: &[u8], written: bool) -> Drive
-    requires { ⌜ length (now d) ≡ 389 ⌝ }
+    requires { ⌜ length (now d) ≡ dictionaryLength ⌝ }
     ensures { λ r. ⌜ r ≡ modeActs written drive (now (d .entry)) ⌝ }
 {
     if written {
@@ -52,7 +51,7 @@ fn mode_acted(drive: Drive, d: &[u8], written: bool) -> Drive
 
 // 6040h acted on; `old` is what stood there before the write.
 fn control_acted(old: u16, parts: Parts, d: &mut [u8], output: &mut [u8], n: usize) -> Done
-    requires { ⌜ (length (now d) ≡ 389) × ((outputLength ≤ length (now output)) × ((n < mostFrames) × (parts .node .id ≤ 127))) ⌝ }
+    requires { ⌜ (length (now d) ≡ dictionaryLength) × ((outputLength ≤ length (now output)) × ((n < mostFrames) × (parts .node .id ≤ lastNode))) ⌝ }
     ensures { λ r. ⌜ Did (controlActs old (bare parts) (now (d .entry))) n (now (d .entry)) (now (output .entry)) r (now (d .exit)) (now (output .exit)) × (r .quiet ≡ false) ⌝ }
 {
     let node = parts.node;
@@ -88,7 +87,7 @@ pub fn acted(
     output: &mut [u8],
     n: usize,
 ) -> Done
-    requires { ⌜ (length (now d) ≡ 389) × ((outputLength ≤ length (now output)) × ((n < mostFrames) × (parts .node .id ≤ 127))) ⌝ }
+    requires { ⌜ (length (now d) ≡ dictionaryLength) × ((outputLength ≤ length (now output)) × ((n < mostFrames) × (parts .node .id ≤ lastNode))) ⌝ }
     ensures { λ r. ⌜ Did (acts old mode control (bare parts) (now (d .entry))) n (now (d .entry)) (now (output .entry)) r (now (d .exit)) (now (output .exit)) × (r .quiet ≡ false) ⌝ }
 {
     let node = parts.node;

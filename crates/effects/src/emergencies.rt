@@ -2,12 +2,15 @@
 ghost use mathlib.Core.Path.{_≡_};
 ghost use Prim.Native.Nat.{_+_, _<_, _≤_};
 ghost use lib.ListN.{length};
+ghost use Rattle.rules_dictionary.specs.Table.{dictionaryLength};
+ghost use Rattle.rules_dictionary.specs.TheNode.{lastNode};
 ghost use Rattle.rules_dictionary.specs.Plans.{pdoData};
 ghost use Rattle.rules_services.specs.Effects.{isStopped};
+ghost use Rattle.rules.specs.Outcome.{mostFrames};
 ghost use Rattle.rules.specs.Calls.{outputLength};
-ghost use Rattle.output.specs.Laying.{mostFrames, emitted};
+ghost use Rattle.output.specs.Laying.{emitted};
 ghost use Rattle.effects.specs.Leaves.{emergencyBytes, emergencyOf};
-use dictionary::read1;
+use dictionary::objects;
 use output::send;
 use rules_dictionary::PdoData;
 use state::NmtState;
@@ -15,9 +18,6 @@ use state::Node;
 
 // 80h, to which the node-ID is added.
 const EMERGENCY_BASE: u16 = 0x80;
-
-// Where 1001h stands.
-const ERROR_REGISTER: usize = 4;
 
 // Is the node Stopped.
 fn is_stopped(m: NmtState) -> bool
@@ -51,13 +51,13 @@ fn emergency_data(code: u16, register: u8) -> PdoData
 
 // The emergency of a code as frame n, none while Stopped; the number of frames then.
 pub fn emergency(code: u16, node: Node, d: &[u8], output: &mut [u8], n: usize) -> usize
-    requires { ⌜ (length (now d) ≡ 389) × ((outputLength ≤ length (now output)) × ((n < mostFrames) × (node .id ≤ 127))) ⌝ }
+    requires { ⌜ (length (now d) ≡ dictionaryLength) × ((outputLength ≤ length (now output)) × ((n < mostFrames) × (node .id ≤ lastNode))) ⌝ }
     ensures { λ r. ⌜ (r ≡ n + length (emergencyOf code node (now (d .entry)))) × (now (output .exit) ≡ emitted n (emergencyOf code node (now (d .entry))) (now (output .entry))) ⌝ }
 {
     let nmt = node.nmt;
     if is_stopped(nmt) {
         return n;
     }
-    let content = emergency_data(code, read1(d, ERROR_REGISTER));
+    let content = emergency_data(code, objects::error_register(d));
     send(output, n, EMERGENCY_BASE + (node.id as u16), content)
 }

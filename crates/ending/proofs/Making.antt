@@ -1,23 +1,22 @@
 -- 6041h and 6061h made, or standing already; plans and ready frames of a dictionary whose call may end.
 -- Assumes nothing.
-use Prim.Native.Nat.{ℕ, zero, suc, _+_, _≤_}
+use Prim.Native.Nat.{ℕ, _+_, _≤_}
 use native.Mathlib.Omega.{arith}
 use mathlib.Core.Path.{_≡_, refl, sym, _∙_, ap, subst}
 use mathlib.Core.Bool.{Bool, true, not, _&&_}
-use mathlib.Core.List.{List, [], _∷_}
+use mathlib.Core.List.{List}
 use borrow.Author.Tests.{ltb-false}
-use lib.ListN.{length, take, getD}
-use lib.Seq.{sets}
+use lib.ListN.{length, getD}
 use Rattle.rules_dictionary.specs.declared.Plan.{Plan}
 use Rattle.rules_dictionary.specs.declared.PdoData.{PdoData}
 use Rattle.drive.specs.declared.Drive.{Drive}
 use Rattle.state.specs.declared.Node.{Node}
-use Rattle.rules_dictionary.specs.Numbers.{value, bytes, part, areBytes, padded}
+use Rattle.rules_dictionary.specs.Numbers.{areBytes}
 use Rattle.rules_dictionary.specs.Table.{dictionaryLength, eachWay, statusWord, modeDisplay, pdos, mapCount, mapEntry, mapSlots, mostMoves}
 use Rattle.rules_dictionary.specs.Values.{read, store}
 use Rattle.rules_dictionary.specs.Aborts.{isGood}
 use Rattle.rules_dictionary.specs.Legal.{modeNumber, entryVerdict, isBelow, isAbove, badChoice}
-use Rattle.rules_dictionary.specs.Plans.{mapped, planFor, pdoData, readyFor, readyOf}
+use Rattle.rules_dictionary.specs.Plans.{mapped, planFor, readyFor, readyOf}
 use Rattle.rules_dictionary.proofs.Tests.{In, each-in, and-left, and-right, and-both}
 use Rattle.rules_dictionary.proofs.Packing.{within}
 use Rattle.rules_dictionary.proofs.Members.{all-of, count-in}
@@ -34,6 +33,7 @@ use Rattle.plans.specs.Moves.{readyBy, MovesFit}
 use Rattle.plans.proofs.Assembly.{joined-room}
 use Rattle.plans.proofs.Worked.{plan-fits, ready-mapped}
 use Rattle.output.specs.Laying.{IsData}
+use Rattle.output.proofs.Laws.{is-data}
 use Rattle.ending.specs.Ending.{statusBy, settledBy}
 
 -- ---- 6041h and 6061h
@@ -46,14 +46,14 @@ word-made node drive d remote word h w = w ∙ rw h
 module _ (node : Node) (drive : Drive) (d : List ℕ) (word shown : ℕ) (w : word ≡ statusBy node drive d)
     (m : shown ≡ modeNumber (drive .mode)) where
   -- written, they are made
-  pub both-written : sets (sets d (statusWord .place) (bytes 2 word)) (modeDisplay .place) (bytes 1 shown) ≡ settledBy node drive d
-  unfolding settledBy store
+  pub both-written : store modeDisplay shown (store statusWord word d) ≡ settledBy node drive d
+  unfolding settledBy
   both-written = rw (w, m)
 
   -- where both stand there already, nothing is to be made
-  pub both-stand : areBytes d ≡ true → length d ≡ dictionaryLength → value (part (statusWord .place) 2 d) ≡ word → value (part (modeDisplay .place) 1 d) ≡ shown →
+  pub both-stand : areBytes d ≡ true → length d ≡ dictionaryLength → read d statusWord ≡ word → read d modeDisplay ≡ shown →
       d ≡ settledBy node drive d
-  unfolding settledBy read
+  unfolding settledBy
   both-stand b l p q =
       let first : store statusWord (statusBy node drive d) d ≡ d =
       ap (λ (v : ℕ). store statusWord v d) (sym (p ∙ w)) ∙ store-self statusWord d b (omega (arith, within status-in)) in
@@ -90,15 +90,6 @@ module _ {n : ℕ} {d : List ℕ} (ok : DictionaryOk n d) {p : ℕ} (i : In p pd
     ready-at = ap (readyBy d) own ∙ ready-by
 
 -- a frame's data
-
-take-padded : (k : ℕ) (bs : List ℕ) → length bs ≤ k → take (length bs) (padded 0 k bs) ≡ bs
-take-padded k [] h = refl
-take-padded zero (b ∷ bs) h = absurd (omega arith)
-take-padded (suc k) (b ∷ bs) h = ap (λ (l : List ℕ). b ∷ l) (take-padded k bs (omega arith))
-
-is-data : (bs : List ℕ) → length bs ≤ mostMoves → IsData (pdoData bs)
-unfolding pdoData
-is-data bs h = record { short = h; zeros = ap (padded 0 mostMoves) (sym (take-padded mostMoves bs h)) }
 
 ready-data : {n : ℕ} {d : List ℕ} → DictionaryOk n d → {p : ℕ} → In p pdos → IsData (readyFor d p)
 unfolding readyBy

@@ -1,15 +1,14 @@
--- One transmit PDO: where its rows stand, its pace, and what is left of it.
+-- One transmit PDO: whether it works, its pace, and what is left of it.
 -- Assumes nothing.
-use Prim.Native.Nat.{ℕ, _+_, _*_, _/_, _%_, _^_, _<_, _≤_}
+use Prim.Native.Nat.{ℕ, _+_, _/_, _%_, _^_, _<_, _≤_}
 use native.Mathlib.Omega.{arith}
 use mathlib.Core.Path.{_≡_, refl, sym, _∙_, ap}
 use mathlib.Core.Bool.{Bool, true, false}
 use mathlib.Core.List.{List, [], _∷_}
-use borrow.Author.Tests.{le-ltb, eq-eqb, ne-eqb}
+use borrow.Author.Tests.{eq-eqb, ne-eqb}
 use lib.Dec.{ltb}
 use Rattle.rules_dictionary.specs.declared.PdoData.{PdoData}
-use Rattle.rules_dictionary.specs.Numbers.{value, part}
-use Rattle.rules_dictionary.specs.Table.{eachWay, identifier, transmissionType, mapCount}
+use Rattle.rules_dictionary.specs.Table.{eachWay, identifier, mapCount}
 use Rattle.rules_dictionary.specs.Values.{read}
 use Rattle.rules_dictionary.specs.Legal.{invalidBit, identifierBits}
 use Rattle.rules_services.specs.PdoTraffic.{Pace, pace, paceOf, typeOf, transmitted}
@@ -17,27 +16,6 @@ use Rattle.output.specs.Laying.{frameOf, emitted}
 use Rattle.output.proofs.Laws.{emitted-none}
 use Rattle.ending.specs.declared.Paced.{Paced}
 use Rattle.ending.specs.Ending.{isOpen, openPace, sentOne, paced, Went}
-
--- ---- where the rows stand
-
-module _ (d : List ℕ) (t : ℕ) (h : t < eachWay) where
-  pub identifier-read : value (part (177 + 6 * t) 4 d) ≡ read d (identifier (eachWay + t))
-  unfolding read
-  identifier-read =
-      let e : 177 + 6 * t ≡ identifier (eachWay + t) .place = rw (le-ltb (eachWay + t) eachWay (omega arith)) (omega arith) in
-      ap (λ (k : ℕ). value (part k 4 d)) e
-
-  pub type-read : value (part (181 + 6 * t) 1 d) ≡ typeOf d (eachWay + t)
-  unfolding read
-  type-read =
-      let e : 181 + 6 * t ≡ transmissionType (eachWay + t) .place = rw (le-ltb (eachWay + t) eachWay (omega arith)) (omega arith) in
-      ap (λ (k : ℕ). value (part k 1 d)) e
-
-  pub count-read : value (part (200 + 33 * t) 1 d) ≡ read d (mapCount (eachWay + t))
-  unfolding read
-  count-read =
-      let e : 200 + 33 * t ≡ mapCount (eachWay + t) .place = rw (le-ltb (eachWay + t) eachWay (omega arith)) (omega arith) in
-      ap (λ (k : ℕ). value (part k 1 d)) e
 
 -- ---- valid, with something mapped
 

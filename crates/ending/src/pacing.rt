@@ -3,32 +3,19 @@ ghost use mathlib.Core.Path.{_≡_};
 ghost use mathlib.Core.Bool.{true};
 ghost use Prim.Native.Nat.{_+_, _<_, _≤_};
 ghost use lib.ListN.{length};
-ghost use Rattle.rules_dictionary.specs.Table.{eachWay, identifier};
-ghost use Rattle.rules_dictionary.specs.Values.{read};
+ghost use Rattle.rules_dictionary.specs.Table.{eachWay, dictionaryLength};
 ghost use Rattle.rules_dictionary.specs.Legal.{isCyclic};
 ghost use Rattle.rules_services.specs.PdoTraffic.{cyclic, acyclic, paceOf, typeOf};
+ghost use Rattle.rules.specs.Outcome.{mostFrames};
 ghost use Rattle.rules.specs.Calls.{outputLength};
-ghost use Rattle.output.specs.Laying.{mostFrames, IsData};
+ghost use Rattle.output.specs.Laying.{IsData};
 ghost use Rattle.ending.specs.Ending.{isOpen, openPace, sentOne, paced, Went};
 use crate::Gone;
 use crate::Paced;
-use dictionary::read1;
-use dictionary::read4;
+use dictionary::places::EACH_WAY;
+use dictionary::records;
 use output::send;
 use rules_dictionary::PdoData;
-
-// Where the identifier of the first transmit PDO stands, and how far each next one is on.
-const IDENTIFIER: usize = 177;
-
-const COMMUNICATION_STEP: usize = 6;
-
-// Where the type of the first transmit PDO stands.
-const TYPE: usize = 181;
-
-// Where the mapping count of the first transmit PDO stands, and how far each next one is on.
-const MAP_COUNT: usize = 200;
-
-const MAPPING_STEP: usize = 33;
 
 // The last type that waits for SYNC.
 const LAST_SYNCHRONOUS: u8 = 240;
@@ -39,31 +26,16 @@ const INVALID: u32 = 0x8000_0000;
 // The frame identifiers: eleven bits.
 const IDENTIFIERS: u32 = 0x800;
 
-// The identifier's word of transmit PDO t.
-fn identifier(d: &[u8], t: usize) -> u32
-    requires { ⌜ (length (now d) ≡ 389) × (t < eachWay) ⌝ }
-    ensures { λ r. ⌜ r ≡ read (now (d .entry)) (identifier (eachWay + t)) ⌝ }
-{
-    read4(d, IDENTIFIER + COMMUNICATION_STEP * t)
-}
-
-// The type of transmit PDO t.
-fn type_of(d: &[u8], t: usize) -> u8
-    requires { ⌜ (length (now d) ≡ 389) × (t < eachWay) ⌝ }
-    ensures { λ r. ⌜ r ≡ typeOf (now (d .entry)) (eachWay + t) ⌝ }
-{
-    read1(d, TYPE + COMMUNICATION_STEP * t)
-}
-
 // Is transmit PDO t valid, with something mapped.
 fn is_open(d: &[u8], t: usize) -> bool
-    requires { ⌜ (length (now d) ≡ 389) × (t < eachWay) ⌝ }
+    requires { ⌜ (length (now d) ≡ dictionaryLength) × (t < eachWay) ⌝ }
     ensures { λ r. ⌜ r ≡ isOpen (now (d .entry)) t ⌝ }
 {
-    if INVALID <= identifier(d, t) {
+    let p = EACH_WAY + t;
+    if INVALID <= records::identifier(d, p) {
         return false;
     }
-    0 < read1(d, MAP_COUNT + MAPPING_STEP * t)
+    0 < records::map_count(d, p)
 }
 
 // "Type 1..240: each n-th SYNC since entering Operational."
@@ -144,7 +116,7 @@ pub fn transmit(
     output: &mut [u8],
     n: usize,
 ) -> Gone
-    requires { ⌜ (length (now d) ≡ 389) × ((outputLength ≤ length (now output)) × ((t < eachWay) × ((n < mostFrames) × (IsData content × (isOpen (now d) t ≡ true → isCyclic (typeOf (now d) (eachWay + t)) ≡ true → count < typeOf (now d) (eachWay + t)))))) ⌝ }
+    requires { ⌜ (length (now d) ≡ dictionaryLength) × ((outputLength ≤ length (now output)) × ((t < eachWay) × ((n < mostFrames) × (IsData content × (isOpen (now d) t ≡ true → isCyclic (typeOf (now d) (eachWay + t)) ≡ true → count < typeOf (now d) (eachWay + t)))))) ⌝ }
     ensures { λ r. ⌜ Went (openPace (now (d .entry)) t synced changed count due) (sentOne (openPace (now (d .entry)) t synced changed count due) (now (d .entry)) t content) n (now (output .entry)) r (now (output .exit)) ⌝ }
 {
     if !is_open(d, t) {
@@ -154,7 +126,14 @@ pub fn transmit(
             due: false,
         };
     }
-    let paced = pace_of(type_of(d, t), synced, changed, count, due);
+    let p = EACH_WAY + t;
+    let paced = pace_of(
+        records::transmission_type(d, p),
+        synced,
+        changed,
+        count,
+        due,
+    );
     if !paced.send {
         return Gone {
             frames: n,
@@ -162,7 +141,12 @@ pub fn transmit(
             due: paced.due,
         };
     }
-    let frames = send(output, n, (identifier(d, t) % IDENTIFIERS) as u16, content);
+    let frames = send(
+        output,
+        n,
+        (records::identifier(d, p) % IDENTIFIERS) as u16,
+        content,
+    );
     Gone {
         frames: frames,
         count: paced.count,

@@ -7,10 +7,7 @@ ghost use Rattle.rules_dictionary.specs.Legal.{modeNumber};
 ghost use Rattle.rules_dictionary.specs.Plans.{readyOf};
 ghost use Rattle.rules_services.specs.Effects.{isStopped};
 ghost use Rattle.ending.specs.Ending.{settledBy, TransmitPlans};
-use dictionary::read1;
-use dictionary::read2;
-use dictionary::write1;
-use dictionary::write2;
+use dictionary::objects;
 use drive::Drive;
 use drive::status::status;
 use plans::ready_of;
@@ -19,12 +16,6 @@ use rules_dictionary::PdoData;
 use rules_dictionary::Plan;
 use state::NmtState;
 use state::Node;
-
-// Where 6041h stands.
-const STATUS_WORD: usize = 336;
-
-// Where 6061h stands.
-const MODE_DISPLAY: usize = 339;
 
 // Is the node not Stopped.
 fn is_remote(m: NmtState) -> bool
@@ -57,11 +48,11 @@ pub fn settle(node: Node, drive: Drive, touched: bool, d: &mut [u8]) -> bool
     let mode = drive.mode;
     let word = status(is_remote(nmt), node.voltage, drive, d);
     let shown = mode_number(mode);
-    if read2(d, STATUS_WORD) == word && read1(d, MODE_DISPLAY) == shown {
+    if objects::status_word(d) == word && objects::mode_display(d) == shown {
         return touched;
     }
-    write2(d, STATUS_WORD, word);
-    write1(d, MODE_DISPLAY, shown);
+    objects::set_status_word(d, word);
+    objects::set_mode_display(d, shown);
     true
 }
 

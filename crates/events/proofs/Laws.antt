@@ -8,7 +8,6 @@ use borrow.Author.Tests.{eq-eqb, ne-eqb, le-leb, lt-leb}
 use lib.Bits.{bitOr}
 use lib.Dec.{eqb}
 use lib.ListN.{length, getD}
-use lib.Seq.{sets}
 use denote.Enum.Declared.{tagOf}
 use types.Run.{OneOf, miss}
 use Rattle.state.specs.declared.State.{State}
@@ -18,8 +17,8 @@ use Rattle.drive.specs.declared.DriveState.the-variants.{FaultReactionActive}
 use Rattle.drive.specs.declared.Drive.{Drive}
 use Rattle.drive.specs.DriveStates.{isNotReady, isQuickStop, isReaction, isFaulty}
 use Rattle.drive.specs.SetPoints.{withCause, enters, isMoving}
-use Rattle.rules_dictionary.specs.Numbers.{value, bytes, part}
-use Rattle.rules_dictionary.specs.Table.{sizeOf, errorCode, errorRegister, position, velocity}
+use Rattle.rules_dictionary.specs.Numbers.{value, part}
+use Rattle.rules_dictionary.specs.Table.{errorCode, errorRegister, position, velocity}
 use Rattle.rules_dictionary.specs.Values.{read, write, store, stored}
 use Rattle.rules_services.specs.Effects.{Frame, becomes, withDrive, withVoltage}
 use Rattle.rules_services.specs.Nmt.{tick}
@@ -153,10 +152,10 @@ pub after-is : (e : Event) (s : State) (v : Drive) (b : Bool) → b ≡ voltageA
 after-is e s v b f g = rw (f, g)
 
 -- feedback
-pub fed : (at speed : ℕ) (d d′ d″ : List ℕ) → d′ ≡ sets d (position .place) (bytes (sizeOf position) at) →
-    d″ ≡ sets d′ (velocity .place) (bytes (sizeOf velocity) speed) → d″ ≡ stored (write position at ∷ write velocity speed ∷ []) d
-unfolding stored store
-fed at speed d d′ d″ e f = f ∙ ap (λ (x : List ℕ). sets x (velocity .place) (bytes (sizeOf velocity) speed)) e
+pub fed : (at speed : ℕ) (d d′ d″ : List ℕ) → d′ ≡ store position at d → d″ ≡ store velocity speed d′ →
+    d″ ≡ stored (write position at ∷ write velocity speed ∷ []) d
+unfolding stored
+fed at speed d d′ d″ e f = f ∙ ap (store velocity speed) e
 
 pub fed-parts : (s : State) (p : Parts) → p ≡ partsOf s →
     Path Done (record { parts = p; frames = 0; touched = true; remapped = false; synced = false; quiet = false }) (fedBack s)
@@ -191,11 +190,9 @@ pub faults : (e : Event) (code register : ℕ) (s : State) (r : Done) (d o d′ 
 unfolding happened rules.happens
 faults e code register s r d o d′ o′ is h = rw is (h .0, loud s (rules.faulted code register s d) r (h .1))
 
-pub noted : (code register before : ℕ) (d d′ d″ : List ℕ) → before ≡ value (part (errorRegister .place) (sizeOf errorRegister) d) →
-    d′ ≡ sets d (errorCode .place) (bytes (sizeOf errorCode) code) →
-    d″ ≡ sets d′ (errorRegister .place) (bytes (sizeOf errorRegister) (bitOr before (bitOr register rules.genericError))) →
-    d″ ≡ stored (faultWrites code register d) d
-unfolding stored store read
+pub noted : (code register before : ℕ) (d d′ d″ : List ℕ) → before ≡ read d errorRegister → d′ ≡ store errorCode code d →
+    d″ ≡ store errorRegister (bitOr before (bitOr register rules.genericError)) d′ → d″ ≡ stored (faultWrites code register d) d
+unfolding stored
 noted code register before d d′ d″ was coded gained = rw (← was, ← coded) gained
 
 pub fault-left : (code register : ℕ) (s : State) (m : DriveState) (u v : Drive) (k : ℕ) (d o d′ o′ : List ℕ) → d′ ≡ stored (faultWrites code register d) d →

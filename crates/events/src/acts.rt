@@ -7,16 +7,14 @@ ghost use lib.ListN.{length};
 ghost use Rattle.drive.specs.DriveStates.{isFaulty};
 ghost use Rattle.drive.specs.declared.DriveState.the-variants.{FaultReactionActive};
 ghost use Rattle.rules_dictionary.specs.Table.{dictionaryLength, position, velocity};
+ghost use Rattle.rules_dictionary.specs.TheNode.{lastNode};
 ghost use Rattle.rules_dictionary.specs.Values.{write, stored};
 ghost use Rattle.rules_services.specs.Events.{faulted};
 ghost use Rattle.rules.specs.Calls.{outputLength};
 ghost use Rattle.effects.specs.Leaves.{Did, Rests};
 ghost use Rattle.events.specs.Telling.{toldOf, happened, driveAfter, voltageAfter, stateAfter, faultWrites, restated, fedBack};
 use crate::Event;
-use dictionary::read1;
-use dictionary::write1;
-use dictionary::write2;
-use dictionary::write4;
+use dictionary::objects;
 use drive::Drive;
 use drive::DriveState;
 use drive::states::is_faulty;
@@ -26,15 +24,6 @@ use effects::emergency;
 use effects::parts_of;
 use nmt::tick;
 use state::State;
-
-// Where 1001h, 603Fh, 6064h and 606Ch stand.
-const ERROR_REGISTER: usize = 4;
-
-const ERROR_CODE: usize = 332;
-
-const POSITION: usize = 340;
-
-const VELOCITY: usize = 348;
 
 // Bit 0 of 1001h.
 const GENERIC_ERROR: u8 = 1;
@@ -115,14 +104,14 @@ fn note_fault(code: u16, register: u8, d: &mut [u8])
     requires { ⌜ length (now d) ≡ dictionaryLength ⌝ }
     ensures { λ r. ⌜ now (d .exit) ≡ stored (faultWrites code register (now (d .entry))) (now (d .entry)) ⌝ }
 {
-    let before = read1(d, ERROR_REGISTER);
-    write2(d, ERROR_CODE, code);
-    write1(d, ERROR_REGISTER, before | (register | GENERIC_ERROR));
+    let before = objects::error_register(d);
+    objects::set_error_code(d, code);
+    objects::set_error_register(d, before | (register | GENERIC_ERROR));
 }
 
 // A fault: noted, "cause present, emergency".
 fn faulted(code: u16, register: u8, s: State, d: &mut [u8], output: &mut [u8]) -> Done
-    requires { ⌜ (length (now d) ≡ dictionaryLength) × ((outputLength ≤ length (now output)) × (s .node .id ≤ 127)) ⌝ }
+    requires { ⌜ (length (now d) ≡ dictionaryLength) × ((outputLength ≤ length (now output)) × (s .node .id ≤ lastNode)) ⌝ }
     ensures { λ r. ⌜ Did (faulted code register s (now (d .entry))) 0 (now (d .entry)) (now (output .entry)) r (now (d .exit)) (now (output .exit)) × (r .quiet ≡ false) ⌝ }
 {
     let node = s.node;
@@ -151,8 +140,8 @@ fn fed_back(at: u32, speed: u32, s: State, d: &mut [u8]) -> Done
     requires { ⌜ length (now d) ≡ dictionaryLength ⌝ }
     ensures { λ r. ⌜ (r ≡ fedBack s) × (now (d .exit) ≡ stored (write position at ∷ write velocity speed ∷ []) (now (d .entry))) ⌝ }
 {
-    write4(d, POSITION, at);
-    write4(d, VELOCITY, speed);
+    objects::set_position(d, at);
+    objects::set_velocity(d, speed);
     Done {
         parts: parts_of(s),
         frames: 0,
@@ -165,7 +154,7 @@ fn fed_back(at: u32, speed: u32, s: State, d: &mut [u8]) -> Done
 
 // What an event does; a bad one nothing. Of them only a tick is quiet.
 pub fn happens(e: Event, s: State, d: &mut [u8], output: &mut [u8]) -> Done
-    requires { ⌜ (length (now d) ≡ dictionaryLength) × ((outputLength ≤ length (now output)) × (s .node .id ≤ 127)) ⌝ }
+    requires { ⌜ (length (now d) ≡ dictionaryLength) × ((outputLength ≤ length (now output)) × (s .node .id ≤ lastNode)) ⌝ }
     ensures { λ r. ⌜ Did (happened (toldOf e) s (now (d .entry))) 0 (now (d .entry)) (now (output .entry)) r (now (d .exit)) (now (output .exit)) × Rests s (happened (toldOf e) s (now (d .entry))) r ⌝ }
 {
     match e {

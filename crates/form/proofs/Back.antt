@@ -31,7 +31,7 @@ use Rattle.state.specs.declared.NmtState.the-variants.{PreOperational, Operatio
 use Rattle.state.specs.declared.Node.{Node}
 use Rattle.state.specs.declared.State.{State}
 use Rattle.dictionary.proofs.Bytes.{value-bytes}
-use Rattle.form.specs.Form.{flagNumber, flagOf, nmtNumber, nmtOf, stateNumber, driveStateOf, each, joined, nodeForm, nodeAt, setPointForm, setPointAt, storeKind, firstOf, secondOf, storeForm, storeAt, driveForm, driveAt, dataForm, dataAt, half, moveForm, moveAt, planForm, planAt, headForm, form, stateOf, nodeLength, setPointLength, driveLength, dataLength, moveLength, planLength, drivePlace, readyPlace, heldPlace, countsPlace, duePlace, plansPlace}
+use Rattle.form.specs.Form.{flagNumber, flagOf, nmtNumber, nmtOf, stateNumber, driveStateOf, each, joined, nodeForm, nodeAt, setPointForm, setPointAt, storeKind, firstOf, secondOf, storeForm, storeAt, driveForm, driveAt, dataForm, dataAt, half, moveForm, moveAt, planForm, planAt, headForm, form, stateOf, nmtOffset, voltageOffset, heartbeatOffset, nodeLength, velocityOffset, accelerationOffset, decelerationOffset, setPointLength, modeOffset, takenOffset, limitOffset, causeOffset, storeOffset, driveLength, dataLength, moveLength, planLength, nodePlace, drivePlace, storePlace, readyPlace, heldPlace, countsPlace, duePlace, plansPlace}
 use Rattle.form.specs.Own.{ownFlag, nodeOwn, sameSetPoint, storeOwn, driveOwn, every, dueOwn, small, planOwn, plansOwn, isOwn}
 use Rattle.form.specs.Typed.{Many, SetPointTyped, StoreTyped, DataTyped, MoveTyped, PlanTyped, Typed}
 use Rattle.form.proofs.Rows.{each-element, length-node, length-set-point, length-drive, length-data, length-move, length-plan, length-frames, form-length}
@@ -126,22 +126,24 @@ module _ (bs : List ℕ) where
 
   -- ---- the parts
 
-  node-back : (n : Node) (rest : List ℕ) → n .heartbeat < half → drop 0 bs ≡ nodeForm n ++ rest → (nodeAt 0 bs ≡ n) × (nodeOwn 0 bs ≡ true)
+  node-back : (n : Node) (rest : List ℕ) → n .heartbeat < half → drop nodePlace bs ≡ nodeForm n ++ rest → (nodeAt nodePlace bs ≡ n) × (nodeOwn nodePlace bs ≡ true)
   unfolding nodeForm nodeAt nodeOwn bytes
   node-back n rest h e =
-      let nmt : getD bs 1 0 ≡ nmtNumber (n .nmt) = byte-at 0 1 e in
-      let voltage : getD bs 2 0 ≡ flagNumber (n .voltage) = byte-at 0 2 e in (
-        rw (byte-at 0 0 e, nmt, voltage, part-at 0 3 2 e, nmt-of (n .nmt), flag-of (n .voltage), value-bytes 2 (n .heartbeat) h),
-        and-both (eqb (nmtNumber (nmtOf (getD bs 1 0))) (getD bs 1 0)) (ownFlag (getD bs 2 0)) (own nmtNumber nmtOf nmt-of (n .nmt) (getD bs 1 0) nmt) (own flagNumber flagOf flag-of (n .voltage) (getD bs 2 0) voltage),
+      let second = getD bs (nodePlace + nmtOffset) 0 in
+      let third = getD bs (nodePlace + voltageOffset) 0 in
+      let nmt : second ≡ nmtNumber (n .nmt) = byte-at nodePlace nmtOffset e in
+      let voltage : third ≡ flagNumber (n .voltage) = byte-at nodePlace voltageOffset e in (
+        rw (byte-at nodePlace 0 e, nmt, voltage, part-at nodePlace heartbeatOffset 2 e, nmt-of (n .nmt), flag-of (n .voltage), value-bytes 2 (n .heartbeat) h),
+        and-both (eqb (nmtNumber (nmtOf second)) second) (ownFlag third) (own nmtNumber nmtOf nmt-of (n .nmt) second nmt) (own flagNumber flagOf flag-of (n .voltage) third voltage),
       )
 
   set-point-back : (place : ℕ) (p : SetPoint) (rest : List ℕ) → SetPointTyped p → drop place bs ≡ setPointForm p ++ rest → setPointAt place bs ≡ p
   unfolding setPointForm setPointAt bytes
   set-point-back place p rest t e =
       rw (
-        part-at place 4 4 e,
-        part-at place 8 4 e,
-        part-at place 12 4 e,
+        part-at place velocityOffset 4 e,
+        part-at place accelerationOffset 4 e,
+        part-at place decelerationOffset 4 e,
         e,
         value-bytes 4 (p .target) (t .target),
         value-bytes 4 (p .velocity) (t .velocity),
@@ -196,20 +198,21 @@ module _ (bs : List ℕ) where
   drive-back : (v : Drive) (rest : List ℕ) → StoreTyped (v .store) → drop drivePlace bs ≡ driveForm v ++ rest → (driveAt drivePlace bs ≡ v) × (driveOwn drivePlace bs ≡ true)
   unfolding driveForm driveAt driveOwn
   drive-back v rest t e =
-      let state : getD bs 5 0 ≡ stateNumber (v .state) = byte-at drivePlace 0 e in
-      let mode : getD bs 6 0 ≡ modeNumber (v .mode) = byte-at drivePlace 1 e in
-      let taken : getD bs 7 0 ≡ flagNumber (v .taken) = byte-at drivePlace 2 e in
-      let limit : getD bs 8 0 ≡ flagNumber (v .limit) = byte-at drivePlace 3 e in
-      let cause : getD bs 9 0 ≡ flagNumber (v .cause) = byte-at drivePlace 4 e in
+      let at : ℕ → ℕ = λ offset. getD bs (drivePlace + offset) 0 in
+      let state : at 0 ≡ stateNumber (v .state) = byte-at drivePlace 0 e in
+      let mode : at modeOffset ≡ modeNumber (v .mode) = byte-at drivePlace modeOffset e in
+      let taken : at takenOffset ≡ flagNumber (v .taken) = byte-at drivePlace takenOffset e in
+      let limit : at limitOffset ≡ flagNumber (v .limit) = byte-at drivePlace limitOffset e in
+      let cause : at causeOffset ≡ flagNumber (v .cause) = byte-at drivePlace causeOffset e in
       let marks = stateNumber (v .state) ∷ modeNumber (v .mode) ∷ flagNumber (v .taken) ∷ flagNumber (v .limit) ∷ flagNumber (v .cause) ∷ [] in
-      let store = store-back 10 (v .store) rest t (behind drivePlace 5 marks e refl) in (
+      let store = store-back storePlace (v .store) rest t (behind drivePlace storeOffset marks e refl) in (
         rw (state, mode, taken, limit, cause, store .0, state-of (v .state), mode-of (v .mode), flag-of (v .taken), flag-of (v .limit), flag-of (v .cause)),
         rw (
-          own stateNumber driveStateOf state-of (v .state) (getD bs 5 0) state,
-          own modeNumber modeOf mode-of (v .mode) (getD bs 6 0) mode,
-          own flagNumber flagOf flag-of (v .taken) (getD bs 7 0) taken,
-          own flagNumber flagOf flag-of (v .limit) (getD bs 8 0) limit,
-          own flagNumber flagOf flag-of (v .cause) (getD bs 9 0) cause,
+          own stateNumber driveStateOf state-of (v .state) (at 0) state,
+          own modeNumber modeOf mode-of (v .mode) (at modeOffset) mode,
+          own flagNumber flagOf flag-of (v .taken) (at takenOffset) taken,
+          own flagNumber flagOf flag-of (v .limit) (at limitOffset) limit,
+          own flagNumber flagOf flag-of (v .cause) (at causeOffset) cause,
         )
             (store .1),
       )
@@ -230,9 +233,9 @@ module _ (bs : List ℕ) where
   state-back s t e =
       let a = s .axis in
       let h = t .head in
-      let e0 : drop 0 bs ≡ nodeForm (s .node) ++ (driveForm (a .drive) ++ (joined dataForm (a .ready) ++ (joined dataForm (a .held)
+      let e0 : drop nodePlace bs ≡ nodeForm (s .node) ++ (driveForm (a .drive) ++ (joined dataForm (a .ready) ++ (joined dataForm (a .held)
       ++ (a .counts ++ (map flagNumber (a .due) ++ joined planForm (a .plans)))))) = e ∙ simp append-assoc in
-      let e1 = behind 0 nodeLength (nodeForm (s .node)) e0 (length-node (s .node)) in
+      let e1 = behind nodePlace nodeLength (nodeForm (s .node)) e0 (length-node (s .node)) in
       let e2 = behind drivePlace driveLength (driveForm (a .drive)) e1 (length-drive (a .drive)) in
       let e3 = behind readyPlace (eachWay * dataLength) (joined dataForm (a .ready)) e2 (length-frames (a .ready) (h .ready)) in
       let e4 = behind heldPlace (eachWay * dataLength) (joined dataForm (a .held)) e3 (length-frames (a .held) (h .held)) in
@@ -248,6 +251,6 @@ module _ (bs : List ℕ) where
       let plans = row-back planForm PlanTyped (λ i. planAt i bs) (λ i. planOwn i bs) planLength length-plan plan-back
       (a .plans) (2 * eachWay) plansPlace [] (t .plans .size) (t .plans .every) (e6 ∙ sym (append-nil (joined planForm (a .plans)))) in (
         as-state s (node .0) (drive .0) (plans .0) ready held counts (ap (map flagOf) marks ∙ flags-of (a .due)),
-        and-both (nodeOwn 0 bs) _ (node .1) (and-both (driveOwn drivePlace bs) _ (drive .1)
+        and-both (nodeOwn nodePlace bs) _ (node .1) (and-both (driveOwn drivePlace bs) _ (drive .1)
             (and-both (dueOwn bs) _ (ap (λ (xs : List ℕ). every (map ownFlag xs)) marks ∙ flags-own (a .due)) (plans .1))),
       )

@@ -17,7 +17,7 @@ use Rattle.rules_dictionary.proofs.Tests.{and-left, and-right}
 use Rattle.drive.specs.declared.SetPoint.{SetPoint}
 use Rattle.drive.specs.SetPoints.{modeOf}
 use Rattle.dictionary.proofs.Bytes.{value-step}
-use Rattle.form.specs.Form.{flagNumber, flagOf, nmtNumber, nmtOf, stateNumber, driveStateOf, each, joined, nodeForm, nodeAt, setPointForm, setPointAt, storeKind, firstOf, secondOf, storeForm, storeAt, driveForm, driveAt, dataForm, dataAt, half, moveForm, moveAt, planForm, planAt, headForm, form, stateOf, nodeLength, setPointLength, storeLength, driveLength, dataLength, moveLength, planLength, drivePlace, readyPlace, heldPlace, countsPlace, duePlace, plansPlace, stateLength}
+use Rattle.form.specs.Form.{flagNumber, flagOf, nmtNumber, nmtOf, stateNumber, driveStateOf, each, joined, nodeForm, nodeAt, setPointForm, setPointAt, storeKind, firstOf, secondOf, storeForm, storeAt, driveForm, driveAt, dataForm, dataAt, half, moveForm, moveAt, planForm, planAt, headForm, form, stateOf, nmtOffset, voltageOffset, heartbeatOffset, nodeLength, velocityOffset, accelerationOffset, decelerationOffset, setPointLength, storeLength, modeOffset, takenOffset, limitOffset, causeOffset, storeOffset, driveLength, dataLength, moveLength, planLength, nodePlace, drivePlace, storePlace, readyPlace, heldPlace, countsPlace, duePlace, plansPlace, stateLength}
 use Rattle.form.specs.Own.{ownFlag, nodeOwn, sameSetPoint, storeOwn, driveOwn, every, dueOwn, small, planOwn, plansOwn, isOwn}
 use Rattle.form.proofs.Rows.{each-element}
 
@@ -70,20 +70,25 @@ module _ (bs : List ℕ) (fits : (i : ℕ) → getD bs i 0 < 256) where
   bytes-then : (n place m : ℕ) → place + n ≤ length bs → each n place 1 (λ i. getD bs i 0) ++ part (place + n) m bs ≡ part place (n + m) bs
   bytes-then n place m h = rw (each-element n place 0 bs h) (part-join bs place n m)
 
-  node-kept : nodeLength ≤ length bs → nodeOwn 0 bs ≡ true → nodeForm (nodeAt 0 bs) ≡ part 0 nodeLength bs
+  node-kept : nodeLength ≤ length bs → nodeOwn nodePlace bs ≡ true → nodeForm (nodeAt nodePlace bs) ≡ part nodePlace nodeLength bs
   unfolding nodeForm nodeAt nodeOwn
   node-kept h t =
-      let nmt : nmtNumber (nmtOf (getD bs 1 0)) ≡ getD bs 1 0 = eqb-true _ _ (and-left (eqb (nmtNumber (nmtOf (getD bs 1 0))) (getD bs 1 0)) _ t) in
-      let flag : flagNumber (flagOf (getD bs 2 0)) ≡ getD bs 2 0 = eqb-true _ _ (and-right (eqb (nmtNumber (nmtOf (getD bs 1 0))) (getD bs 1 0)) _ t) in
-      rw (nmt, flag, bytes-value 2 3 h) (bytes-then 3 0 2 (omega arith))
+      let second = getD bs (nodePlace + nmtOffset) 0 in
+      let third = getD bs (nodePlace + voltageOffset) 0 in
+      let nmt : nmtNumber (nmtOf second) ≡ second = eqb-true _ _ (and-left (eqb (nmtNumber (nmtOf second)) second) _ t) in
+      let flag : flagNumber (flagOf third) ≡ third = eqb-true _ _ (and-right (eqb (nmtNumber (nmtOf second)) second) _ t) in
+      rw (nmt, flag, bytes-value 2 (nodePlace + heartbeatOffset) h) (bytes-then heartbeatOffset nodePlace 2 (omega arith))
 
   set-point-kept : (place : ℕ) → place + setPointLength ≤ length bs → setPointForm (setPointAt place bs) ≡ part place setPointLength bs
   unfolding setPointForm setPointAt
   set-point-kept place h =
-      let b4 : place + 4 + 4 ≡ place + 8 = omega arith in
-      let b8 : place + 8 + 4 ≡ place + 12 = omega arith in
-      rw (bytes-value 4 place (omega arith), bytes-value 4 (place + 4) (omega arith), bytes-value 4 (place + 8) (omega arith), bytes-value 4 (place + 12) (omega arith), ← b8)
-      (rw (part-join bs (place + 8) 4 4, ← b4) (rw (part-join bs (place + 4) 4 8) (part-join bs place 4 12)))
+      let velocity = place + velocityOffset in
+      let acceleration = place + accelerationOffset in
+      let deceleration = place + decelerationOffset in
+      let third : velocity + 4 ≡ acceleration = omega arith in
+      let fourth : acceleration + 4 ≡ deceleration = omega arith in
+      rw (bytes-value 4 place (omega arith), bytes-value 4 velocity (omega arith), bytes-value 4 acceleration (omega arith), bytes-value 4 deceleration (omega arith), ← fourth)
+      (rw (part-join bs acceleration 4 4, ← third) (rw (part-join bs velocity 4 (4 + 4)) (part-join bs place 4 (4 + (4 + 4)))))
 
   store-kept : (place : ℕ) → place + storeLength ≤ length bs → storeOwn place bs ≡ true → storeForm (storeAt place bs) ≡ part place storeLength bs
   unfolding storeForm storeOwn
@@ -100,24 +105,25 @@ module _ (bs : List ℕ) (fits : (i : ℕ) → getD bs i 0 < 256) where
   drive-kept : drivePlace + driveLength ≤ length bs → driveOwn drivePlace bs ≡ true → driveForm (driveAt drivePlace bs) ≡ part drivePlace driveLength bs
   unfolding driveForm driveAt driveOwn
   drive-kept h t =
-      let a = eqb (stateNumber (driveStateOf (getD bs 5 0))) (getD bs 5 0) in
-      let b = eqb (modeNumber (modeOf (getD bs 6 0))) (getD bs 6 0) in
+      let at : ℕ → ℕ = λ offset. getD bs (drivePlace + offset) 0 in
+      let a = eqb (stateNumber (driveStateOf (at 0))) (at 0) in
+      let b = eqb (modeNumber (modeOf (at modeOffset))) (at modeOffset) in
       let t1 = and-right a _ t in
       let t2 = and-right b _ t1 in
-      let t3 = and-right (ownFlag (getD bs 7 0)) _ t2 in
-      let t4 = and-right (ownFlag (getD bs 8 0)) _ t3 in
-      let flag : (i : ℕ) → ownFlag (getD bs i 0) ≡ true → flagNumber (flagOf (getD bs i 0)) ≡ getD bs i 0 = λ i o. eqb-true _ _ o in
-      let state : stateNumber (driveStateOf (getD bs 5 0)) ≡ getD bs 5 0 = eqb-true _ _ (and-left a _ t) in
-      let mode : modeNumber (modeOf (getD bs 6 0)) ≡ getD bs 6 0 = eqb-true _ _ (and-left b _ t1) in
+      let t3 = and-right (ownFlag (at takenOffset)) _ t2 in
+      let t4 = and-right (ownFlag (at limitOffset)) _ t3 in
+      let flag : (offset : ℕ) → ownFlag (at offset) ≡ true → flagNumber (flagOf (at offset)) ≡ at offset = λ offset o. eqb-true _ _ o in
+      let state : stateNumber (driveStateOf (at 0)) ≡ at 0 = eqb-true _ _ (and-left a _ t) in
+      let mode : modeNumber (modeOf (at modeOffset)) ≡ at modeOffset = eqb-true _ _ (and-left b _ t1) in
       rw (
         state,
         mode,
-        flag 7 (and-left (ownFlag (getD bs 7 0)) _ t2),
-        flag 8 (and-left (ownFlag (getD bs 8 0)) _ t3),
-        flag 9 (and-left (ownFlag (getD bs 9 0)) _ t4),
-        store-kept 10 h (and-right (ownFlag (getD bs 9 0)) _ t4),
+        flag takenOffset (and-left (ownFlag (at takenOffset)) _ t2),
+        flag limitOffset (and-left (ownFlag (at limitOffset)) _ t3),
+        flag causeOffset (and-left (ownFlag (at causeOffset)) _ t4),
+        store-kept storePlace h (and-right (ownFlag (at causeOffset)) _ t4),
       )
-      (bytes-then 5 5 storeLength (omega arith))
+      (bytes-then storeOffset drivePlace storeLength (omega arith))
 
   data-kept : (place : ℕ) → place + dataLength ≤ length bs → dataForm (dataAt place bs) ≡ part place dataLength bs
   unfolding dataForm
@@ -150,12 +156,12 @@ module _ (bs : List ℕ) (fits : (i : ℕ) → getD bs i 0 < 256) where
   pub own-kept : length bs ≡ stateLength → isOwn bs ≡ true → form (stateOf bs) ≡ bs
   unfolding form headForm stateOf isOwn plansOwn
   own-kept l t =
-      let t1 = and-right (nodeOwn 0 bs) _ t in
+      let t1 = and-right (nodeOwn nodePlace bs) _ t in
       let t2 = and-right (driveOwn drivePlace bs) _ t1 in
       let plans = row-kept planForm (λ i. planAt i bs) (λ i. planOwn i bs) planLength plan-kept (2 * eachWay) plansPlace (omega arith) (and-right (dueOwn bs) _ t2) in
       let counts = each-element eachWay countsPlace 0 bs (omega arith) in
       let tail = then-part bs countsPlace eachWay eachWay counts (due-kept (omega arith) (and-left (dueOwn bs) _ t2)) in
       let frames = then-part bs readyPlace (dataLength * eachWay) (plansPlace - heldPlace) (frames-kept readyPlace (omega arith)) (then-part bs heldPlace (dataLength * eachWay) (plansPlace - countsPlace) (frames-kept heldPlace (omega arith)) tail) in
       let drive = then-part bs drivePlace driveLength (plansPlace - readyPlace) (drive-kept (omega arith) (and-left (driveOwn drivePlace bs) _ t1)) frames in
-      let head = then-part bs 0 nodeLength (plansPlace - drivePlace) (node-kept (omega arith) (and-left (nodeOwn 0 bs) _ t)) drive in
-      then-part bs 0 plansPlace (planLength * (2 * eachWay)) head plans ∙ take-all stateLength bs (omega arith)
+      let head = then-part bs nodePlace nodeLength (plansPlace - drivePlace) (node-kept (omega arith) (and-left (nodeOwn nodePlace bs) _ t)) drive in
+      then-part bs nodePlace plansPlace (planLength * (2 * eachWay)) head plans ∙ take-all stateLength bs (omega arith)

@@ -18,7 +18,7 @@ use Rattle.drive.specs.declared.Store.the-variants.{Empty, Rested, Moving, Queu
 use Rattle.state.specs.declared.State.{State}
 use Rattle.rules.specs.Outcome.{sameBy}
 use Rattle.dictionary.proofs.Bytes.{value-step, value-none}
-use Rattle.form.specs.Form.{each, joined, nodeForm, nodeAt, setPointForm, setPointAt, storeForm, storeAt, driveForm, driveAt, dataForm, dataAt, resting, moveLength, planLength, moveAt, planForm, planAt, headForm, form, HoldsPlans, stateOf, isForm, dataLength, readyPlace, heldPlace, plansPlace, stateLength}
+use Rattle.form.specs.Form.{each, joined, heartbeatOffset, nodeForm, nodeAt, velocityOffset, accelerationOffset, decelerationOffset, setPointLength, setPointForm, setPointAt, storeForm, storeAt, driveForm, driveAt, dataForm, dataAt, resting, moveLength, planLength, moveAt, planForm, planAt, headForm, form, HoldsPlans, stateOf, isForm, dataLength, nodePlace, storePlace, readyPlace, heldPlace, plansPlace, stateLength}
 use Rattle.form.specs.Own.{isOwn}
 use Rattle.form.specs.Typed.{Many, SetPointTyped, StoreTyped, DataTyped, MoveTyped, PlanTyped, HeadTyped, Typed}
 use Rattle.form.proofs.Kept.{own-kept}
@@ -81,16 +81,18 @@ module _ (bs : List ℕ) (fits : (i : ℕ) → getD bs i 0 < 256) where
   set-point-typed : (place : ℕ) → SetPointTyped (setPointAt place bs)
   unfolding setPointAt
   set-point-typed place =
-      record { target = value-fits 4 place; velocity = value-fits 4 (place + 4); acceleration = value-fits 4 (place + 8); deceleration = value-fits 4 (place + 12) }
+      record { target = value-fits 4 place; velocity = value-fits 4 (place + velocityOffset); acceleration = value-fits 4 (place + accelerationOffset); deceleration = value-fits 4 (place + decelerationOffset) }
 
   -- what the types say of the state that bytes hold
   pub typed-read : Typed (stateOf bs)
   unfolding stateOf nodeAt driveAt storeAt
   typed-read =
+      let kind = getD bs storePlace 0 in
+      let first = storePlace + 1 in
       record {
         head = record {
-          heartbeat = value-fits 2 3;
-          store = store-typed (eqb (getD bs 10 0) 0) (eqb (getD bs 10 0) 1) (eqb (getD bs 10 0) 2) _ _ _ (value-fits 4 11) (set-point-typed 11) (set-point-typed 27);
+          heartbeat = value-fits 2 (nodePlace + heartbeatOffset);
+          store = store-typed (eqb kind 0) (eqb kind 1) (eqb kind 2) _ _ _ (value-fits 4 first) (set-point-typed first) (set-point-typed (first + setPointLength));
           ready = record { size = refl; every = each-read DataTyped (λ i. dataAt i bs) eachWay readyPlace dataLength (λ i. record { size = refl }) };
           held = record { size = refl; every = each-read DataTyped (λ i. dataAt i bs) eachWay heldPlace dataLength (λ i. record { size = refl }) };
           counts = refl;

@@ -22,7 +22,7 @@ use Rattle.drive.specs.declared.Store.{Store}
 use Rattle.drive.specs.declared.Drive.{Drive}
 use Rattle.state.specs.declared.Node.{Node}
 use Rattle.state.specs.declared.State.{State}
-use Rattle.form.specs.Form.{each, joined, flagNumber, nodeForm, setPointForm, storeKind, firstOf, secondOf, storeForm, driveForm, dataForm, moveForm, planForm, headForm, form, withPlans, formOver, HoldsPlans, nodeLength, setPointLength, driveLength, dataLength, moveLength, planLength, drivePlace, readyPlace, heldPlace, countsPlace, plansPlace, stateLength}
+use Rattle.form.specs.Form.{each, joined, flagNumber, nodeForm, setPointForm, storeKind, firstOf, secondOf, storeForm, driveForm, dataForm, moveForm, planForm, headForm, form, withPlans, formOver, HoldsPlans, nodeLength, velocityOffset, accelerationOffset, decelerationOffset, setPointLength, driveLength, dataLength, moveLength, planLength, nodePlace, drivePlace, readyPlace, heldPlace, countsPlace, plansPlace, stateLength}
 use Rattle.form.specs.Typed.{Many, DataTyped, MoveTyped, PlanTyped, HeadTyped, Typed}
 
 -- what is written behind what was written
@@ -93,28 +93,29 @@ in-turn d a b c e p q r s g h i =
     sym (sets-append d a (b ++ (c ++ e)) p q g ∙ sets-append (sets d p a) b (c ++ e) q r h ∙ sets-append (sets (sets d p a) q b) c e r s i)
 
 pub set-point-written : (d : List ℕ) (place : ℕ) (p : SetPoint) →
-    sets (sets (sets (sets d place (bytes 4 (p .target))) (place + 4) (bytes 4 (p .velocity))) (place + 8) (bytes 4 (p .acceleration))) (place + 12) (bytes 4 (p .deceleration))
+    sets (sets (sets (sets d place (bytes 4 (p .target))) (place + velocityOffset) (bytes 4 (p .velocity))) (place + accelerationOffset) (bytes 4 (p .acceleration))) (place + decelerationOffset) (bytes 4 (p .deceleration))
     ≡ sets d place (setPointForm p)
 unfolding setPointForm bytes
 set-point-written d place p =
-    in-turn d (bytes 4 (p .target)) (bytes 4 (p .velocity)) (bytes 4 (p .acceleration)) (bytes 4 (p .deceleration)) place (place + 4) (place + 8) (place + 12)
+    in-turn d (bytes 4 (p .target)) (bytes 4 (p .velocity)) (bytes 4 (p .acceleration)) (bytes 4 (p .deceleration)) place (place + velocityOffset) (place + accelerationOffset) (place + decelerationOffset)
     refl (omega arith) (omega arith)
 
--- a PDO's data: nine bytes
+-- a PDO's data: its length, and the bytes behind it
 pub frame-written : (d : List ℕ) (place : ℕ) (r : PdoData) → length (r .bytes) ≡ mostData →
-    set (set (set (set (set (set (set (set (set d place (r .length)) (place + 1) (getD (r .bytes) 0 0)) (place + 2) (getD (r .bytes) 1 0)) (place + 3) (getD (r .bytes) 2 0))
-    (place + 4) (getD (r .bytes) 3 0)) (place + 5) (getD (r .bytes) 4 0)) (place + 6) (getD (r .bytes) 5 0)) (place + 7) (getD (r .bytes) 6 0)) (place + 8) (getD (r .bytes) 7 0)
+    let at : ℕ = place + 1 in
+    set (set (set (set (set (set (set (set (set d place (r .length)) at (getD (r .bytes) 0 0)) (at + 1) (getD (r .bytes) 1 0)) (at + 2) (getD (r .bytes) 2 0))
+    (at + 3) (getD (r .bytes) 3 0)) (at + 4) (getD (r .bytes) 4 0)) (at + 5) (getD (r .bytes) 5 0)) (at + 6) (getD (r .bytes) 6 0)) (at + 7) (getD (r .bytes) 7 0)
     ≡ sets d place (dataForm r)
 unfolding dataForm
 frame-written d place r l =
     let p1 : place + 1 ≡ suc place = omega arith in
-    let p2 : place + 2 ≡ suc (suc place) = omega arith in
-    let p3 : place + 3 ≡ suc (suc (suc place)) = omega arith in
-    let p4 : place + 4 ≡ suc (suc (suc (suc place))) = omega arith in
-    let p5 : place + 5 ≡ suc (suc (suc (suc (suc place)))) = omega arith in
-    let p6 : place + 6 ≡ suc (suc (suc (suc (suc (suc place))))) = omega arith in
-    let p7 : place + 7 ≡ suc (suc (suc (suc (suc (suc (suc place)))))) = omega arith in
-    let p8 : place + 8 ≡ suc (suc (suc (suc (suc (suc (suc (suc place))))))) = omega arith in
+    let p2 : suc place + 1 ≡ suc (suc place) = omega arith in
+    let p3 : suc place + 2 ≡ suc (suc (suc place)) = omega arith in
+    let p4 : suc place + 3 ≡ suc (suc (suc (suc place))) = omega arith in
+    let p5 : suc place + 4 ≡ suc (suc (suc (suc (suc place)))) = omega arith in
+    let p6 : suc place + 5 ≡ suc (suc (suc (suc (suc (suc place))))) = omega arith in
+    let p7 : suc place + 6 ≡ suc (suc (suc (suc (suc (suc (suc place)))))) = omega arith in
+    let p8 : suc place + 7 ≡ suc (suc (suc (suc (suc (suc (suc (suc place))))))) = omega arith in
     rw (p1, p2, p3, p4, p5, p6, p7, p8) (ap (λ (bs : List ℕ). sets d place (r .length ∷ bs)) (listed mostData 0 (r .bytes) l))
 
 -- a plan: a byte, and the row behind it
@@ -203,7 +204,7 @@ front d xs n e h = let z : 0 + length xs ≡ n = omega arith in rw z at (sets-eq
 
 -- the parts before the plans
 pub head-written : (d : List ℕ) (s : State) → length d ≡ stateLength → HeadTyped s →
-    sets (sets (sets (sets (sets d 0 (nodeForm (s .node))) drivePlace (driveForm (s .axis .drive))) readyPlace (joined dataForm (s .axis .ready)))
+    sets (sets (sets (sets (sets d nodePlace (nodeForm (s .node))) drivePlace (driveForm (s .axis .drive))) readyPlace (joined dataForm (s .axis .ready)))
     heldPlace (joined dataForm (s .axis .held))) countsPlace (s .axis .counts ++ map flagNumber (s .axis .due)) ≡ formOver d s
 unfolding formOver headForm
 head-written d s l t =
@@ -214,8 +215,8 @@ head-written d s l t =
     let c = s .axis .counts ++ map flagNumber (s .axis .due) in
     let lr = length-frames (s .axis .ready) (t .ready) in
     let lh = length-frames (s .axis .held) (t .held) in
-    in-turn (sets d 0 n) v r h c drivePlace readyPlace heldPlace countsPlace (omega (arith, length-drive (s .axis .drive))) (omega arith) (omega arith)
-    ∙ sym (sets-append d n (v ++ (r ++ (h ++ c))) 0 drivePlace (omega (arith, length-node (s .node))))
+    in-turn (sets d nodePlace n) v r h c drivePlace readyPlace heldPlace countsPlace (omega (arith, length-drive (s .axis .drive))) (omega arith) (omega arith)
+    ∙ sym (sets-append d n (v ++ (r ++ (h ++ c))) nodePlace drivePlace (omega (arith, length-node (s .node))))
     ∙ front d (headForm s) plansPlace (length-head s t) (omega arith)
 
 -- what was written up to the end

@@ -76,8 +76,18 @@ joined f (x ∷ xs) = f x ++ joined f xs
 
 -- ---- the node: node-ID, NMT state, voltage flag, heartbeat count
 
+-- where its parts stand, counted from its first byte
+abbrev pub nmtOffset : ℕ
+nmtOffset = 1
+
+abbrev pub voltageOffset : ℕ
+voltageOffset = nmtOffset + 1
+
+abbrev pub heartbeatOffset : ℕ
+heartbeatOffset = voltageOffset + 1
+
 abbrev pub nodeLength : ℕ
-nodeLength = 5
+nodeLength = heartbeatOffset + 2
 
 unfoldable pub nodeForm : Node → List ℕ
 nodeForm n = n .id ∷ nmtNumber (n .nmt) ∷ flagNumber (n .voltage) ∷ bytes 2 (n .heartbeat)
@@ -86,15 +96,25 @@ unfoldable pub nodeAt : ℕ → List ℕ → Node
 nodeAt place bs =
     record {
       id = getD bs place 0;
-      nmt = nmtOf (getD bs (place + 1) 0);
-      voltage = flagOf (getD bs (place + 2) 0);
-      heartbeat = value (part (place + 3) 2 bs);
+      nmt = nmtOf (getD bs (place + nmtOffset) 0);
+      voltage = flagOf (getD bs (place + voltageOffset) 0);
+      heartbeat = value (part (place + heartbeatOffset) 2 bs);
     }
 
 -- ---- the drive: state, mode, taken, limit and cause marks, and the store: its kind and the bytes of two set-points
 
+-- where a set-point's numbers stand behind its target, counted from there
+abbrev pub velocityOffset : ℕ
+velocityOffset = 4
+
+abbrev pub accelerationOffset : ℕ
+accelerationOffset = velocityOffset + 4
+
+abbrev pub decelerationOffset : ℕ
+decelerationOffset = accelerationOffset + 4
+
 abbrev pub setPointLength : ℕ
-setPointLength = 16
+setPointLength = decelerationOffset + 4
 
 unfoldable pub setPointForm : SetPoint → List ℕ
 setPointForm p = bytes 4 (p .target) ++ (bytes 4 (p .velocity) ++ (bytes 4 (p .acceleration) ++ bytes 4 (p .deceleration)))
@@ -103,9 +123,9 @@ unfoldable pub setPointAt : ℕ → List ℕ → SetPoint
 setPointAt place bs =
     record {
       target = value (part place 4 bs);
-      velocity = value (part (place + 4) 4 bs);
-      acceleration = value (part (place + 8) 4 bs);
-      deceleration = value (part (place + 12) 4 bs);
+      velocity = value (part (place + velocityOffset) 4 bs);
+      acceleration = value (part (place + accelerationOffset) 4 bs);
+      deceleration = value (part (place + decelerationOffset) 4 bs);
     }
 
 abbrev pub storeLength : ℕ
@@ -143,8 +163,24 @@ storeAt place bs =
     (cond (eqb (getD bs place 0) 2) (Moving (setPointAt (place + 1) bs))
     (Queued (setPointAt (place + 1) bs) (setPointAt (place + 1 + setPointLength) bs))))
 
+-- where the drive's parts stand, counted from its first byte
+abbrev pub modeOffset : ℕ
+modeOffset = 1
+
+abbrev pub takenOffset : ℕ
+takenOffset = modeOffset + 1
+
+abbrev pub limitOffset : ℕ
+limitOffset = takenOffset + 1
+
+abbrev pub causeOffset : ℕ
+causeOffset = limitOffset + 1
+
+abbrev pub storeOffset : ℕ
+storeOffset = causeOffset + 1
+
 abbrev pub driveLength : ℕ
-driveLength = 5 + storeLength
+driveLength = storeOffset + storeLength
 
 unfoldable pub driveForm : Drive → List ℕ
 driveForm v =
@@ -154,11 +190,11 @@ unfoldable pub driveAt : ℕ → List ℕ → Drive
 driveAt place bs =
     record {
       state = driveStateOf (getD bs place 0);
-      mode = modeOf (getD bs (place + 1) 0);
-      store = storeAt (place + 5) bs;
-      taken = flagOf (getD bs (place + 2) 0);
-      limit = flagOf (getD bs (place + 3) 0);
-      cause = flagOf (getD bs (place + 4) 0);
+      mode = modeOf (getD bs (place + modeOffset) 0);
+      store = storeAt (place + storeOffset) bs;
+      taken = flagOf (getD bs (place + takenOffset) 0);
+      limit = flagOf (getD bs (place + limitOffset) 0);
+      cause = flagOf (getD bs (place + causeOffset) 0);
     }
 
 -- ---- the data of a PDO: its length and eight bytes
@@ -201,8 +237,14 @@ planAt place bs = record { count = getD bs place 0; moves = each mostMoves (plac
 -- ---- the whole
 
 -- where the parts stand
+abbrev pub nodePlace : ℕ
+nodePlace = 0
+
 abbrev pub drivePlace : ℕ
-drivePlace = nodeLength
+drivePlace = nodePlace + nodeLength
+
+abbrev pub storePlace : ℕ
+storePlace = drivePlace + storeOffset
 
 abbrev pub readyPlace : ℕ
 readyPlace = drivePlace + driveLength
@@ -249,7 +291,7 @@ HoldsPlans bs plans = drop plansPlace bs ≡ joined planForm plans
 unfoldable pub stateOf : List ℕ → State
 stateOf bs =
     record {
-      node = nodeAt 0 bs;
+      node = nodeAt nodePlace bs;
       axis = record {
         drive = driveAt drivePlace bs;
         plans = each (2 * eachWay) plansPlace planLength (λ i. planAt i bs);

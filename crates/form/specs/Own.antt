@@ -10,13 +10,13 @@ use Rattle.rules_dictionary.specs.Numbers.{value, part, all}
 use Rattle.rules_dictionary.specs.Table.{eachWay, mostMoves}
 use Rattle.rules_dictionary.specs.Legal.{modeNumber}
 use Rattle.drive.specs.SetPoints.{modeOf}
-use Rattle.form.specs.Form.{flagNumber, flagOf, nmtNumber, nmtOf, stateNumber, driveStateOf, each, setPointLength, setPointAt, storeKind, firstOf, secondOf, storeAt, moveLength, planLength, drivePlace, duePlace, plansPlace}
+use Rattle.form.specs.Form.{flagNumber, flagOf, nmtNumber, nmtOf, stateNumber, driveStateOf, each, nmtOffset, voltageOffset, setPointLength, setPointAt, storeKind, firstOf, secondOf, storeAt, modeOffset, takenOffset, limitOffset, causeOffset, storeOffset, moveLength, planLength, nodePlace, drivePlace, duePlace, plansPlace}
 
 abbrev pub ownFlag : ℕ → Bool
 ownFlag b = eqb (flagNumber (flagOf b)) b
 
 unfoldable pub nodeOwn : ℕ → List ℕ → Bool
-nodeOwn place bs = eqb (nmtNumber (nmtOf (getD bs (place + 1) 0))) (getD bs (place + 1) 0) && ownFlag (getD bs (place + 2) 0)
+nodeOwn place bs = eqb (nmtNumber (nmtOf (getD bs (place + nmtOffset) 0))) (getD bs (place + nmtOffset) 0) && ownFlag (getD bs (place + voltageOffset) 0)
 
 unfoldable pub sameSetPoint : SetPoint → SetPoint → Bool
 sameSetPoint a b =
@@ -38,8 +38,10 @@ storeOwn place bs =
 unfoldable pub driveOwn : ℕ → List ℕ → Bool
 driveOwn place bs =
     eqb (stateNumber (driveStateOf (getD bs place 0))) (getD bs place 0)
-    && (eqb (modeNumber (modeOf (getD bs (place + 1) 0))) (getD bs (place + 1) 0)
-    && (ownFlag (getD bs (place + 2) 0) && (ownFlag (getD bs (place + 3) 0) && (ownFlag (getD bs (place + 4) 0) && storeOwn (place + 5) bs))))
+    && (eqb (modeNumber (modeOf (getD bs (place + modeOffset) 0))) (getD bs (place + modeOffset) 0)
+    && (ownFlag (getD bs (place + takenOffset) 0)
+    && (ownFlag (getD bs (place + limitOffset) 0)
+    && (ownFlag (getD bs (place + causeOffset) 0) && storeOwn (place + storeOffset) bs))))
 
 -- do all tests hold
 abbrev pub every : List Bool → Bool
@@ -59,4 +61,4 @@ unfoldable pub plansOwn : List ℕ → Bool
 plansOwn bs = every (each (2 * eachWay) plansPlace planLength (λ i. planOwn i bs))
 
 unfoldable pub isOwn : List ℕ → Bool
-isOwn bs = nodeOwn 0 bs && (driveOwn drivePlace bs && (dueOwn bs && plansOwn bs))
+isOwn bs = nodeOwn nodePlace bs && (driveOwn drivePlace bs && (dueOwn bs && plansOwn bs))

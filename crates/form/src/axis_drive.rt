@@ -4,6 +4,7 @@ use crate::node::both;
 use crate::node::flag_number;
 use crate::node::flag_of;
 use crate::node::own_flag;
+use crate::places;
 use dictionary::read4;
 use dictionary::write4;
 use drive::Drive;
@@ -19,26 +20,9 @@ ghost use lib.ListN.{length};
 ghost use lib.Seq.{sets};
 ghost use Rattle.rules_dictionary.specs.Legal.{modeNumber};
 ghost use Rattle.drive.specs.SetPoints.{modeOf};
-ghost use Rattle.form.specs.Form.{driveStateOf, setPointLength, setPointAt, storeAt, drivePlace, driveAt, stateLength, stateNumber, setPointForm, storeKind, firstOf, secondOf, storeForm, driveForm};
+ghost use Rattle.form.specs.Form.{driveStateOf, setPointLength, setPointAt, storeAt, drivePlace, storePlace, driveAt, stateLength, stateNumber, setPointForm, storeKind, firstOf, secondOf, storeForm, driveForm};
 ghost use Rattle.form.specs.Typed.{SetPointTyped, StoreTyped};
 ghost use Rattle.form.specs.Own.{rests, isNone, storeOwn, driveOwn};
-
-// Where its bytes stand; those of the store are its kind and two set-points.
-const STATE: usize = 5;
-
-const MODE: usize = 6;
-
-const TAKEN: usize = 7;
-
-const LIMIT: usize = 8;
-
-const CAUSE: usize = 9;
-
-const STORE: usize = 10;
-
-const FIRST: usize = 11;
-
-const SECOND: usize = 27;
 
 // The drive state of a number.
 fn drive_state_of(b: u8) -> DriveState
@@ -63,22 +47,25 @@ fn read_set_point(bytes: &[u8], place: usize) -> SetPoint
 {
     SetPoint {
         target: read4(bytes, place),
-        velocity: read4(bytes, place + 4),
-        acceleration: read4(bytes, place + 8),
-        deceleration: read4(bytes, place + 12),
+        velocity: read4(bytes, place + places::VELOCITY_OFFSET),
+        acceleration: read4(bytes, place + places::ACCELERATION_OFFSET),
+        deceleration: read4(bytes, place + places::DECELERATION_OFFSET),
     }
 }
 
 // The store that the bytes hold.
 fn read_store(bytes: &[u8]) -> Store
     requires { ⌜ length (now bytes) ≡ stateLength ⌝ }
-    ensures { λ r. ⌜ r ≡ storeAt (drivePlace + 5) (now (bytes .entry)) ⌝ }
+    ensures { λ r. ⌜ r ≡ storeAt storePlace (now (bytes .entry)) ⌝ }
 {
-    match bytes[STORE] {
+    match bytes[places::STORE] {
         0 => Store::Empty,
-        1 => Store::Rested(read4(bytes, FIRST)),
-        2 => Store::Moving(read_set_point(bytes, FIRST)),
-        _ => Store::Queued(read_set_point(bytes, FIRST), read_set_point(bytes, SECOND)),
+        1 => Store::Rested(read4(bytes, places::FIRST_SET_POINT)),
+        2 => Store::Moving(read_set_point(bytes, places::FIRST_SET_POINT)),
+        _ => Store::Queued(
+            read_set_point(bytes, places::FIRST_SET_POINT),
+            read_set_point(bytes, places::SECOND_SET_POINT),
+        ),
     }
 }
 
@@ -87,16 +74,16 @@ pub fn read_drive(bytes: &[u8]) -> Drive
     requires { ⌜ length (now bytes) ≡ stateLength ⌝ }
     ensures { λ r. ⌜ r ≡ driveAt drivePlace (now (bytes .entry)) ⌝ }
 {
-    let state = drive_state_of(bytes[STATE]);
-    let mode = mode_of(bytes[MODE]);
+    let state = drive_state_of(bytes[places::DRIVE_STATE]);
+    let mode = mode_of(bytes[places::MODE]);
     let store = read_store(bytes);
     Drive {
         state,
         mode,
         store,
-        taken: flag_of(bytes[TAKEN]),
-        limit: flag_of(bytes[LIMIT]),
-        cause: flag_of(bytes[CAUSE]),
+        taken: flag_of(bytes[places::TAKEN]),
+        limit: flag_of(bytes[places::LIMIT]),
+        cause: flag_of(bytes[places::CAUSE]),
     }
 }
 
@@ -186,21 +173,21 @@ fn write_set_point(bytes: &mut [u8], place: usize, p: SetPoint)
     ensures { λ r. ⌜ (now (bytes .exit) ≡ sets (now (bytes .entry)) place (setPointForm p)) × SetPointTyped p ⌝ }
 {
     write4(bytes, place, p.target);
-    write4(bytes, place + 4, p.velocity);
-    write4(bytes, place + 8, p.acceleration);
-    write4(bytes, place + 12, p.deceleration);
+    write4(bytes, place + places::VELOCITY_OFFSET, p.velocity);
+    write4(bytes, place + places::ACCELERATION_OFFSET, p.acceleration);
+    write4(bytes, place + places::DECELERATION_OFFSET, p.deceleration);
 }
 
 // The store into the bytes.
 fn write_store(bytes: &mut [u8], store: Store)
     requires { ⌜ length (now bytes) ≡ stateLength ⌝ }
-    ensures { λ r. ⌜ (now (bytes .exit) ≡ sets (now (bytes .entry)) (drivePlace + 5) (storeForm store)) × StoreTyped store ⌝ }
+    ensures { λ r. ⌜ (now (bytes .exit) ≡ sets (now (bytes .entry)) storePlace (storeForm store)) × StoreTyped store ⌝ }
 {
     let first = first_of(store);
     let second = second_of(store);
-    bytes[STORE] = store_kind(store);
-    write_set_point(bytes, FIRST, first);
-    write_set_point(bytes, SECOND, second);
+    bytes[places::STORE] = store_kind(store);
+    write_set_point(bytes, places::FIRST_SET_POINT, first);
+    write_set_point(bytes, places::SECOND_SET_POINT, second);
 }
 
 // The drive into the bytes.
@@ -211,11 +198,11 @@ pub fn write_drive(bytes: &mut [u8], v: Drive)
     let state = v.state;
     let mode = v.mode;
     let store = v.store;
-    bytes[STATE] = state_number(state);
-    bytes[MODE] = mode_number(mode);
-    bytes[TAKEN] = flag_number(v.taken);
-    bytes[LIMIT] = flag_number(v.limit);
-    bytes[CAUSE] = flag_number(v.cause);
+    bytes[places::DRIVE_STATE] = state_number(state);
+    bytes[places::MODE] = mode_number(mode);
+    bytes[places::TAKEN] = flag_number(v.taken);
+    bytes[places::LIMIT] = flag_number(v.limit);
+    bytes[places::CAUSE] = flag_number(v.cause);
     write_store(bytes, store);
 }
 
@@ -224,7 +211,9 @@ fn bits_behind(bytes: &[u8], place: usize) -> u32
     requires { ⌜ place + setPointLength ≤ length (now bytes) ⌝ }
     ensures { λ r. ⌜ eqb r 0 ≡ rests (setPointAt place (now (bytes .entry))) ⌝ }
 {
-    read4(bytes, place + 4) | (read4(bytes, place + 8) | read4(bytes, place + 12))
+    read4(bytes, place + places::VELOCITY_OFFSET)
+        | (read4(bytes, place + places::ACCELERATION_OFFSET)
+            | read4(bytes, place + places::DECELERATION_OFFSET))
 }
 
 // The bits of all of a set-point's numbers.
@@ -238,12 +227,12 @@ fn bits_of(bytes: &[u8], place: usize) -> u32
 // Whether the store's bytes are its form: what a kind of store does not use is zero.
 fn own_store(bytes: &[u8]) -> bool
     requires { ⌜ length (now bytes) ≡ stateLength ⌝ }
-    ensures { λ r. ⌜ r ≡ storeOwn (drivePlace + 5) (now (bytes .entry)) ⌝ }
+    ensures { λ r. ⌜ r ≡ storeOwn storePlace (now (bytes .entry)) ⌝ }
 {
-    let first = bits_behind(bytes, FIRST);
-    let second = bits_of(bytes, SECOND);
-    match bytes[STORE] {
-        0 => (read4(bytes, FIRST) | (first | second)) == 0,
+    let first = bits_behind(bytes, places::FIRST_SET_POINT);
+    let second = bits_of(bytes, places::SECOND_SET_POINT);
+    match bytes[places::STORE] {
+        0 => (read4(bytes, places::FIRST_SET_POINT) | (first | second)) == 0,
         1 => (first | second) == 0,
         2 => second == 0,
         3 => true,
@@ -268,11 +257,14 @@ pub fn own_drive(bytes: &[u8]) -> bool
     requires { ⌜ length (now bytes) ≡ stateLength ⌝ }
     ensures { λ r. ⌜ r ≡ driveOwn drivePlace (now (bytes .entry)) ⌝ }
 {
-    let state = drive_state_of(bytes[STATE]);
+    let state = drive_state_of(bytes[places::DRIVE_STATE]);
     let marks = both(
-        own_flag(bytes[LIMIT]),
-        both(own_flag(bytes[CAUSE]), own_store(bytes)),
+        own_flag(bytes[places::LIMIT]),
+        both(own_flag(bytes[places::CAUSE]), own_store(bytes)),
     );
-    let modes = both(own_mode(bytes[MODE]), both(own_flag(bytes[TAKEN]), marks));
-    both(state_number(state) == bytes[STATE], modes)
+    let modes = both(
+        own_mode(bytes[places::MODE]),
+        both(own_flag(bytes[places::TAKEN]), marks),
+    );
+    both(state_number(state) == bytes[places::DRIVE_STATE], modes)
 }

@@ -1,9 +1,10 @@
 // The state as bytes of one length, and back: each state has one form. The layout is specs/Form.antt.
-// node: the node's part. axis_drive: the drive's. pdos: plans, data and what is kept for each PDO.
+// node: the node's part. axis_drive: the drive's. pdos: plans, data and what is kept for each PDO. places: where they stand.
 
 mod axis_drive;
 mod node;
 mod pdos;
+pub mod places;
 
 use drive::Drive;
 use node::both;
@@ -18,11 +19,6 @@ ghost use lib.ListN.{length};
 ghost use Rattle.form.specs.Form.{stateLength, stateOf, form, withPlans, formOver, isForm};
 ghost use Rattle.form.specs.Typed.{HeadTyped, Typed};
 
-// Where the ready and the held frames stand.
-const READY: usize = 43;
-
-const HELD: usize = 79;
-
 // The state that the bytes hold.
 pub fn read_state(bytes: &[u8]) -> State
     requires { ⌜ length (now bytes) ≡ stateLength ⌝ }
@@ -30,8 +26,8 @@ pub fn read_state(bytes: &[u8]) -> State
 {
     let node = node::read_node(bytes);
     let drive = axis_drive::read_drive(bytes);
-    let ready = pdos::read_frames(bytes, READY);
-    let held = pdos::read_frames(bytes, HELD);
+    let ready = pdos::read_frames(bytes, places::READY);
+    let held = pdos::read_frames(bytes, places::HELD);
     let counts = pdos::read_counts(bytes);
     let due = pdos::read_marks(bytes);
     let plans = pdos::read_plans(bytes);
@@ -63,8 +59,8 @@ pub fn write_head(
 {
     node::write_node(bytes, node);
     axis_drive::write_drive(bytes, drive);
-    pdos::write_frames(bytes, READY, ready);
-    pdos::write_frames(bytes, HELD, held);
+    pdos::write_frames(bytes, places::READY, ready);
+    pdos::write_frames(bytes, places::HELD, held);
     pdos::write_counts(bytes, counts, due);
 }
 

@@ -1,5 +1,6 @@
 // The node's part of the form.
 
+use crate::places;
 use dictionary::read2;
 use dictionary::write2;
 use state::NmtState;
@@ -9,17 +10,8 @@ ghost use mathlib.Core.Bool.{_&&_};
 ghost use Prim.Native.Nat.{_<_};
 ghost use lib.ListN.{length};
 ghost use lib.Seq.{sets};
-ghost use Rattle.form.specs.Form.{flagOf, flagNumber, nmtOf, nmtNumber, stateLength, nodeAt, nodeForm, half};
+ghost use Rattle.form.specs.Form.{flagOf, flagNumber, nmtOf, nmtNumber, stateLength, nodePlace, nodeAt, nodeForm, half};
 ghost use Rattle.form.specs.Own.{ownFlag, nodeOwn};
-
-// Where its bytes stand.
-const ID: usize = 0;
-
-const NMT: usize = 1;
-
-const VOLTAGE: usize = 2;
-
-const HEARTBEAT: usize = 3;
 
 // The flag of a byte.
 pub fn flag_of(b: u8) -> bool
@@ -45,14 +37,14 @@ fn nmt_of(b: u8) -> NmtState
 // The node that the bytes hold.
 pub fn read_node(bytes: &[u8]) -> Node
     requires { ⌜ length (now bytes) ≡ stateLength ⌝ }
-    ensures { λ r. ⌜ r ≡ nodeAt 0 (now (bytes .entry)) ⌝ }
+    ensures { λ r. ⌜ r ≡ nodeAt nodePlace (now (bytes .entry)) ⌝ }
 {
-    let nmt = nmt_of(bytes[NMT]);
+    let nmt = nmt_of(bytes[places::NMT]);
     Node {
-        id: bytes[ID],
+        id: bytes[places::NODE_ID],
         nmt,
-        voltage: flag_of(bytes[VOLTAGE]),
-        heartbeat: read2(bytes, HEARTBEAT),
+        voltage: flag_of(bytes[places::VOLTAGE]),
+        heartbeat: read2(bytes, places::HEARTBEAT),
     }
 }
 
@@ -77,13 +69,13 @@ fn nmt_number(nmt: NmtState) -> u8
 // The node into the bytes.
 pub fn write_node(bytes: &mut [u8], n: Node)
     requires { ⌜ length (now bytes) ≡ stateLength ⌝ }
-    ensures { λ r. ⌜ (now (bytes .exit) ≡ sets (now (bytes .entry)) 0 (nodeForm n)) × (n .heartbeat < half) ⌝ }
+    ensures { λ r. ⌜ (now (bytes .exit) ≡ sets (now (bytes .entry)) nodePlace (nodeForm n)) × (n .heartbeat < half) ⌝ }
 {
     let nmt = n.nmt;
-    bytes[ID] = n.id;
-    bytes[NMT] = nmt_number(nmt);
-    bytes[VOLTAGE] = flag_number(n.voltage);
-    write2(bytes, HEARTBEAT, n.heartbeat);
+    bytes[places::NODE_ID] = n.id;
+    bytes[places::NMT] = nmt_number(nmt);
+    bytes[places::VOLTAGE] = flag_number(n.voltage);
+    write2(bytes, places::HEARTBEAT, n.heartbeat);
 }
 
 // Whether two tests hold, both made.
@@ -103,8 +95,11 @@ pub fn own_flag(b: u8) -> bool
 // Whether the node's bytes are its form.
 pub fn own_node(bytes: &[u8]) -> bool
     requires { ⌜ length (now bytes) ≡ stateLength ⌝ }
-    ensures { λ r. ⌜ r ≡ nodeOwn 0 (now (bytes .entry)) ⌝ }
+    ensures { λ r. ⌜ r ≡ nodeOwn nodePlace (now (bytes .entry)) ⌝ }
 {
-    let nmt = nmt_of(bytes[NMT]);
-    both(nmt_number(nmt) == bytes[NMT], own_flag(bytes[VOLTAGE]))
+    let nmt = nmt_of(bytes[places::NMT]);
+    both(
+        nmt_number(nmt) == bytes[places::NMT],
+        own_flag(bytes[places::VOLTAGE]),
+    )
 }

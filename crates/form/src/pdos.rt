@@ -4,6 +4,9 @@ use crate::node::both;
 use crate::node::flag_number;
 use crate::node::flag_of;
 use crate::node::own_flag;
+use crate::places;
+use dictionary::places::MOST_WORDS;
+use dictionary::places::PDOS;
 use dictionary::read4;
 use dictionary::write4;
 use rules_dictionary::Move;
@@ -19,53 +22,12 @@ ghost use Rattle.form.specs.Form.{flagOf, each, dataLength, dataAt, move
 ghost use Rattle.form.specs.Typed.{Many, DataTyped, MoveTyped, PlanTyped};
 ghost use Rattle.form.specs.Own.{dueOwn, small, planOwn, plansOwn};
 
-// Where the SYNC counts and the due marks stand.
-const FIRST_COUNT: usize = 115;
-
-const SECOND_COUNT: usize = 116;
-
-const THIRD_COUNT: usize = 117;
-
-const FOURTH_COUNT: usize = 118;
-
-const FIRST_DUE: usize = 119;
-
-const SECOND_DUE: usize = 120;
-
-const THIRD_DUE: usize = 121;
-
-const FOURTH_DUE: usize = 122;
-
-// Where the plans stand, and how long each is.
-const PLAN: usize = 33;
-
-const FIRST: usize = 123;
-
-const SECOND: usize = FIRST + PLAN;
-
-const THIRD: usize = SECOND + PLAN;
-
-const FOURTH: usize = THIRD + PLAN;
-
-const FIFTH: usize = FOURTH + PLAN;
-
-const SIXTH: usize = FIFTH + PLAN;
-
-const SEVENTH: usize = SIXTH + PLAN;
-
-const EIGHTH: usize = SEVENTH + PLAN;
-
-// The bytes of a move, and of data.
-const MOVE: usize = 4;
-
-const FRAME: usize = 9;
-
 // The data at a place.
 fn read_frame(bytes: &[u8], place: usize) -> PdoData
     requires { ⌜ place + dataLength ≤ length (now bytes) ⌝ }
     ensures { λ r. ⌜ r ≡ dataAt place (now (bytes .entry)) ⌝ }
 {
-    let p1 = place + 1;
+    let p1 = place + places::DATA_OFFSET;
     let p2 = p1 + 1;
     let p3 = p2 + 1;
     let p4 = p3 + 1;
@@ -93,9 +55,9 @@ pub fn read_frames(bytes: &[u8], place: usize) -> [PdoData; 4]
     requires { ⌜ place + eachWay * dataLength ≤ length (now bytes) ⌝ }
     ensures { λ r. ⌜ r ≡ each eachWay place dataLength (λ i. dataAt i (now (bytes .entry))) ⌝ }
 {
-    let second = place + FRAME;
-    let third = second + FRAME;
-    let fourth = third + FRAME;
+    let second = place + places::FRAME_LENGTH;
+    let third = second + places::FRAME_LENGTH;
+    let fourth = third + places::FRAME_LENGTH;
     [
         read_frame(bytes, place),
         read_frame(bytes, second),
@@ -110,10 +72,10 @@ pub fn read_counts(bytes: &[u8]) -> [u8; 4]
     ensures { λ r. ⌜ r ≡ each eachWay countsPlace 1 (λ i. getD (now (bytes .entry)) i 0) ⌝ }
 {
     [
-        bytes[FIRST_COUNT],
-        bytes[SECOND_COUNT],
-        bytes[THIRD_COUNT],
-        bytes[FOURTH_COUNT],
+        bytes[places::FIRST_COUNT],
+        bytes[places::SECOND_COUNT],
+        bytes[places::THIRD_COUNT],
+        bytes[places::FOURTH_COUNT],
     ]
 }
 
@@ -123,10 +85,10 @@ pub fn read_marks(bytes: &[u8]) -> [bool; 4]
     ensures { λ r. ⌜ r ≡ each eachWay duePlace 1 (λ i. flagOf (getD (now (bytes .entry)) i 0)) ⌝ }
 {
     [
-        flag_of(bytes[FIRST_DUE]),
-        flag_of(bytes[SECOND_DUE]),
-        flag_of(bytes[THIRD_DUE]),
-        flag_of(bytes[FOURTH_DUE]),
+        flag_of(bytes[places::FIRST_DUE]),
+        flag_of(bytes[places::SECOND_DUE]),
+        flag_of(bytes[places::THIRD_DUE]),
+        flag_of(bytes[places::FOURTH_DUE]),
     ]
 }
 
@@ -147,14 +109,14 @@ fn read_plan(bytes: &[u8], place: usize) -> Plan
     requires { ⌜ place + planLength ≤ length (now bytes) ⌝ }
     ensures { λ r. ⌜ r ≡ planAt place (now (bytes .entry)) ⌝ }
 {
-    let first = place + 1;
-    let second = first + MOVE;
-    let third = second + MOVE;
-    let fourth = third + MOVE;
-    let fifth = fourth + MOVE;
-    let sixth = fifth + MOVE;
-    let seventh = sixth + MOVE;
-    let eighth = seventh + MOVE;
+    let first = place + places::MOVES_OFFSET;
+    let second = first + places::MOVE_LENGTH;
+    let third = second + places::MOVE_LENGTH;
+    let fourth = third + places::MOVE_LENGTH;
+    let fifth = fourth + places::MOVE_LENGTH;
+    let sixth = fifth + places::MOVE_LENGTH;
+    let seventh = sixth + places::MOVE_LENGTH;
+    let eighth = seventh + places::MOVE_LENGTH;
     Plan {
         count: bytes[place],
         moves: [
@@ -176,14 +138,14 @@ pub fn read_plans(bytes: &[u8]) -> [Plan; 8]
     ensures { λ r. ⌜ r ≡ each (2 * eachWay) plansPlace planLength (λ i. planAt i (now (bytes .entry))) ⌝ }
 {
     [
-        read_plan(bytes, FIRST),
-        read_plan(bytes, SECOND),
-        read_plan(bytes, THIRD),
-        read_plan(bytes, FOURTH),
-        read_plan(bytes, FIFTH),
-        read_plan(bytes, SIXTH),
-        read_plan(bytes, SEVENTH),
-        read_plan(bytes, EIGHTH),
+        read_plan(bytes, places::FIRST_PLAN),
+        read_plan(bytes, places::SECOND_PLAN),
+        read_plan(bytes, places::THIRD_PLAN),
+        read_plan(bytes, places::FOURTH_PLAN),
+        read_plan(bytes, places::FIFTH_PLAN),
+        read_plan(bytes, places::SIXTH_PLAN),
+        read_plan(bytes, places::SEVENTH_PLAN),
+        read_plan(bytes, places::EIGHTH_PLAN),
     ]
 }
 
@@ -192,15 +154,16 @@ fn write_frame(bytes: &mut [u8], place: usize, frame: PdoData)
     requires { ⌜ place + dataLength ≤ length (now bytes) ⌝ }
     ensures { λ r. ⌜ (now (bytes .exit) ≡ sets (now (bytes .entry)) place (dataForm frame)) × DataTyped frame ⌝ }
 {
+    let data = place + places::DATA_OFFSET;
     bytes[place] = frame.length;
-    bytes[place + 1] = frame.bytes[0];
-    bytes[place + 2] = frame.bytes[1];
-    bytes[place + 3] = frame.bytes[2];
-    bytes[place + 4] = frame.bytes[3];
-    bytes[place + 5] = frame.bytes[4];
-    bytes[place + 6] = frame.bytes[5];
-    bytes[place + 7] = frame.bytes[6];
-    bytes[place + 8] = frame.bytes[7];
+    bytes[data] = frame.bytes[0];
+    bytes[data + 1] = frame.bytes[1];
+    bytes[data + 2] = frame.bytes[2];
+    bytes[data + 3] = frame.bytes[3];
+    bytes[data + 4] = frame.bytes[4];
+    bytes[data + 5] = frame.bytes[5];
+    bytes[data + 6] = frame.bytes[6];
+    bytes[data + 7] = frame.bytes[7];
 }
 
 // The data of four PDOs into the bytes from a place on.
@@ -208,9 +171,9 @@ pub fn write_frames(bytes: &mut [u8], place: usize, frames: [PdoData; 4])
     requires { ⌜ place + eachWay * dataLength ≤ length (now bytes) ⌝ }
     ensures { λ r. ⌜ (now (bytes .exit) ≡ sets (now (bytes .entry)) place (joined dataForm frames)) × Many DataTyped eachWay frames ⌝ }
 {
-    let second = place + FRAME;
-    let third = second + FRAME;
-    let fourth = third + FRAME;
+    let second = place + places::FRAME_LENGTH;
+    let third = second + places::FRAME_LENGTH;
+    let fourth = third + places::FRAME_LENGTH;
     write_frame(bytes, place, frames[0]);
     write_frame(bytes, second, frames[1]);
     write_frame(bytes, third, frames[2]);
@@ -222,14 +185,14 @@ pub fn write_counts(bytes: &mut [u8], counts: [u8; 4], due: [bool; 4])
     requires { ⌜ length (now bytes) ≡ stateLength ⌝ }
     ensures { λ r. ⌜ (now (bytes .exit) ≡ sets (now (bytes .entry)) countsPlace (counts ++ map flagNumber due)) × ((length counts ≡ eachWay) × (length due ≡ eachWay)) ⌝ }
 {
-    bytes[FIRST_COUNT] = counts[0];
-    bytes[SECOND_COUNT] = counts[1];
-    bytes[THIRD_COUNT] = counts[2];
-    bytes[FOURTH_COUNT] = counts[3];
-    bytes[FIRST_DUE] = flag_number(due[0]);
-    bytes[SECOND_DUE] = flag_number(due[1]);
-    bytes[THIRD_DUE] = flag_number(due[2]);
-    bytes[FOURTH_DUE] = flag_number(due[3]);
+    bytes[places::FIRST_COUNT] = counts[0];
+    bytes[places::SECOND_COUNT] = counts[1];
+    bytes[places::THIRD_COUNT] = counts[2];
+    bytes[places::FOURTH_COUNT] = counts[3];
+    bytes[places::FIRST_DUE] = flag_number(due[0]);
+    bytes[places::SECOND_DUE] = flag_number(due[1]);
+    bytes[places::THIRD_DUE] = flag_number(due[2]);
+    bytes[places::FOURTH_DUE] = flag_number(due[3]);
 }
 
 // A move into the bytes at a place.
@@ -247,10 +210,10 @@ fn write_moves(bytes: &mut [u8], place: usize, moves: [Move; 8])
 {
     let mut at = place;
     let mut k: usize = 0;
-    while k < 8 {
+    while k < MOST_WORDS {
         let m = moves[k];
         write_move(bytes, at, m);
-        at += MOVE;
+        at += places::MOVE_LENGTH;
         k += 1;
     }
 }
@@ -262,7 +225,7 @@ fn write_plan(bytes: &mut [u8], place: usize, plan: Plan)
 {
     let moves = plan.moves;
     bytes[place] = plan.count;
-    write_moves(bytes, place + 1, moves);
+    write_moves(bytes, place + places::MOVES_OFFSET, moves);
 }
 
 // The plans of the eight PDOs into the bytes.
@@ -270,12 +233,12 @@ pub fn write_plans(bytes: &mut [u8], plans: [Plan; 8])
     requires { ⌜ length (now bytes) ≡ stateLength ⌝ }
     ensures { λ r. ⌜ (now (bytes .exit) ≡ sets (now (bytes .entry)) plansPlace (joined planForm plans)) × Many PlanTyped (2 * eachWay) plans ⌝ }
 {
-    let mut at: usize = FIRST;
+    let mut at: usize = places::FIRST_PLAN;
     let mut k: usize = 0;
-    while k < 8 {
+    while k < PDOS {
         let plan = plans[k];
         write_plan(bytes, at, plan);
-        at += PLAN;
+        at += places::PLAN_LENGTH;
         k += 1;
     }
 }
@@ -285,10 +248,13 @@ pub fn own_due(bytes: &[u8]) -> bool
     requires { ⌜ length (now bytes) ≡ stateLength ⌝ }
     ensures { λ r. ⌜ r ≡ dueOwn (now (bytes .entry)) ⌝ }
 {
-    let last = both(own_flag(bytes[THIRD_DUE]), own_flag(bytes[FOURTH_DUE]));
+    let last = both(
+        own_flag(bytes[places::THIRD_DUE]),
+        own_flag(bytes[places::FOURTH_DUE]),
+    );
     both(
-        own_flag(bytes[FIRST_DUE]),
-        both(own_flag(bytes[SECOND_DUE]), last),
+        own_flag(bytes[places::FIRST_DUE]),
+        both(own_flag(bytes[places::SECOND_DUE]), last),
     )
 }
 
@@ -297,14 +263,14 @@ fn bits_of_moves(bytes: &[u8], place: usize) -> u32
     requires { ⌜ place + planLength ≤ length (now bytes) ⌝ }
     ensures { λ r. ⌜ small r ≡ planOwn place (now (bytes .entry)) ⌝ }
 {
-    let first = place + 1;
-    let second = first + MOVE;
-    let third = second + MOVE;
-    let fourth = third + MOVE;
-    let fifth = fourth + MOVE;
-    let sixth = fifth + MOVE;
-    let seventh = sixth + MOVE;
-    let eighth = seventh + MOVE;
+    let first = place + places::MOVES_OFFSET;
+    let second = first + places::MOVE_LENGTH;
+    let third = second + places::MOVE_LENGTH;
+    let fourth = third + places::MOVE_LENGTH;
+    let fifth = fourth + places::MOVE_LENGTH;
+    let sixth = fifth + places::MOVE_LENGTH;
+    let seventh = sixth + places::MOVE_LENGTH;
+    let eighth = seventh + places::MOVE_LENGTH;
     read4(bytes, first)
         | (read4(bytes, second)
             | (read4(bytes, third)
@@ -318,12 +284,13 @@ pub fn own_plans(bytes: &[u8]) -> bool
     requires { ⌜ length (now bytes) ≡ stateLength ⌝ }
     ensures { λ r. ⌜ r ≡ plansOwn (now (bytes .entry)) ⌝ }
 {
-    let bits = bits_of_moves(bytes, FIRST)
-        | (bits_of_moves(bytes, SECOND)
-            | (bits_of_moves(bytes, THIRD)
-                | (bits_of_moves(bytes, FOURTH)
-                    | (bits_of_moves(bytes, FIFTH)
-                        | (bits_of_moves(bytes, SIXTH)
-                            | (bits_of_moves(bytes, SEVENTH) | bits_of_moves(bytes, EIGHTH)))))));
+    let bits = bits_of_moves(bytes, places::FIRST_PLAN)
+        | (bits_of_moves(bytes, places::SECOND_PLAN)
+            | (bits_of_moves(bytes, places::THIRD_PLAN)
+                | (bits_of_moves(bytes, places::FOURTH_PLAN)
+                    | (bits_of_moves(bytes, places::FIFTH_PLAN)
+                        | (bits_of_moves(bytes, places::SIXTH_PLAN)
+                            | (bits_of_moves(bytes, places::SEVENTH_PLAN)
+                                | bits_of_moves(bytes, places::EIGHTH_PLAN)))))));
     bits < 0x100_0000
 }

@@ -15,7 +15,7 @@ use Rattle.rules_dictionary.specs.Legal.{firstIdentifier, lastIdentifier}
 use Rattle.rules_dictionary.proofs.Tests.{and-left, and-right, and-both}
 use Rattle.rules.specs.Sound.{identifiersLegal}
 use Rattle.legality.specs.Keys.{transmitWay, illegalKey, wordKey, keyIn, isLegalKey, isOther, fourPass, fourDiffer, eightDiffer, transmitLegal, risesTo, inOrder}
-use Rattle.legality.proofs.KeyMeaning.{inside}
+use Rattle.legality.proofs.KeyMeaning.{inside, valid-key}
 use Rattle.legality.proofs.KeysLegal.{by-keys}
 
 -- what rises, number by number
@@ -80,9 +80,8 @@ keys-pass a b c d e f g h r =
     (none-is d e f g h (λ k. omega arith) (λ k. omega arith) (λ k. omega arith) (λ k. omega arith)))))))
 
 -- the key of a valid word
-valid-key : (way p w : ℕ) → way + firstIdentifier ≤ w → w ≤ way + lastIdentifier → wordKey way p w ≡ w - (way + firstIdentifier)
-unfolding wordKey
-valid-key way p w h i = rw (inside (way + firstIdentifier) (way + lastIdentifier) w h i)
+key-of : (way p w : ℕ) → way + firstIdentifier ≤ w → w ≤ way + lastIdentifier → wordKey way p w ≡ w - (way + firstIdentifier)
+key-of way p w h i = valid-key way p w (inside _ _ w h i)
 
 -- of the words themselves
 words-pass : (a b c d e f g h : ℕ) →
@@ -93,14 +92,14 @@ words-pass : (a b c d e f g h : ℕ) →
 words-pass a b c d e f g h r =
     let o = r .low in let p = r .one in let q = r .two in let s = r .three in let t = r .four in let u = r .five in let v = r .six in let w = r .seven in let x = r .high in
     rw (
-      valid-key 0 0 a (omega arith) (omega arith),
-      valid-key 0 1 b (omega arith) (omega arith),
-      valid-key 0 2 c (omega arith) (omega arith),
-      valid-key 0 3 d (omega arith) (omega arith),
-      valid-key transmitWay 4 e (omega arith) (omega arith),
-      valid-key transmitWay 5 f (omega arith) (omega arith),
-      valid-key transmitWay 6 g (omega arith) (omega arith),
-      valid-key transmitWay 7 h (omega arith) (omega arith),
+      key-of 0 0 a (omega arith) (omega arith),
+      key-of 0 1 b (omega arith) (omega arith),
+      key-of 0 2 c (omega arith) (omega arith),
+      key-of 0 3 d (omega arith) (omega arith),
+      key-of transmitWay 4 e (omega arith) (omega arith),
+      key-of transmitWay 5 f (omega arith) (omega arith),
+      key-of transmitWay 6 g (omega arith) (omega arith),
+      key-of transmitWay 7 h (omega arith) (omega arith),
     )
     (keys-pass (a - firstIdentifier) (b - firstIdentifier) (c - firstIdentifier) (d - firstIdentifier)
     (e - (transmitWay + firstIdentifier)) (f - (transmitWay + firstIdentifier)) (g - (transmitWay + firstIdentifier)) (h - (transmitWay + firstIdentifier))

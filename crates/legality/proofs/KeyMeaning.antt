@@ -2,7 +2,7 @@
 -- Assumes nothing.
 use Prim.Native.Nat.{ℕ, zero, suc, _+_, _-_, _*_, _/_, _%_, _^_, _<_, _≤_}
 use native.Mathlib.Omega.{arith}
-use mathlib.Core.Path.{_≡_, refl}
+use mathlib.Core.Path.{_≡_, refl, _∙_}
 use mathlib.Core.Bool.{Bool, true, false, cond, not, _&&_, _||_, Bool·beq}
 use borrow.Author.Tests.{eqb-true, eqb-false, eq-eqb, ne-eqb, leb-true, le-leb, not-false}
 use lib.Dec.{eqb, leb}
@@ -24,18 +24,32 @@ outside low high v h = go (between low high v) refl
     go true e = absurd (h (leb-true low v (and-left (leb low v) (leb v high) e)) (leb-true v high (and-right (leb low v) (leb v high) e)))
     go false e = refl
 
+-- the key of a word by what it lies between
+module _ (way p w : ℕ) where
+  pub valid-key : between (way + firstIdentifier) (way + lastIdentifier) w ≡ true → wordKey way p w ≡ w - (way + firstIdentifier)
+  unfolding wordKey
+  valid-key h = rw h
+
+  pub invalid-key : between (way + firstIdentifier) (way + lastIdentifier) w ≡ false →
+      between (way + 2 ^ invalidBit) (way + 2 ^ invalidBit + (pastLast - 1)) w ≡ true → wordKey way p w ≡ pastLast + p
+  unfolding wordKey
+  invalid-key h i = rw (h, i)
+
+  pub neither-key : between (way + firstIdentifier) (way + lastIdentifier) w ≡ false →
+      between (way + 2 ^ invalidBit) (way + 2 ^ invalidBit + (pastLast - 1)) w ≡ false → wordKey way p w ≡ illegalKey
+  unfolding wordKey
+  neither-key h i = rw (h, i)
+
 -- a word by its parts, which are the bits 31, 30, 29 to 11 and the eleven bits, in a direction whose bit 30 is t
 module _ (way p w t a b c f : ℕ) (at : way ≡ 2 ^ transmitBit * t) (word : w ≡ 2 ^ invalidBit * a + 2 ^ transmitBit * b + 2 ^ identifierBits * c + f)
     (t2 : t < 2) (a2 : a < 2) (b2 : b < 2) (few : c < 2 ^ (transmitBit - identifierBits)) (f11 : f < 2 ^ identifierBits) where
   neither : (way + firstIdentifier ≤ w → w ≤ way + lastIdentifier → ⊥) → (way + 2 ^ invalidBit ≤ w → w ≤ way + 2 ^ invalidBit + (pastLast - 1) → ⊥) →
       wordKey way p w ≡ illegalKey
-  unfolding wordKey
-  neither h i = rw (outside (way + firstIdentifier) (way + lastIdentifier) w h, outside (way + 2 ^ invalidBit) (way + 2 ^ invalidBit + (pastLast - 1)) w i)
+  neither h i = neither-key way p w (outside _ _ w h) (outside _ _ w i)
 
   by-parts : wordKey way p w
       ≡ cond (not (eqb b t) || not (eqb c 0) || (not (eqb a 1) && not (between firstIdentifier lastIdentifier f))) illegalKey
       (cond (not (eqb a 1)) (f - firstIdentifier) (pastLast + p))
-  unfolding wordKey
   by-parts = go (eqb b t) (eqb c 0) (eqb a 1) (between firstIdentifier lastIdentifier f) refl refl refl refl
     where
       go : (x y z u : Bool) → eqb b t ≡ x → eqb c 0 ≡ y → eqb a 1 ≡ z → between firstIdentifier lastIdentifier f ≡ u →
@@ -44,12 +58,12 @@ module _ (way p w t a b c f : ℕ) (at : way ≡ 2 ^ transmitBit * t) (word : w 
       go true false z u h i j k = let e = eqb-false c 0 i in let o = eqb-true b t h in neither (λ l m. omega arith) (λ l m. omega arith)
       go true true true u h i j k =
           let o = eqb-true b t h in let n = eqb-true c 0 i in let e = eqb-true a 1 j in
-          rw (outside (way + firstIdentifier) (way + lastIdentifier) w (λ l m. omega arith), inside (way + 2 ^ invalidBit) (way + 2 ^ invalidBit + (pastLast - 1)) w (omega arith) (omega arith))
+          invalid-key way p w (outside _ _ w (λ l m. omega arith)) (inside _ _ w (omega arith) (omega arith))
       go true true false true h i j k =
           let o = eqb-true b t h in let n = eqb-true c 0 i in let e = eqb-false a 1 j in
           let l = leb-true firstIdentifier f (and-left (leb firstIdentifier f) (leb f lastIdentifier) k) in
           let m = leb-true f lastIdentifier (and-right (leb firstIdentifier f) (leb f lastIdentifier) k) in
-          rw (inside (way + firstIdentifier) (way + lastIdentifier) w (omega arith) (omega arith)) (omega arith)
+          valid-key way p w (inside _ _ w (omega arith) (omega arith)) ∙ omega arith
       go true true false false h i j k =
           let o = eqb-true b t h in let n = eqb-true c 0 i in let e = eqb-false a 1 j in
           neither (λ l m. clash (between firstIdentifier lastIdentifier f) (inside firstIdentifier lastIdentifier f (omega arith) (omega arith)) k) (λ l m. omega arith)

@@ -9,7 +9,7 @@ use borrow.Author.Tests.{eqb-true, leb-true, leb-false, le-ltb, lt-ltb}
 use lib.Dec.{eqb, leb, ltb}
 use lib.ListN.{length, getD}
 use Rattle.rules_dictionary.specs.Numbers.{all, areBytes}
-use Rattle.rules_dictionary.specs.Table.{Row, table, nodeRows, driveRows, receivePdos, transmitPdos, communicationRows, mappingRows, communicationPlace, mappingPlace, sizeOf, largest, isConstant, dictionaryLength}
+use Rattle.rules_dictionary.specs.Table.{Row, table, nodeRows, driveRows, receivePdos, transmitPdos, communicationRows, mappingRows, eachWay, sizeOf, largest, isConstant, dictionaryLength}
 use Rattle.rules_dictionary.specs.Values.{Write, write, read, defaultOf}
 use Rattle.rules_dictionary.specs.Legal.{isBelow, isAbove, badChoice}
 use Rattle.rules_dictionary.proofs.Tests.{and-both, In, here, there}
@@ -104,20 +104,22 @@ parts-table : flatMap (λ xs. xs) parts ≡ table
 unfolding parts table flatMap
 parts-table = refl
 
-communications : (n : ℕ) (d : List ℕ) → (tests n d (flatMap communicationRows receivePdos) ≡ communicationTests d (communicationPlace 0)) × (tests n d (flatMap communicationRows transmitPdos) ≡ communicationTests d (communicationPlace 4))
-unfolding tests read communicationRows flatMap
+communications : (n : ℕ) (d : List ℕ) →
+    (tests n d (flatMap communicationRows receivePdos) ≡ communicationTests d 0)
+    × (tests n d (flatMap communicationRows transmitPdos) ≡ communicationTests d eachWay)
+unfolding tests communicationRows flatMap
 communications n d = (simp (and-true, and-assoc, Bool·not-not), simp (and-true, and-assoc, Bool·not-not))
 
-counts : (n : ℕ) (d : List ℕ) → (tests n d (flatMap mappingRows receivePdos) ≡ countTests d (mappingPlace 0)) × (tests n d (flatMap mappingRows transmitPdos) ≡ countTests d (mappingPlace 4))
-unfolding tests read mappingRows flatMap
+counts : (n : ℕ) (d : List ℕ) →
+    (tests n d (flatMap mappingRows receivePdos) ≡ countTests d 0) × (tests n d (flatMap mappingRows transmitPdos) ≡ countTests d eachWay)
+unfolding tests mappingRows flatMap
 counts n d = (simp and-true, simp and-true)
 
 -- THE LAW: constants as listed and values in range, by record
 pub rows-tested : (n : ℕ) (d : List ℕ) → length d ≡ dictionaryLength → areBytes d ≡ true →
     (constantsAsListed n d && valuesInRange d)
     ≡ (tests n d nodeRows
-    && (communicationTests d (communicationPlace 0)
-    && (countTests d (mappingPlace 0) && (communicationTests d (communicationPlace 4) && (countTests d (mappingPlace 4) && tests n d driveRows)))))
+    && (communicationTests d 0 && (countTests d 0 && (communicationTests d eachWay && (countTests d eachWay && tests n d driveRows)))))
 unfolding constantsAsListed valuesInRange listed ranged parts
 rows-tested n d long bytes =
     rw (unpacked-table d)

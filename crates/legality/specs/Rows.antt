@@ -1,11 +1,10 @@
 -- The tests of the dictionary's rows that bytes can fail: a row of any value of its type has none.
 -- Assumes nothing.
-use Prim.Native.Nat.{ℕ, _+_, _*_}
+use Prim.Native.Nat.{ℕ, _+_}
 use mathlib.Core.List.{List, [], _∷_}
 use mathlib.Core.Bool.{Bool, true, not, _&&_, _||_}
 use lib.Dec.{eqb, leb}
-use Rattle.rules_dictionary.specs.Numbers.{value, part}
-use Rattle.rules_dictionary.specs.Table.{Row, isConstant, largest, mostMoves}
+use Rattle.rules_dictionary.specs.Table.{Row, isConstant, largest, communicationCount, transmissionType, mapCount, mostMoves}
 use Rattle.rules_dictionary.specs.Values.{read, defaultOf}
 use Rattle.rules_dictionary.specs.Legal.{badChoice, isType}
 
@@ -22,30 +21,21 @@ unfoldable pub tests : ℕ → List ℕ → List Row → Bool
 tests n d [] = true
 tests n d (x ∷ xs) = testsOf n x (read d x) (tests n d xs)
 
--- ---- the same of PDOs, by place
+-- ---- the same of PDOs
 
--- the entries of a communication record, its bytes, the place of its type, and the bytes of a mapping
+-- the entries of a communication record
 abbrev pub recordEntries : ℕ
 recordEntries = 2
 
-abbrev pub recordSize : ℕ
-recordSize = 6
-
-abbrev pub typePlace : ℕ
-typePlace = 5
-
-abbrev pub mappingSize : ℕ
-mappingSize = 33
-
--- a test at four places in a row
-abbrev pub fourTimes : (ℕ → Bool) → ℕ → ℕ → Bool
-fourTimes f place step = f place && (f (place + step) && (f (place + 2 * step) && f (place + 3 * step)))
+-- a test of the four PDOs from one on
+abbrev pub fourFrom : (ℕ → Bool) → ℕ → Bool
+fourFrom f p = f p && (f (p + 1) && (f (p + 2) && f (p + 3)))
 
 abbrev pub communicationTest : List ℕ → ℕ → Bool
-communicationTest d place = eqb (value (part place 1 d)) recordEntries && isType (value (part (place + typePlace) 1 d))
+communicationTest d p = eqb (read d (communicationCount p)) recordEntries && isType (read d (transmissionType p))
 
 abbrev pub communicationTests : List ℕ → ℕ → Bool
-communicationTests d place = fourTimes (communicationTest d) place recordSize
+communicationTests d p = fourFrom (communicationTest d) p
 
 abbrev pub countTests : List ℕ → ℕ → Bool
-countTests d place = fourTimes (λ k. leb (value (part k 1 d)) mostMoves) place mappingSize
+countTests d p = fourFrom (λ q. leb (read d (mapCount q)) mostMoves) p

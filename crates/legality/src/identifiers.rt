@@ -1,31 +1,15 @@
 // The PDO identifiers. Most nodes keep them in the order of the defaults, which a few comparisons tell. Otherwise each word gets a key:
 // its identifier, counted from the first legal one, where it is a valid word, a number of its PDO's own where it is an invalid one, and
 // the last number where it is illegal. The words are legal where no key is that number and no two are alike.
-use dictionary::read4;
+use dictionary::records;
 ghost use mathlib.Core.Path.{_≡_};
-ghost use Prim.Native.Nat.{_+_, _<_, _≤_};
+ghost use Prim.Native.Nat.{_≤_};
 ghost use lib.ListN.{length};
-ghost use Rattle.rules_dictionary.specs.Numbers.{value, part};
-ghost use Rattle.rules_dictionary.specs.Table.{dictionaryLength};
+ghost use Rattle.rules_dictionary.specs.Table.{identifier, dictionaryLength};
+ghost use Rattle.rules_dictionary.specs.Values.{read};
+ghost use Rattle.dictionary.specs.Sizes.{IsPdo};
 ghost use Rattle.rules.specs.Sound.{identifiersLegal};
-ghost use Rattle.legality.specs.Keys.{transmitWay, wordKey, isOther, fourPass, fourDiffer, transmitLegal, inOrder};
-
-// Where the words stand.
-const RECEIVE_1: usize = 21;
-
-const RECEIVE_2: usize = 27;
-
-const RECEIVE_3: usize = 33;
-
-const RECEIVE_4: usize = 39;
-
-const TRANSMIT_1: usize = 177;
-
-const TRANSMIT_2: usize = 183;
-
-const TRANSMIT_3: usize = 189;
-
-const TRANSMIT_4: usize = 195;
+ghost use Rattle.legality.specs.Keys.{transmitWay, wordKey, asSent, isOther, fourPass, fourDiffer, transmitLegal, inOrder};
 
 // Bit 30 of a receive PDO's word, and of a transmit PDO's.
 const RECEIVE: u32 = 0;
@@ -48,12 +32,12 @@ struct Keys {
     d: u32,
 }
 
-// The key of PDO p's word at a place; `way` is its bit 30.
-fn key_at(d: &[u8], place: usize, way: u32, p: u32) -> u32
-    requires { ⌜ (place + 4 ≤ length (now d)) × ((way ≤ transmitWay) × (p < 8)) ⌝ }
-    ensures { λ r. ⌜ r ≡ wordKey way p (value (part place 4 (now (d .entry)))) ⌝ }
+// The key of a PDO's word; `way` is its bit 30.
+fn key_of(d: &[u8], p: u32, way: u32) -> u32
+    requires { ⌜ (length (now d) ≡ dictionaryLength) × (IsPdo p × (way ≤ transmitWay)) ⌝ }
+    ensures { λ r. ⌜ r ≡ wordKey way p (read (now (d .entry)) (identifier p)) ⌝ }
 {
-    let word = read4(d, place);
+    let word = records::identifier(d, p as usize);
     let first = way + 0x181;
     let invalid = way + 0x8000_0000;
     if (first <= word) & (word <= way + 0x57F) {
@@ -91,19 +75,19 @@ fn transmit_legal(d: &[u8], r: Keys) -> bool
     requires { ⌜ length (now d) ≡ dictionaryLength ⌝ }
     ensures { λ x. ⌜ x ≡ transmitLegal (now (d .entry)) (r .a) (r .b) (r .c) (r .d) ⌝ }
 {
-    let fifth = key_at(d, TRANSMIT_1, TRANSMIT, 4);
+    let fifth = key_of(d, 4, TRANSMIT);
     if fifth == ILLEGAL {
         return false;
     }
-    let sixth = key_at(d, TRANSMIT_2, TRANSMIT, 5);
+    let sixth = key_of(d, 5, TRANSMIT);
     if sixth == ILLEGAL {
         return false;
     }
-    let seventh = key_at(d, TRANSMIT_3, TRANSMIT, 6);
+    let seventh = key_of(d, 6, TRANSMIT);
     if seventh == ILLEGAL {
         return false;
     }
-    let eighth = key_at(d, TRANSMIT_4, TRANSMIT, 7);
+    let eighth = key_of(d, 7, TRANSMIT);
     if eighth == ILLEGAL {
         return false;
     }
@@ -121,19 +105,19 @@ fn identifiers_apart(d: &[u8]) -> bool
     requires { ⌜ length (now d) ≡ dictionaryLength ⌝ }
     ensures { λ r. ⌜ r ≡ identifiersLegal (now (d .entry)) ⌝ }
 {
-    let first = key_at(d, RECEIVE_1, RECEIVE, 0);
+    let first = key_of(d, 0, RECEIVE);
     if first == ILLEGAL {
         return false;
     }
-    let second = key_at(d, RECEIVE_2, RECEIVE, 1);
+    let second = key_of(d, 1, RECEIVE);
     if second == ILLEGAL {
         return false;
     }
-    let third = key_at(d, RECEIVE_3, RECEIVE, 2);
+    let third = key_of(d, 2, RECEIVE);
     if third == ILLEGAL {
         return false;
     }
-    let fourth = key_at(d, RECEIVE_4, RECEIVE, 3);
+    let fourth = key_of(d, 3, RECEIVE);
     if fourth == ILLEGAL {
         return false;
     }
@@ -146,20 +130,20 @@ fn identifiers_apart(d: &[u8]) -> bool
     transmit_legal(d, r)
 }
 
-// A receive PDO's word at a place as if it were a transmit PDO's.
-fn receive_at(d: &[u8], place: usize) -> u64
-    requires { ⌜ place + 4 ≤ length (now d) ⌝ }
-    ensures { λ r. ⌜ r ≡ value (part place 4 (now (d .entry))) + transmitWay ⌝ }
+// A receive PDO's word as if it were a transmit PDO's.
+fn receive_word(d: &[u8], p: usize) -> u64
+    requires { ⌜ (length (now d) ≡ dictionaryLength) × IsPdo p ⌝ }
+    ensures { λ r. ⌜ r ≡ asSent (now (d .entry)) p ⌝ }
 {
-    (read4(d, place) as u64) + (TRANSMIT as u64)
+    (records::identifier(d, p) as u64) + (TRANSMIT as u64)
 }
 
-// A transmit PDO's word at a place.
-fn transmit_at(d: &[u8], place: usize) -> u64
-    requires { ⌜ place + 4 ≤ length (now d) ⌝ }
-    ensures { λ r. ⌜ r ≡ value (part place 4 (now (d .entry))) ⌝ }
+// A transmit PDO's word.
+fn transmit_word(d: &[u8], p: usize) -> u64
+    requires { ⌜ (length (now d) ≡ dictionaryLength) × IsPdo p ⌝ }
+    ensures { λ r. ⌜ r ≡ read (now (d .entry)) (identifier p) ⌝ }
 {
-    read4(d, place) as u64
+    records::identifier(d, p) as u64
 }
 
 // Whether all words are valid and legal, with identifiers that rise from transmit PDO 1 over receive PDO 1 and transmit PDO 2 on.
@@ -167,14 +151,14 @@ fn are_in_order(d: &[u8]) -> bool
     requires { ⌜ length (now d) ≡ dictionaryLength ⌝ }
     ensures { λ r. ⌜ r ≡ inOrder (now (d .entry)) ⌝ }
 {
-    let first = receive_at(d, RECEIVE_1);
-    let second = receive_at(d, RECEIVE_2);
-    let third = receive_at(d, RECEIVE_3);
-    let fourth = receive_at(d, RECEIVE_4);
-    let fifth = transmit_at(d, TRANSMIT_1);
-    let sixth = transmit_at(d, TRANSMIT_2);
-    let seventh = transmit_at(d, TRANSMIT_3);
-    let eighth = transmit_at(d, TRANSMIT_4);
+    let first = receive_word(d, 0);
+    let second = receive_word(d, 1);
+    let third = receive_word(d, 2);
+    let fourth = receive_word(d, 3);
+    let fifth = transmit_word(d, 4);
+    let sixth = transmit_word(d, 5);
+    let seventh = transmit_word(d, 6);
+    let eighth = transmit_word(d, 7);
     let low = (FIRST <= fifth) & ((fifth < first) & (first < sixth));
     let middle = (sixth < second) & ((second < seventh) & (seventh < third));
     let high = (third < eighth) & ((eighth < fourth) & (fourth <= LAST));

@@ -12,9 +12,9 @@ use Rattle.state.specs.declared.NmtState.the-variants.{PreOperational, Operatio
 use Rattle.state.specs.declared.State.{State}
 use Rattle.drive.specs.declared.Drive.{Drive}
 use Rattle.rules_dictionary.specs.declared.PdoData.{PdoData}
-use Rattle.rules_dictionary.specs.Numbers.{filter, value, part}
+use Rattle.rules_dictionary.specs.Numbers.{filter}
 use Rattle.rules_dictionary.specs.Plans.{pdoData}
-use Rattle.rules_dictionary.specs.Table.{table, sizeOf, heartbeatTime}
+use Rattle.rules_dictionary.specs.Table.{table, heartbeatTime}
 use Rattle.rules_dictionary.specs.Values.{read, stored, toDefaults}
 use Rattle.rules_services.specs.Effects.{Frame, frame, becomes, sends, isPreOperational, isOperational, withHeld, withPacing, withNmt, withHeartbeat}
 use Rattle.rules_services.specs.PdoTraffic.{noneHeld}
@@ -120,16 +120,16 @@ ticked p k = record { parts = p; frames = k; touched = false; remapped = false; 
 calm-count : (s : State) (count : ℕ) (fs : List Frame) → Calm s (sends fs (becomes (withHeartbeat count s)))
 calm-count s count fs = record { writes = refl; synced = refl; nmt = refl; voltage = refl; drive = refl }
 
-module _ (s : State) (d o : List ℕ) (period : ℕ) (is : period ≡ value (part (heartbeatTime .place) (sizeOf heartbeatTime) d)) where
+module _ (s : State) (d o : List ℕ) (period : ℕ) (is : period ≡ read d heartbeatTime) where
   pub no-heartbeat : (p : Parts) → period ≡ 0 → p ≡ partsOf s → Did (tick s d) 0 d o (ticked p 0) d o × Rests s (tick s d) (ticked p 0)
-  unfolding tick read
+  unfolding tick
   no-heartbeat p z e =
       let q : tick s d ≡ becomes s = rw (← is, z) in
       (as-effect q (left-as s p true 0 d o e), λ _. subst (Calm s) (sym q) (calm-said s []))
 
   pub counts-on : (p : Parts) → (period ≡ 0 → ⊥) → s .node .heartbeat < period - 1 → p ≡ partsOf (withHeartbeat (s .node .heartbeat + 1) s) →
       Did (tick s d) 0 d o (ticked p 0) d o × Rests s (tick s d) (ticked p 0)
-  unfolding tick read
+  unfolding tick
   counts-on p z h e =
       let t = withHeartbeat (s .node .heartbeat + 1) s in
       let q : tick s d ≡ becomes t = rw (← is, ne-eqb period 0 z, lt-ltb (suc (s .node .heartbeat)) period (omega arith)) (ap (λ (k : ℕ). becomes (withHeartbeat k s)) (omega arith)) in
@@ -138,7 +138,7 @@ module _ (s : State) (d o : List ℕ) (period : ℕ) (is : period ≡ value (par
   pub beats : (p : Parts) (byte k : ℕ) (o′ : List ℕ) → (period ≡ 0 → ⊥) → period - 1 ≤ s .node .heartbeat → byte ≡ stateByte (s .node .nmt) →
       (k ≡ 1) × (o′ ≡ emitted 0 (frame (heartbeatBase + s .node .id) (byte ∷ []) ∷ []) o) → p ≡ partsOf (withHeartbeat 0 s) →
       Did (tick s d) 0 d o (ticked p k) d o′ × Rests s (tick s d) (ticked p k)
-  unfolding tick read stored
+  unfolding tick stored
   beats p byte k o′ z h b w e =
       let q : tick s d ≡ sends (heartbeat s) (becomes (withHeartbeat 0 s)) = rw (← is, ne-eqb period 0 z, le-ltb (suc (s .node .heartbeat)) period (omega arith)) in
       (as-effect q (record { parts = e; frames = w .0; touched = refl; remapped = refl; synced = refl; dictionary = refl; output = rw (← b) (w .1) }), λ _. subst (Calm s) (sym q) (calm-count s 0 (heartbeat s)))

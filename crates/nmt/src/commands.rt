@@ -3,6 +3,7 @@ ghost use mathlib.Core.Path.{_≡_};
 ghost use Prim.Native.Nat.{_≤_};
 ghost use lib.ListN.{length};
 ghost use Rattle.rules_dictionary.specs.Table.{dictionaryLength};
+ghost use Rattle.rules_dictionary.specs.TheNode.{firstNode, lastNode};
 ghost use Rattle.rules_services.specs.Effects.{becomes, isPreOperational};
 ghost use Rattle.rules_services.specs.Nmt.{enterPreOperational, resetCommunication, commandOf, commanded, voltageDisabled};
 ghost use Rattle.rules.specs.Calls.{outputLength};
@@ -78,7 +79,7 @@ pub fn commanded(command: u8, s: State) -> State
 
 // 82h: the communication objects, mappings among them, to their defaults, Disable voltage, Pre-operational, boot-up.
 pub fn reset_communication(s: State, d: &mut [u8], output: &mut [u8]) -> Done
-    requires { ⌜ (length (now d) ≡ dictionaryLength) × ((outputLength ≤ length (now output)) × ((1 ≤ s .node .id) × (s .node .id ≤ 127))) ⌝ }
+    requires { ⌜ (length (now d) ≡ dictionaryLength) × ((outputLength ≤ length (now output)) × ((firstNode ≤ s .node .id) × (s .node .id ≤ lastNode))) ⌝ }
     ensures { λ r. ⌜ Renewed (commanded resetCommunication s) (now (d .entry)) (now (output .entry)) r (now (d .exit)) (now (output .exit)) ⌝ }
 {
     let axis = s.axis;

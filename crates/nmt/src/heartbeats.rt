@@ -10,7 +10,7 @@ ghost use Rattle.rules_services.specs.Nmt.{heartbeatBase, stateByte, bootUp, ti
 ghost use Rattle.rules.specs.Calls.{outputLength};
 ghost use Rattle.output.specs.Laying.{emitted};
 ghost use Rattle.effects.specs.Leaves.{partsOf, Did, Rests};
-use dictionary::read2;
+use dictionary::objects;
 use effects::Done;
 use effects::Parts;
 use effects::parts_of;
@@ -24,9 +24,6 @@ const HEARTBEAT_BASE: u16 = 0x700;
 
 // The byte of a boot-up.
 const BOOT_UP: u8 = 0x00;
-
-// Where 1017h stands.
-const HEARTBEAT_TIME: usize = 13;
 
 // "04h Stopped, 05h Operational, 7Fh".
 fn state_byte(m: NmtState) -> u8
@@ -82,7 +79,7 @@ pub fn tick(s: State, d: &[u8], output: &mut [u8]) -> Done
     requires { ⌜ (length (now d) ≡ dictionaryLength) × (outputLength ≤ length (now output)) ⌝ }
     ensures { λ r. ⌜ Did (tick s (now (d .entry))) 0 (now (d .entry)) (now (output .entry)) r (now (d .entry)) (now (output .exit)) × Rests s (tick s (now (d .entry))) r ⌝ }
 {
-    let period = read2(d, HEARTBEAT_TIME);
+    let period = objects::heartbeat_time(d);
     let node = s.node;
     let nmt = node.nmt;
     if period == 0 {

@@ -1,6 +1,6 @@
 -- A frame laid into the output: its eleven bytes in their place, and every other byte kept.
 -- Assumes nothing.
-use Prim.Native.Nat.{ℕ, _+_, _*_, _≤_}
+use Prim.Native.Nat.{ℕ, _+_, _-_, _*_, _≤_}
 use mathlib.Core.Path.{_≡_}
 use mathlib.Core.List.{List, _∷_, _++_}
 use lib.ListN.{take, drop}
@@ -9,13 +9,9 @@ use Rattle.rules_dictionary.specs.Numbers.{bytes, padded}
 use Rattle.rules_services.specs.Effects.{Frame, frame}
 use Rattle.rules.specs.Outcome.{frameSize, mostData, sentInto}
 
--- "At most 6 frames" from a call
-abbrev pub mostFrames : ℕ
-mostFrames = 6
-
 -- the bytes before the data: identifier and length
 abbrev pub headSize : ℕ
-headSize = 3
+headSize = frameSize - mostData
 
 -- identifier in two bytes, low byte first, length, and the data with its zeros
 unfoldable pub framed : ℕ → PdoData → List ℕ

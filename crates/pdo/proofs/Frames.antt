@@ -1,9 +1,9 @@
 -- A received frame: too short, too long, refused, held or applied.
 -- Assumes nothing.
-use Prim.Native.Nat.{ℕ, zero, suc, _+_, _*_, _<_, _≤_}
+use Prim.Native.Nat.{ℕ, zero, suc, _+_, _<_, _≤_}
 use native.Mathlib.Numerals.{add-one}
 use native.Mathlib.Omega.{arith}
-use mathlib.Core.Path.{_≡_, refl, sym, _∙_, ap, subst}
+use mathlib.Core.Path.{_≡_, refl, sym, ap, subst}
 use mathlib.Core.Bool.{Bool, true, false, cond}
 use mathlib.Core.List.{List, [], _∷_, _++_}
 use borrow.Author.Tests.{le-leb, lt-leb, lt-ltb, le-ltb}
@@ -14,15 +14,14 @@ use Rattle.state.specs.declared.Node.{Node}
 use Rattle.state.specs.declared.State.{State}
 use Rattle.rules_dictionary.specs.declared.PdoData.{PdoData}
 use Rattle.rules_dictionary.specs.declared.Plan.{Plan}
-use Rattle.rules_dictionary.specs.Numbers.{value, part, padded}
-use Rattle.rules_dictionary.specs.Table.{eachWay}
+use Rattle.rules_dictionary.specs.Numbers.{padded}
 use Rattle.rules_dictionary.specs.Legal.{lastSynchronous}
 use Rattle.rules_dictionary.specs.Values.{unpacked}
 use Rattle.rules_dictionary.specs.Plans.{mapped, pdoData}
 use Rattle.rules_services.specs.Effects.{Effect, Frame, becomes, sends, withHeld, isStopped}
 use Rattle.rules_services.specs.Emergency.{emergency, pdoTooShort, pdoTooLong, valueRefused}
 use Rattle.rules_services.specs.Written.{applied}
-use Rattle.rules_services.specs.PdoTraffic.{mappedLength, areLegal, heldOrApplied, received}
+use Rattle.rules_services.specs.PdoTraffic.{typeOf, mappedLength, areLegal, heldOrApplied, received}
 use Rattle.rules.specs.Outcome.{mostData}
 use Rattle.theorems.proofs.PdoKept.{unpacked-same}
 use Rattle.transfer.proofs.Laws.{short-is}
@@ -31,7 +30,6 @@ use Rattle.effects.specs.declared.Done.{Done}
 use Rattle.effects.specs.Leaves.{emergencyOf, partsOf, bare, Did, Rests}
 use Rattle.effects.proofs.Laws.{as-effect, did-alike}
 use Rattle.pdo.specs.Kept.{Serves}
-use Rattle.pdo.proofs.Hearing.{type-at}
 use Rattle.pdo.proofs.ByParts.{received-alike, rests-alike}
 use Rattle.pdo.proofs.Leaving.{as-calm}
 
@@ -58,19 +56,19 @@ next-zero k bs front h l e = rw (add-one k, take-suc-set bs k 0 h, e) (sym (padd
 pub short : {parts : Parts} {plan : Plan} {p : ℕ} {d o : List ℕ} {n : ℕ} → Serves parts plan p d o → n ≡ mappedLength (mapped d p) → n ≤ mostData
 short k e = rw e (short-is (k .receives))
 
-module _ (p : ℕ) (s : State) (d : List ℕ) (content : PdoData) (l : p < eachWay) (t : ℕ) (is : t ≡ value (part (25 + 6 * p) 1 d)) where
+module _ (p : ℕ) (s : State) (d : List ℕ) (content : PdoData) (t : ℕ) (is : t ≡ typeOf d p) where
   pub held-now : t ≤ lastSynchronous → (front : List ℕ) → front ≡ padded 0 8 (take (content .length) (content .bytes)) → content .length ≤ length (content .bytes) →
       heldOrApplied p (take (content .length) (content .bytes)) s d
       ≡ becomes (withHeld (set (s .axis .held) p (record { length = content .length; bytes = front })) s)
   unfolding heldOrApplied pdoData
   held-now h front e k =
-      rw (← is ∙ type-at d p l, le-leb t lastSynchronous h, e, length-take-le (content .length) (content .bytes) k)
+      rw (← is, le-leb t lastSynchronous h, e, length-take-le (content .length) (content .bytes) k)
 
   pub applied-now : lastSynchronous < t → content .length ≡ mappedLength (mapped d p) →
       heldOrApplied p (take (content .length) (content .bytes)) s d ≡ applied (unpacked (mapped d p) (content .bytes)) s d
   unfolding heldOrApplied
   applied-now h e =
-      rw (← is ∙ type-at d p l, lt-leb t lastSynchronous h)
+      rw (← is, lt-leb t lastSynchronous h)
       (ap (λ ws. applied ws s d) (unpacked-same (mapped d p) _ _ (rw (← e) (take-take (content .length) (content .length) (content .bytes) (omega arith)))))
 
 -- ---- a frame that a PDO listens to, of n bytes or not

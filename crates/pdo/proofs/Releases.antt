@@ -24,12 +24,12 @@ use Rattle.rules_services.specs.Effects.{Effect, Frame, becomes, sends, writes,
 use Rattle.rules_services.specs.Emergency.{emergency, faultGone, syncLength}
 use Rattle.rules_services.specs.Written.{wrote, countRestarted, modeActed, controlActed, faultReset, applied}
 use Rattle.rules_services.specs.PdoTraffic.{noData, isHeld, release, releaseAll}
-use Rattle.rules.specs.Outcome.{frameSize}
+use Rattle.rules.specs.Outcome.{frameSize, mostFrames}
 use Rattle.theorems.proofs.Alike.{isPdo, mapped-in, mapped-alike}
 use Rattle.theorems.proofs.Mapped.{unpacked-rows}
 use Rattle.theorems.proofs.NmtKept.{in-cons}
 use Rattle.theorems.proofs.Writes.{InTable, NoPdo, no-pdo-alike, register-in, stored-append}
-use Rattle.output.specs.Laying.{mostFrames, emitted}
+use Rattle.output.specs.Laying.{emitted}
 use Rattle.output.proofs.Laws.{emitted-then, emitted-none}
 use Rattle.effects.specs.declared.Parts.{Parts}
 use Rattle.effects.specs.declared.Done.{Done}

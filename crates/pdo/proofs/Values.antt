@@ -6,8 +6,7 @@ use mathlib.Core.Bool.{Bool}
 use mathlib.Core.List.{List}
 use Rattle.state.specs.declared.State.{State}
 use Rattle.rules_dictionary.specs.declared.Plan.{Plan}
-use Rattle.rules_dictionary.specs.Numbers.{value, part}
-use Rattle.rules_dictionary.specs.Table.{Row, sizeOf, controlWord, mode}
+use Rattle.rules_dictionary.specs.Table.{Row, placeOf, controlWord, mode}
 use Rattle.rules_dictionary.specs.Values.{Write, read, unpacked}
 use Rattle.rules_services.specs.Written.{applied, countRestarted}
 use Rattle.effects.specs.declared.Done.{Done}
@@ -28,10 +27,9 @@ module _ {plan : Plan} {xs : List Row} (r : Receives plan xs) (bs : List ℕ) (s
   not-restarted = rw (heartbeat-is r bs)
 
   pub applied-by : {n : ℕ} {o : List ℕ} {f : Done} {d₁ d′ o′ : List ℕ} (old : ℕ) (m c : Bool) →
-      old ≡ value (part (controlWord .place) (sizeOf controlWord) d) → d₁ ≡ storedMoves (movesOf plan) bs d →
-      m ≡ hasPlace (mode .place) (movesOf plan) → c ≡ hasPlace (controlWord .place) (movesOf plan) →
+      old ≡ read d controlWord → d₁ ≡ storedMoves (movesOf plan) bs d →
+      m ≡ hasPlace (placeOf mode) (movesOf plan) → c ≡ hasPlace (placeOf controlWord) (movesOf plan) →
       Did (acts old m c s d₁) n d₁ o f d′ o′ → Did (applied ws s d) n d o f d′ o′
-  unfolding read
   applied-by old m c e k a b h =
       let at = k ∙ stored-is r bs d in
       as-effect (stored-acted ws s d ∙ rw (not-restarted, ← at, ← mode-is r bs, ← control-is r bs, ← a, ← b, ← e) refl)

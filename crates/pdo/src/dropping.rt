@@ -7,10 +7,12 @@ use state::State;
 ghost use mathlib.Core.Path.{_≡_};
 ghost use Prim.Native.Nat.{_<_, _≤_};
 ghost use lib.ListN.{length};
+ghost use Rattle.rules_dictionary.specs.Table.{dictionaryLength};
+ghost use Rattle.rules_dictionary.specs.TheNode.{lastNode};
 ghost use Rattle.rules_services.specs.Effects.{sends, becomes};
 ghost use Rattle.rules_services.specs.Emergency.{emergency};
+ghost use Rattle.rules.specs.Outcome.{mostFrames};
 ghost use Rattle.rules.specs.Calls.{outputLength};
-ghost use Rattle.output.specs.Laying.{mostFrames};
 ghost use Rattle.effects.specs.Leaves.{bare, Did};
 ghost use Rattle.pdo.specs.Traffic.{nothingDone};
 
@@ -30,7 +32,7 @@ pub fn idle(s: State) -> Done
 
 // An emergency and no more, with n frames before.
 pub fn refused(code: u16, parts: Parts, d: &[u8], output: &mut [u8], n: usize) -> Done
-    requires { ⌜ (length (now d) ≡ 389) × ((outputLength ≤ length (now output)) × ((n < mostFrames) × (parts .node .id ≤ 127))) ⌝ }
+    requires { ⌜ (length (now d) ≡ dictionaryLength) × ((outputLength ≤ length (now output)) × ((n < mostFrames) × (parts .node .id ≤ lastNode))) ⌝ }
     ensures { λ r. ⌜ Did (sends (emergency code (bare parts) (now (d .entry))) (becomes (bare parts))) n (now (d .entry)) (now (output .entry)) r (now (d .entry)) (now (output .exit)) ⌝ }
 {
     let node = parts.node;

@@ -1,6 +1,5 @@
 // Document 01, 'PDO traffic': received frames and SYNC.
 
-mod places; // where their entries stand
 mod listening; // whether a receive PDO listens to an identifier
 mod dropping; // a frame that is not applied
 mod applying; // a frame's values stored and acted on

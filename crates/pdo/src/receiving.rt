@@ -4,8 +4,7 @@ use crate::applying::apply;
 use crate::dropping::idle;
 use crate::dropping::refused;
 use crate::listening::hears;
-use crate::places;
-use dictionary::read1;
+use dictionary::records;
 use effects::Done;
 use effects::Parts;
 use effects::emergency;
@@ -22,15 +21,16 @@ ghost use mathlib.Core.Bool.{cond};
 ghost use mathlib.Core.List.{[]};
 ghost use Prim.Native.Nat.{_<_, _≤_};
 ghost use lib.ListN.{length, take};
+ghost use Rattle.rules_dictionary.specs.TheNode.{lastNode};
 ghost use Rattle.state.specs.declared.NmtState.the-variants.{Operational};
 ghost use Rattle.rules_dictionary.specs.Numbers.{padded};
 ghost use Rattle.rules_dictionary.specs.Plans.{mapped};
-ghost use Rattle.rules_dictionary.specs.Table.{receivePdos};
+ghost use Rattle.rules_dictionary.specs.Table.{receivePdos, dictionaryLength};
 ghost use Rattle.rules_services.specs.Emergency.{pdoTooLong};
 ghost use Rattle.rules_services.specs.PdoTraffic.{mappedLength, heldOrApplied, received, receivedBy};
 ghost use Rattle.rules.specs.Calls.{outputLength};
-ghost use Rattle.rules.specs.Outcome.{mostData};
-ghost use Rattle.output.specs.Laying.{mostFrames, emitted};
+ghost use Rattle.rules.specs.Outcome.{mostData, mostFrames};
+ghost use Rattle.output.specs.Laying.{emitted};
 ghost use Rattle.effects.specs.Leaves.{emergencyOf, bare, Did, Rests};
 ghost use Rattle.pdo.specs.Kept.{Kept, Serves};
 
@@ -48,7 +48,7 @@ const LAST_SYNCHRONOUS: u8 = 240;
 
 // The emergency of a frame that is too long, where it is; how many frames that makes.
 fn warned(too_long: bool, node: Node, d: &[u8], output: &mut [u8]) -> usize
-    requires { ⌜ (length (now d) ≡ 389) × ((outputLength ≤ length (now output)) × (node .id ≤ 127)) ⌝ }
+    requires { ⌜ (length (now d) ≡ dictionaryLength) × ((outputLength ≤ length (now output)) × (node .id ≤ lastNode)) ⌝ }
     ensures { λ r. ⌜ (r ≡ length (cond «too_long» (emergencyOf pdoTooLong node (now (d .entry))) [])) × (now (output .exit) ≡ emitted 0 (cond «too_long» (emergencyOf pdoTooLong node (now (d .entry))) []) (now (output .entry))) ⌝ }
 {
     if too_long {
@@ -86,7 +86,7 @@ fn hold_or_apply(
     ensures { λ r. ⌜ Did (heldOrApplied p (take (content .length) (content .bytes)) (bare parts) (now (d .entry))) n (now (d .entry)) (now (output .entry)) r (now (d .exit)) (now (output .exit)) × Rests (bare parts) (heldOrApplied p (take (content .length) (content .bytes)) (bare parts) (now (d .entry))) r ⌝ }
 {
     let bytes = content.bytes;
-    if read1(d, places::FIRST_TYPE + places::RECORD * p) <= LAST_SYNCHRONOUS {
+    if records::transmission_type(d, p) <= LAST_SYNCHRONOUS {
         let node = parts.node;
         let drive = parts.drive;
         let mut held = parts.held;

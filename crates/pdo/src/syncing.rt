@@ -15,7 +15,7 @@ ghost use Prim.Native.Nat.{_<_};
 ghost use Rattle.rules_dictionary.specs.Table.{receivePdos};
 ghost use Rattle.rules_services.specs.Effects.{syncs};
 ghost use Rattle.rules_services.specs.PdoTraffic.{release, releaseAll};
-ghost use Rattle.output.specs.Laying.{mostFrames};
+ghost use Rattle.rules.specs.Outcome.{mostFrames};
 ghost use Rattle.effects.specs.Leaves.{bare, Did, Rests};
 ghost use Rattle.pdo.specs.Kept.{Kept, Serves};
 ghost use Rattle.pdo.specs.Traffic.{syncOf, Follows};

@@ -17,7 +17,7 @@ use Rattle.rules_dictionary.specs.Plans.{noMove}
 use Rattle.rules_dictionary.proofs.Tests.{and-left, and-right}
 use Rattle.rules.specs.Outcome.{sameMove, mostData}
 use Rattle.plans.specs.Slots.{wordsFrom, slotSound, slotsSound, slotsEmpty}
-use Rattle.plans.proofs.Slotted.{more-words, slots-step}
+use Rattle.plans.proofs.Slotted.{next-slot, more-words, later}
 
 empty-step : (k at : ℕ) (d : List ℕ) (ms : List Move) → k < 8 → k < length ms →
     slotsEmpty (wordsFrom (8 - k) at d) (drop k ms)
@@ -47,11 +47,11 @@ module _ (d : List ℕ) (ms : List Move) (l : length ms ≡ 8) where
   unfolding slotsEmpty wordsFrom
   none-left at = rw (drop-of-length-le ms {i = 8} (omega arith))
 
-  pub rest-empty : (at far : ℕ) → far ≡ at + 12 →
+  rest-from : (at far : ℕ) → far ≡ at + 12 →
       (((zeroAt at && (zeroAt (at + 4) && zeroAt (at + 8))) && (zeroAt far && (zeroAt (far + 4) && zeroAt (far + 8))))
       && ((spareAt 2 && (spareAt 3 && spareAt 4)) && (spareAt 5 && (spareAt 6 && spareAt 7))))
       ≡ slotsEmpty (wordsFrom 6 at d) (drop 2 ms)
-  rest-empty at far e =
+  rest-from at far e =
       let third : at + 4 + 4 ≡ at + 8 = omega arith in
       let fourth : at + 8 + 4 ≡ far = omega arith in
       let sixth : far + 4 + 4 ≡ far + 8 = omega arith in
@@ -71,6 +71,15 @@ module _ (d : List ℕ) (ms : List Move) (l : length ms ≡ 8) where
         and-true (zeroAt (far + 8) && spareAt 7),
       ))
 
+  pub rest-empty : (first : ℕ) →
+      (((zeroAt (first + 8) && (zeroAt (first + 8 + 4) && zeroAt (first + 8 + 8))) && (zeroAt (first + 20) && (zeroAt (first + 20 + 4) && zeroAt (first + 20 + 8))))
+      && ((spareAt 2 && (spareAt 3 && spareAt 4)) && (spareAt 5 && (spareAt 6 && spareAt 7))))
+      ≡ slotsEmpty (drop 2 (wordsFrom 8 first d)) (drop 2 ms)
+  unfolding wordsFrom
+  rest-empty first =
+      let third : first + 8 ≡ first + 4 + 4 = omega arith in
+      rest-from (first + 8) (first + 20) (omega arith) ∙ ap (λ (at : ℕ). slotsEmpty (wordsFrom 6 at d) (drop 2 ms)) third
+
 -- there are as many words as moves
 empty-length : (ws : List ℕ) (ms : List Move) → slotsEmpty ws ms ≡ true → length ws ≡ length ms
 unfolding slotsEmpty
@@ -79,9 +88,8 @@ empty-length [] (m ∷ ms) h = absurd (false≢true h)
 empty-length (w ∷ ws) [] h = absurd (false≢true h)
 empty-length (w ∷ ws) (m ∷ ms) h = ap suc (empty-length ws ms (and-right (eqb w 0 && sameMove m noMove) (slotsEmpty ws ms) h))
 
-pub eight-slots : (at : ℕ) (d : List ℕ) (ms : List Move) → slotsEmpty (wordsFrom 6 at d) (drop 2 ms) ≡ true → length ms ≡ 8
-unfolding wordsFrom
-eight-slots at d ms h = omega (arith, empty-length (wordsFrom 6 at d) (drop 2 ms) h, length-drop 2 ms)
+pub eight-slots : (ws : List ℕ) (ms : List Move) → slotsEmpty (drop 2 ws) (drop 2 ms) ≡ true → length ws ≡ 8 → length ms ≡ 8
+eight-slots ws ms h l = omega (arith, empty-length (drop 2 ws) (drop 2 ms) h, length-drop 2 ws, length-drop 2 ms)
 
 -- empty slots past the count are sound, and map nothing
 empty-sound : (way : Direction) (used : ℕ) (ws : List ℕ) (ms : List Move) → slotsEmpty ws ms ≡ true → slotsSound way 0 used ws ms ≡ leb used mostData
@@ -98,17 +106,17 @@ empty-sound way used (w ∷ ws) (m ∷ ms) h =
     rw (z, same, e) (empty-sound way used ws ms (and-right (eqb w 0 && sameMove m noMove) (slotsEmpty ws ms) h))
 
 -- THE LAW: with nothing behind the first two slots they are all that is to test
-pub two-sound : (way : Direction) (n first : ℕ) (d : List ℕ) (ms : List Move) → n ≤ 2 → length ms ≡ 8 → slotsEmpty (wordsFrom 6 (first + 8) d) (drop 2 ms) ≡ true →
-    slotsSound way n 0 (wordsFrom 8 first d) ms
-    ≡ (slotSound way (ltb 0 n) (value (part first 4 d)) (getD ms 0 noMove)
-    && (slotSound way (ltb 1 n) (value (part (first + 4) 4 d)) (getD ms 1 noMove) && leb (getD ms 0 noMove .size + getD ms 1 noMove .size) mostData))
-two-sound way n first d ms h l z =
-    let one = getD ms 0 noMove .size in
-    let two = getD ms 1 noMove .size in
-    let all : n - 0 ≡ n = omega arith in
-    let none : n - 2 ≡ 0 = omega arith in
-    let at : first + 4 + 4 ≡ first + 8 = omega arith in
-    let used : 0 + one ≡ one = omega arith in
-    ap (λ (m : ℕ). slotsSound way m 0 (wordsFrom 8 first d) ms) (sym all)
-    ∙ slots-step way n 0 0 first d ms (omega arith) (omega arith)
-    ∙ rw (used, slots-step way n 1 one (first + 4) d ms (omega arith) (omega arith), none, at, empty-sound way (one + two) (wordsFrom 6 (first + 8) d) (drop 2 ms) z)
+pub two-sound : (way : Direction) (n : ℕ) (ws : List ℕ) (ms : List Move) → n ≤ 2 → length ws ≡ 8 → length ms ≡ 8 →
+    slotsEmpty (drop 2 ws) (drop 2 ms) ≡ true →
+    slotsSound way n 0 ws ms
+    ≡ (slotSound way (ltb 0 n) (getD ws 0 0) (getD ms 0 noMove)
+    && (slotSound way (ltb 1 n) (getD ws 1 0) (getD ms 1 noMove) && leb (getD ms 0 noMove .size + getD ms 1 noMove .size) mostData))
+two-sound way n (v ∷ w ∷ ws) (a ∷ b ∷ ms) h k l z =
+    let none : n - 1 - 1 ≡ 0 = omega arith in
+    let used : 0 + a .size ≡ a .size = omega arith in
+    next-slot way n 0 v (w ∷ ws) a (b ∷ ms)
+    ∙ rw (used, next-slot way (n - 1) (a .size) w ws b ms, later 1 n, none, empty-sound way (a .size + b .size) ws ms z)
+two-sound way n [] ms h k l z = absurd (omega arith)
+two-sound way n (v ∷ []) ms h k l z = absurd (omega arith)
+two-sound way n (v ∷ w ∷ ws) [] h k l z = absurd (omega arith)
+two-sound way n (v ∷ w ∷ ws) (a ∷ []) h k l z = absurd (omega arith)

@@ -8,17 +8,19 @@ use mathlib.Core.Bool.{Bool, true, false, not, _&&_, _||_, true≢false}
 use mathlib.Core.List.{List, [], _∷_, map}
 use borrow.Author.Tests.{eqb-true, eq-eqb, ne-eqb, leb-true, leb-false, le-leb, lt-leb, lt-ltb, le-ltb, not-true}
 use lib.Dec.{eqb, leb, ltb}
-use lib.ListN.{length, take, drop}
+use lib.ListN.{length, take, drop, getD}
 use lib.Seq.{drop-drop}
 use Rattle.rules_dictionary.specs.declared.Move.{Move}
 use Rattle.rules_dictionary.specs.declared.Plan.{Plan}
 use Rattle.rules_dictionary.specs.Numbers.{value, part, all, any, sum, padded}
-use Rattle.rules_dictionary.specs.Table.{Row, directionOf, wordLength, mapCount, mapEntry, mappingPlace, mostMoves}
+use Rattle.rules_dictionary.specs.Table.{Row, directionOf, wordLength, eachWay, pdos, mapCount, wordsPlace, mostMoves, dictionaryLength, open-table}
 use Rattle.rules_dictionary.specs.Values.{read, unpacked}
 use Rattle.rules_dictionary.specs.Aborts.{isGood, good, bad, firstOf, notMappable, overLength}
 use Rattle.rules_dictionary.specs.Legal.{entryVerdict, countVerdict, mapWords, mostBits}
 use Rattle.rules_dictionary.specs.Plans.{andThen, targets, mapped, move, noMove, planFor}
-use Rattle.rules_dictionary.proofs.Tests.{and-left, and-right}
+use Rattle.rules_dictionary.proofs.Tests.{and-left, and-right, all-in}
+use Rattle.rules_dictionary.proofs.Members.{pdo-in}
+use Rattle.dictionary.specs.Sizes.{IsPdo}
 use Rattle.rules.specs.Outcome.{sameBy, sameMove, samePlan, mostData}
 use Rattle.rules.specs.Sound.{mappingLegal}
 use Rattle.plans.specs.Words.{wordMove, wayOf}
@@ -184,12 +186,28 @@ unfolding wordsOf wordsFrom
 words-dropped zero place d = refl
 words-dropped (suc n) place d = rw (drop-drop 4 place d) (ap (λ (ws : List ℕ). value (part place 4 d) ∷ ws) (words-dropped n (place + 4) d))
 
--- the eight words stand behind the count
-pub words-behind : (d : List ℕ) (p : ℕ) → wordsFrom 8 (mappingPlace p + 1) d ≡ mapWords d p
+-- the eight words stand one after another
+pub words-behind : (d : List ℕ) (p : ℕ) → wordsFrom 8 (wordsPlace p) d ≡ mapWords d p
 unfolding mapWords unpacked wordsOf
-words-behind d p =
-    let e : mapEntry p 1 .place ≡ mappingPlace p + 1 = omega arith in
-    sym (words-dropped 8 (mappingPlace p + 1) d) ∙ rw e
+words-behind d p = sym (words-dropped 8 (wordsPlace p) d)
+
+-- the first two, as they are read
+module _ (d : List ℕ) (p first v : ℕ) (at : first ≡ wordsPlace p) where
+  pub first-word : v ≡ value (part first 4 d) → v ≡ getD (mapWords d p) 0 0
+  unfolding wordsFrom
+  first-word is = is ∙ rw at (ap (λ (ws : List ℕ). getD ws 0 0) (words-behind d p))
+
+  pub second-word : v ≡ value (part (first + 4) 4 d) → v ≡ getD (mapWords d p) 1 0
+  unfolding wordsFrom
+  second-word is = is ∙ rw at (ap (λ (ws : List ℕ). getD ws 1 0) (words-behind d p))
+
+-- they lie within the dictionary
+words-test : all (λ p. leb (wordsPlace p + 4 * mostMoves) dictionaryLength) pdos ≡ true
+unfolding open-table
+words-test = refl
+
+pub words-room : (p : ℕ) → IsPdo p → wordsPlace p + 4 * mostMoves ≤ dictionaryLength
+words-room p h = leb-true _ _ (all-in (λ p. leb (wordsPlace p + 4 * mostMoves) dictionaryLength) (pdo-in p h) words-test)
 
 pub length-words : (d : List ℕ) (p : ℕ) → length (mapWords d p) ≡ mostMoves
 unfolding mapWords unpacked
@@ -205,39 +223,37 @@ sound-mapping d p plan h = count-first p (plan .count) (read d (mapCount p)) (ma
 
 -- ---- as the code goes: the count, then the kept count, then the slots
 
--- the four transmit PDOs stand last
-pub way-of : (p : ℕ) → wayOf (leb 4 p) ≡ directionOf p
-way-of p = go (leb 4 p) refl
+-- the transmit PDOs stand last
+pub way-of : (p : ℕ) → wayOf (leb eachWay p) ≡ directionOf p
+way-of p = go (leb eachWay p) refl
   where
-    go : (b : Bool) → leb 4 p ≡ b → wayOf b ≡ directionOf p
-    go true e = let h : 4 ≤ p = leb-true 4 p e in rw (le-ltb p 4 h)
-    go false e = let h : p < 4 = leb-false 4 p e in rw (lt-ltb p 4 h)
+    go : (b : Bool) → leb eachWay p ≡ b → wayOf b ≡ directionOf p
+    go true e = let h : eachWay ≤ p = leb-true eachWay p e in rw (le-ltb p eachWay h)
+    go false e = let h : p < eachWay = leb-false eachWay p e in rw (lt-ltb p eachWay h)
 
-pub counted-at : (d : List ℕ) (p place count : ℕ) → place ≡ mappingPlace p → count ≡ value (part place 1 d) → count ≡ read d (mapCount p)
-unfolding read
-counted-at d p place count at is = is ∙ rw at
-
-module _ (d : List ℕ) (p : ℕ) (plan : Plan) (place count : ℕ) (at : place ≡ mappingPlace p) (is : count ≡ value (part place 1 d)) where
+module _ (d : List ℕ) (p : ℕ) (plan : Plan) (count : ℕ) (is : count ≡ read d (mapCount p)) where
   abbrev verdictOf : Bool
   verdictOf = leb (read d (mapCount p)) mostMoves && (mappingLegal d p && samePlan plan (planFor (mapped d p)))
 
-  count-at : count ≡ read d (mapCount p)
-  count-at = counted-at d p place count at is
-
   pub too-many : mostMoves < count → false ≡ verdictOf
-  too-many h = rw (lt-leb (read d (mapCount p)) mostMoves (rw (← count-at) h))
+  too-many h = rw (lt-leb (read d (mapCount p)) mostMoves (rw (← is) h))
 
   module _ (h : count ≤ mostMoves) where
     few : (eqb (plan .count) count && asRuled p count 0 (mapWords d p) (plan .moves)) ≡ verdictOf
     few =
-        let k : read d (mapCount p) ≤ mostMoves = rw (← count-at) h in
-        rw (count-at, le-leb (read d (mapCount p)) mostMoves k) (sound-mapping d p plan k)
+        let k : read d (mapCount p) ≤ mostMoves = rw (← is) h in
+        rw (is, le-leb (read d (mapCount p)) mostMoves k) (sound-mapping d p plan k)
 
     pub other-count : (plan .count ≡ count → ⊥) → false ≡ verdictOf
     other-count e = rw (ne-eqb (plan .count) count e) at few
 
     pub same-count : plan .count ≡ count → length (plan .moves) ≡ mostMoves →
-        slotsSound (wayOf (leb 4 p)) count 0 (wordsFrom 8 (place + 1) d) (plan .moves) ≡ verdictOf
+        slotsSound (wayOf (leb eachWay p)) count 0 (mapWords d p) (plan .moves) ≡ verdictOf
     same-count e l =
-        rw (way-of p, at, words-behind d p) (ruled p count 0 (mapWords d p) (plan .moves) (length-words d p ∙ sym l))
+        rw (way-of p) (ruled p count 0 (mapWords d p) (plan .moves) (length-words d p ∙ sym l))
         ∙ (rw (eq-eqb (plan .count) count e) at few)
+
+    -- with the words from their place on, as the code tests them
+    pub same-slots : (first : ℕ) (r : Bool) → first ≡ wordsPlace p → plan .count ≡ count →
+        (r ≡ slotsSound (wayOf (leb eachWay p)) count 0 (wordsFrom 8 first d) (plan .moves)) × (length (plan .moves) ≡ mostMoves) → r ≡ verdictOf
+    same-slots first r at e t = t .0 ∙ rw (at, words-behind d p) (same-count e (t .1))

@@ -57,7 +57,7 @@ module _ (way : Direction) (w : ℕ) (m : Move) where
 
 -- ---- one slot after another
 
-next-slot : (way : Direction) (j used w : ℕ) (ws : List ℕ) (m : Move) (ms : List Move) →
+pub next-slot : (way : Direction) (j used w : ℕ) (ws : List ℕ) (m : Move) (ms : List Move) →
     slotsSound way j used (w ∷ ws) (m ∷ ms) ≡ (slotSound way (ltb 0 j) w m && slotsSound way (j - 1) (used + m .size) ws ms)
 unfolding slotsSound
 next-slot way zero used w ws m ms = refl
@@ -67,7 +67,7 @@ pub more-words : (n k at : ℕ) (d : List ℕ) → k < n → wordsFrom (n - k) a
 unfolding wordsFrom
 more-words n k at d h = let e : n - k ≡ suc (n - (k + 1)) = omega arith in rw e
 
-later : (k n : ℕ) → ltb 0 (n - k) ≡ ltb k n
+pub later : (k n : ℕ) → ltb 0 (n - k) ≡ ltb k n
 later k n = go (ltb k n) refl
   where
     go : (b : Bool) → ltb k n ≡ b → ltb 0 (n - k) ≡ b

@@ -14,7 +14,8 @@ use Rattle.rules_dictionary.specs.declared.Move.{Move}
 use Rattle.rules_dictionary.specs.declared.Plan.{Plan}
 use Rattle.rules_dictionary.specs.declared.PdoData.{PdoData}
 use Rattle.rules_dictionary.specs.Numbers.{value, bytes, part, areBytes}
-use Rattle.rules_dictionary.specs.Table.{statusWord, dictionaryLength}
+use Rattle.rules_dictionary.specs.Table.{statusWord, sizeOf, placeOf, dictionaryLength, open-table}
+use Rattle.rules_dictionary.specs.Values.{read, field}
 use Rattle.rules_dictionary.specs.Plans.{move, noMove}
 use Rattle.rules_dictionary.proofs.Tests.{and-left, and-right, and-both}
 use Rattle.rules_dictionary.proofs.Rows.{bytes-value}
@@ -32,6 +33,11 @@ no-value place size d f g h (inl (inl e)) = absurd (f e)
 no-value place size d f g h (inl (inr (inl e))) = absurd (g e)
 no-value place size d f g h (inl (inr (inr e))) = absurd (h e)
 no-value place size d f g h (inr e) = rw e
+
+-- the status word lies within the dictionary
+status-within : placeOf statusWord + sizeOf statusWord ≤ dictionaryLength
+unfolding open-table
+status-within = omega arith
 
 -- two bytes and others behind them
 module _ (xs ys : List ℕ) (two : length xs ≡ 2) where
@@ -64,7 +70,7 @@ module _ (plan : Plan) (fit : MovesFit (plan .moves) (plan .count)) (usual : Sta
 
   module _ (d : List ℕ) (long : length d ≡ dictionaryLength) (b : areBytes d ≡ true) where
     abbrev status : List ℕ
-    status = part (statusWord .place) 2 d
+    status = field d statusWord
 
     abbrev behind : List ℕ
     behind = part (second .place) (second .size) d
@@ -85,12 +91,13 @@ module _ (plan : Plan) (fit : MovesFit (plan .moves) (plan .count)) (usual : Sta
 
     -- THE LAW: a frame of that length and value is the ready one
     pub frame-ready : (f : PdoData) → areBytes (f .bytes) ≡ true → length (f .bytes) ≡ 8 →
-        (eqb (f .length) (2 + second .size) && eqb (value (f .bytes)) (value status + 0x10000 * value behind)) ≡ true → sameData f (readyBy d plan) ≡ true
+        (eqb (f .length) (2 + second .size) && eqb (value (f .bytes)) (read d statusWord + 0x10000 * value behind)) ≡ true → sameData f (readyBy d plan) ≡ true
+    unfolding read
     frame-ready f fb fl h =
-        let v : value (f .bytes) ≡ value status + 0x10000 * value behind = eqb-true _ _ (and-right (eqb (f .length) (2 + second .size)) _ h) in
-        let two : length status ≡ 2 = length-take-le 2 (drop (statusWord .place) d) (rw length-drop (omega arith)) in
+        let v : value (f .bytes) ≡ read d statusWord + 0x10000 * value behind = eqb-true _ _ (and-right (eqb (f .length) (2 + second .size)) _ h) in
+        let two : length status ≡ 2 = length-take-le 2 (drop (placeOf statusWord) d) (rw length-drop (omega (arith, status-within))) in
         let more : length behind ≡ second .size = length-take-le (second .size) (drop (second .place) d) (rw length-drop (omega (arith, second-fits .0))) in
         let bytes-of : bytes 8 (value (f .bytes)) ≡ f .bytes = rw fl at (bytes-value (f .bytes) fb) in
-        rw (← made-ready d plan (2 + second .size) (value status + 0x10000 * value behind) b fit
+        rw (← made-ready d plan (2 + second .size) (read d statusWord + 0x10000 * value behind) b fit
         (sym (ap length joined ∙ length-two status behind two ∙ ap (λ (k : ℕ). 2 + k) more)) (sym (ap value joined ∙ value-two status behind two)))
         (and-both (eqb (f .length) (2 + second .size)) _ (and-left (eqb (f .length) (2 + second .size)) _ h) (rw (← v, bytes-of) (bytes-same (f .bytes))))

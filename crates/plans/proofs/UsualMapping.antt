@@ -11,9 +11,9 @@ use lib.Dec.{eqb, leb, ltb}
 use lib.ListN.{length, getD}
 use Rattle.rules_dictionary.specs.declared.Move.{Move}
 use Rattle.rules_dictionary.specs.declared.Plan.{Plan}
-use Rattle.rules_dictionary.specs.Numbers.{value, part}
-use Rattle.rules_dictionary.specs.Table.{Row, ValueType, u8, u16, u32, i8, i32, size, sizeOf, Direction, receive, transmit, mappingWord, mapCount, mappingPlace, mostMoves}
+use Rattle.rules_dictionary.specs.Table.{Row, ValueType, u8, u16, u32, i8, i32, size, sizeOf, Direction, receive, transmit, mappingWord, eachWay, mapCount, mostMoves}
 use Rattle.rules_dictionary.specs.Values.{read}
+use Rattle.rules_dictionary.specs.Legal.{mapWords}
 use Rattle.rules_dictionary.specs.Plans.{move, noMove, planFor, mapped}
 use Rattle.rules_dictionary.proofs.Tests.{and-left, and-right, and-both}
 use Rattle.rules.specs.Outcome.{sameMove, samePlan, mostData}
@@ -22,7 +22,7 @@ use Rattle.plans.specs.Words.{named, wordMove, namesOne, wayOf}
 use Rattle.plans.specs.Slots.{slotSound}
 use Rattle.plans.specs.Usual.{firstRow, isShort, beginsUsual, goesOnUsual, pairUsual, StatusFirst}
 use Rattle.plans.proofs.Naming.{Names, facts, one-or-none}
-use Rattle.plans.proofs.Legality.{same-count}
+use Rattle.plans.proofs.Legality.{length-words, same-count}
 use Rattle.plans.proofs.Emptied.{eight-slots, two-sound}
 use Rattle.plans.proofs.Worked.{same-move}
 
@@ -92,49 +92,48 @@ second-sound way n w a m s (inr (e, k)) =
 
 module _ (d : List ℕ) (p : ℕ) (plan : Plan) (short : isShort d p plan ≡ true) (usual : pairUsual d p plan ≡ true) where
   abbrev way : Direction
-  way = wayOf (leb 4 p)
+  way = wayOf (leb eachWay p)
 
   abbrev count : ℕ
   count = read d (mapCount p)
 
   long : length (plan .moves) ≡ 8
   unfolding isShort
-  long = eight-slots (mappingPlace p + 1 + 8) d (plan .moves) short
+  long = eight-slots (mapWords d p) (plan .moves) short (length-words d p)
 
   counts : plan .count ≡ count
   unfolding pairUsual
   counts = eqb-true _ _ (and-left (eqb (plan .count) count) _ usual)
 
-  begins : beginsUsual way (value (part (mappingPlace p + 1) 4 d)) (getD (plan .moves) 0 noMove) ≡ true
+  begins : beginsUsual way (getD (mapWords d p) 0 0) (getD (plan .moves) 0 noMove) ≡ true
   unfolding pairUsual
   begins = and-left _ _ (and-right (eqb (plan .count) count) _ usual)
 
-  goes : GoesOn way count (value (part (mappingPlace p + 5) 4 d)) (getD (plan .moves) 1 noMove)
+  goes : GoesOn way count (getD (mapWords d p) 1 0) (getD (plan .moves) 1 noMove)
   unfolding pairUsual
   goes =
-      goes-on way count (value (part (mappingPlace p + 5) 4 d)) (getD (plan .moves) 1 noMove)
-      (and-right (beginsUsual way (value (part (mappingPlace p + 1) 4 d)) (getD (plan .moves) 0 noMove)) _ (and-right (eqb (plan .count) count) _ usual))
+      goes-on way count (getD (mapWords d p) 1 0) (getD (plan .moves) 1 noMove)
+      (and-right (beginsUsual way (getD (mapWords d p) 0 0) (getD (plan .moves) 0 noMove)) _ (and-right (eqb (plan .count) count) _ usual))
 
   first-is : getD (plan .moves) 0 noMove ≡ move (firstRow way)
-  first-is = same-move _ _ (and-right (eqb (value (part (mappingPlace p + 1) 4 d)) (mappingWord (firstRow way))) _ begins)
+  first-is = same-move _ _ (and-right (eqb (getD (mapWords d p) 0 0) (mappingWord (firstRow way))) _ begins)
 
   -- THE LAW: the mapping is sound, with that plan
   pub usual-sound : (leb count mostMoves && (mappingLegal d p && samePlan plan (planFor (mapped d p)))) ≡ true
-  unfolding isShort read
+  unfolding isShort
   usual-sound =
-      let at : mappingPlace p + 1 + 4 ≡ mappingPlace p + 5 = omega arith in
       let s = second-sound _ _ _ (getD (plan .moves) 0 noMove) _ (ap (λ (m : Move). m .size) first-is ∙ first-sized way) goes in
-      sym (same-count d p plan (mappingPlace p) count refl refl (omega (arith, s .0)) counts long)
-      ∙ two-sound way count (mappingPlace p + 1) (d) (plan .moves) (s .0) long short
-      ∙ rw (at, s .1 .0) (and-both _ _ (begins-sound _ _ _ begins) (s .1 .1))
+      sym (same-count d p plan count refl (omega (arith, s .0)) counts long)
+      ∙ two-sound way count (mapWords d p) (plan .moves) (s .0) (length-words d p) long short
+      ∙ rw (s .1 .0) (and-both _ _ (begins-sound _ _ _ begins) (s .1 .1))
 
   -- and of a transmit PDO the plan begins with the status word
-  pub status-first : leb 4 p ≡ true → StatusFirst plan
+  pub status-first : leb eachWay p ≡ true → StatusFirst plan
   unfolding GoesOn
   status-first t = record { slots = long; first = rw t at first-is; second = go goes }
     where
-      go : ((count ≡ 1) × ((value (part (mappingPlace p + 5) 4 d) ≡ 0) × (getD (plan .moves) 1 noMove ≡ noMove)))
-          ⊎ ((count ≡ 2) × (slotSound way true (value (part (mappingPlace p + 5) 4 d)) (getD (plan .moves) 1 noMove) ≡ true)) →
+      go : ((count ≡ 1) × ((getD (mapWords d p) 1 0 ≡ 0) × (getD (plan .moves) 1 noMove ≡ noMove)))
+          ⊎ ((count ≡ 2) × (slotSound way true (getD (mapWords d p) 1 0) (getD (plan .moves) 1 noMove) ≡ true)) →
           ((plan .count ≡ 1) × (getD (plan .moves) 1 noMove ≡ noMove)) ⊎ (plan .count ≡ 2)
       go (inl (e, (z, k))) = inl (counts ∙ e, k)
       go (inr (e, k)) = inr (counts ∙ e)

@@ -13,7 +13,7 @@ use lib.ListN.{length, take, getD, set, replicate, length-map}
 use Rattle.rules_dictionary.specs.declared.Move.{Move}
 use Rattle.rules_dictionary.specs.declared.Plan.{Plan}
 use Rattle.rules_dictionary.specs.Numbers.{value, part, all, any, sum, padded}
-use Rattle.rules_dictionary.specs.Table.{Row, Direction, mappingPlace, ValueType, u8, u16, u32, i8, i32, size, table, sizeOf, directionOf, wordIndex, wordSubindex, wordLength, Found, found, noObject, noSubindex, lookup, mapCount, mostMoves}
+use Rattle.rules_dictionary.specs.Table.{Row, Direction, eachWay, wordsPlace, ValueType, u8, u16, u32, i8, i32, size, table, sizeOf, directionOf, wordIndex, wordSubindex, wordLength, Found, found, noObject, noSubindex, lookup, mapCount, mostMoves}
 use Rattle.rules_dictionary.specs.Values.{read}
 use Rattle.rules_dictionary.specs.Aborts.{isGood}
 use Rattle.rules_dictionary.specs.Legal.{entryVerdict, mapWords, mostBits}
@@ -27,7 +27,7 @@ use Rattle.plans.specs.Words.{wordMove, wayOf}
 use Rattle.plans.specs.Slots.{wordsFrom, movesNamed}
 use Rattle.plans.specs.Moves.{joinedMoves, readyBy, MoveFits, MovesFit}
 use Rattle.plans.proofs.Naming.{facts}
-use Rattle.plans.proofs.Legality.{good-count, neither, named-row, targets-named, counted, length-words, words-behind, way-of, counted-at}
+use Rattle.plans.proofs.Legality.{good-count, neither, named-row, targets-named, counted, length-words, words-behind, way-of}
 
 -- ---- kept and fresh plans that are the same are equal
 
@@ -234,20 +234,20 @@ next-named way k place d h =
 
 -- the words within the count name the moves of the mapped rows
 moves-mapped : (d : List ℕ) (p : ℕ) → mappingLegal d p ≡ true → read d (mapCount p) ≤ mostMoves →
-    map (wordMove (directionOf p)) (wordsFrom (read d (mapCount p)) (mappingPlace p + 1) d) ≡ map move (mapped d p)
+    map (wordMove (directionOf p)) (wordsFrom (read d (mapCount p)) (wordsPlace p) d) ≡ map move (mapped d p)
 unfolding mapped
 moves-mapped d p h few =
     let g = legal-mapping d p h in
     let n = read d (mapCount p) in
-    rw (← take-words 8 n (mappingPlace p + 1) d few, words-behind d p) (sym (maps-rows p n (mapWords d p) (g .words) (g .nonzero) .moves))
+    rw (← take-words 8 n (wordsPlace p) d few, words-behind d p) (sym (maps-rows p n (mapWords d p) (g .words) (g .nonzero) .moves))
 
 -- THE LAW: the count and the named moves are the plan of the rules
-pub fresh-plan : (d : List ℕ) (p place count : ℕ) → place ≡ mappingPlace p → count ≡ value (part place 1 d) → mappingLegal d p ≡ true → read d (mapCount p) ≤ mostMoves →
-    _≡_ {A = Plan} (record { count = count; moves = movesNamed (wayOf (leb 4 p)) count (place + 1) d }) (planFor (mapped d p))
+pub fresh-plan : (d : List ℕ) (p first count : ℕ) → first ≡ wordsPlace p → count ≡ read d (mapCount p) →
+    mappingLegal d p ≡ true → read d (mapCount p) ≤ mostMoves →
+    _≡_ {A = Plan} (record { count = count; moves = movesNamed (wayOf (leb eachWay p)) count first d }) (planFor (mapped d p))
 unfolding planFor movesNamed
-fresh-plan d p place count at is h few =
-    let n : count ≡ read d (mapCount p) = counted-at d p place count at is in
-    rw (n, way-of p, at) (as-plan (sym (maps-count d p h few)) (ap (padded noMove mostMoves) (moves-mapped d p h few)))
+fresh-plan d p first count at is h few =
+    rw (is, way-of p, at) (as-plan (sym (maps-count d p h few)) (ap (padded noMove mostMoves) (moves-mapped d p h few)))
 
 -- THE LAW FOR CALLERS: what a plan is that passed the test of its mapping
 pub record Tested (d : List ℕ) (p : ℕ) (plan : Plan) : Type 0 where

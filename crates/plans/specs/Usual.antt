@@ -1,6 +1,6 @@
 -- The usual mapping: the control word or the status word, one object more behind it or none, and nothing else.
 -- Assumes nothing.
-use Prim.Native.Nat.{ℕ, _+_}
+use Prim.Native.Nat.{ℕ}
 use mathlib.Core.Path.{_≡_}
 use mathlib.Core.Logic.{_⊎_}
 use mathlib.Core.List.{List}
@@ -9,13 +9,13 @@ use lib.Dec.{eqb, leb}
 use lib.ListN.{length, getD, drop}
 use Rattle.rules_dictionary.specs.declared.Move.{Move}
 use Rattle.rules_dictionary.specs.declared.Plan.{Plan}
-use Rattle.rules_dictionary.specs.Numbers.{value, part}
-use Rattle.rules_dictionary.specs.Table.{Row, Direction, receive, transmit, controlWord, statusWord, mappingWord, mapCount, mappingPlace, mostMoves}
+use Rattle.rules_dictionary.specs.Table.{Row, Direction, receive, transmit, controlWord, statusWord, mappingWord, eachWay, mapCount, mostMoves}
 use Rattle.rules_dictionary.specs.Values.{read}
+use Rattle.rules_dictionary.specs.Legal.{mapWords}
 use Rattle.rules_dictionary.specs.Plans.{move, noMove}
 use Rattle.rules.specs.Outcome.{sameMove}
 use Rattle.plans.specs.Words.{wayOf}
-use Rattle.plans.specs.Slots.{wordsFrom, slotSound, slotsEmpty}
+use Rattle.plans.specs.Slots.{slotSound, slotsEmpty}
 
 -- the object that stands first
 abbrev pub firstRow : Direction → Row
@@ -24,7 +24,7 @@ firstRow transmit = statusWord
 
 -- a PDO's slots from the third on are empty
 unfoldable pub isShort : List ℕ → ℕ → Plan → Bool
-isShort d p plan = slotsEmpty (wordsFrom 6 (mappingPlace p + 1 + 8) d) (drop 2 (plan .moves))
+isShort d p plan = slotsEmpty (drop 2 (mapWords d p)) (drop 2 (plan .moves))
 
 -- the first slot holds that object
 abbrev pub beginsUsual : Direction → ℕ → Move → Bool
@@ -38,8 +38,8 @@ goesOnUsual way n w m = cond (eqb n 2) (slotSound way true w m) (eqb n 1 && (eqb
 unfoldable pub pairUsual : List ℕ → ℕ → Plan → Bool
 pairUsual d p plan =
     eqb (plan .count) (read d (mapCount p))
-    && (beginsUsual (wayOf (leb 4 p)) (value (part (mappingPlace p + 1) 4 d)) (getD (plan .moves) 0 noMove)
-    && goesOnUsual (wayOf (leb 4 p)) (read d (mapCount p)) (value (part (mappingPlace p + 5) 4 d)) (getD (plan .moves) 1 noMove))
+    && (beginsUsual (wayOf (leb eachWay p)) (getD (mapWords d p) 0 0) (getD (plan .moves) 0 noMove)
+    && goesOnUsual (wayOf (leb eachWay p)) (read d (mapCount p)) (getD (mapWords d p) 1 0) (getD (plan .moves) 1 noMove))
 
 -- a plan of eight slots, with the status word in the first and one move more or none
 pub record StatusFirst (plan : Plan) : Type 0 where

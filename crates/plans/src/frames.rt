@@ -9,6 +9,7 @@ ghost use mathlib.Core.Path.{_≡_};
 ghost use mathlib.Core.Bool.{true};
 ghost use Prim.Native.Nat.{_+_, _-_, _*_, _^_, _<_};
 ghost use lib.ListN.{length, take};
+ghost use Rattle.rules_dictionary.specs.Table.{dictionaryLength};
 ghost use Rattle.rules_dictionary.specs.Numbers.{value, bytes, part, areBytes};
 ghost use Rattle.rules.specs.Outcome.{sameData};
 ghost use Rattle.plans.specs.Moves.{joinedMoves, readyBy, MoveFits, MovesFit};
@@ -68,7 +69,7 @@ fn bytes_of(v: u64) -> [u8; 8]
 
 // The value of a move's bytes with others behind them.
 fn join_one(d: &[u8], m: Move, behind: u64) -> u64
-    requires { ⌜ (length (now d) ≡ 389) × (MoveFits m × (behind < 256 ^ (8 - m .size))) ⌝ }
+    requires { ⌜ (length (now d) ≡ dictionaryLength) × (MoveFits m × (behind < 256 ^ (8 - m .size))) ⌝ }
     ensures { λ r. ⌜ r ≡ value (part (m .place) (m .size) (now (d .entry))) + 256 ^ (m .size) * behind ⌝ }
 {
     let place = m.place as usize;
@@ -83,7 +84,7 @@ fn join_one(d: &[u8], m: Move, behind: u64) -> u64
 
 // The bytes of the first moves, joined.
 fn join(d: &[u8], moves: [Move; 8], count: usize) -> Joined
-    requires { ⌜ (length (now d) ≡ 389) × MovesFit moves count ⌝ }
+    requires { ⌜ (length (now d) ≡ dictionaryLength) × MovesFit moves count ⌝ }
     ensures { λ r. ⌜ (r .length ≡ length (joinedMoves (now (d .entry)) (take count moves))) × (r .value ≡ value (joinedMoves (now (d .entry)) (take count moves))) ⌝ }
 {
     let mut length: u8 = 0;
@@ -100,7 +101,7 @@ fn join(d: &[u8], moves: [Move; 8], count: usize) -> Joined
 
 // The ready frame of a plan: the bytes that it maps, joined in order.
 pub fn ready_of(d: &[u8], plan: Plan) -> PdoData
-    requires { ⌜ (length (now d) ≡ 389) × MovesFit (plan .moves) (plan .count) ⌝ }
+    requires { ⌜ (length (now d) ≡ dictionaryLength) × MovesFit (plan .moves) (plan .count) ⌝ }
     ensures { λ r. ⌜ r ≡ readyBy (now (d .entry)) plan ⌝ }
 {
     let moves = plan.moves;

@@ -7,7 +7,6 @@ mod usual; // the mapping that most PDOs have
 
 pub use frames::ready_of;
 pub use frames::same_data;
-pub use mapping::mapping_place;
 pub use mapping::mapping_sound;
 pub use mapping::plan_of;
 pub use usual::is_frame_usual;

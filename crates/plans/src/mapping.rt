@@ -1,33 +1,29 @@
 // The mapping of a PDO: a count and eight mapping words, beside the plan that is kept for it.
 use crate::words::move_of;
-use dictionary::read1;
+use dictionary::places;
 use dictionary::read4;
+use dictionary::records;
 use rules_dictionary::Move;
 use rules_dictionary::Plan;
 ghost use mathlib.Core.Path.{_≡_};
 ghost use mathlib.Core.Bool.{true, false, _&&_};
-ghost use Prim.Native.Nat.{_+_, _<_, _≤_};
+ghost use Prim.Native.Nat.{_+_, _*_, _^_, _<_, _≤_};
 ghost use lib.Dec.{eqb, leb};
 ghost use lib.ListN.{length, drop};
-ghost use Rattle.rules_dictionary.specs.Table.{mapCount, mappingPlace, mostMoves};
+ghost use Rattle.rules_dictionary.specs.Table.{mapCount, mostMoves, dictionaryLength};
 ghost use Rattle.rules_dictionary.specs.Values.{read};
 ghost use Rattle.rules_dictionary.specs.Numbers.{value, part};
 ghost use Rattle.rules_dictionary.specs.Plans.{mapped, planFor, noMove};
 ghost use Rattle.rules.specs.Outcome.{sameMove, samePlan};
 ghost use Rattle.rules.specs.Sound.{mappingLegal};
+ghost use Rattle.dictionary.specs.Sizes.{IsPdo};
 ghost use Rattle.plans.specs.Words.{wayOf};
 ghost use Rattle.plans.specs.Slots.{wordsFrom, slotSound, slotsSound, slotsEmpty, movesNamed};
 
-// Where a PDO's mapping stands: its count, and behind it the eight mapping words.
-pub fn mapping_place(p: usize) -> usize
-    requires { ⌜ p < 8 ⌝ }
-    ensures { λ r. ⌜ (r ≡ mappingPlace p) × (r < 300) ⌝ }
-{
-    if p < 4 {
-        return 44 + 33 * p;
-    }
-    200 + 33 * (p - 4)
-}
+// So many mapping words, in bytes.
+const TWO_WORDS: usize = 2 * places::WORD_LENGTH;
+
+const FIVE_WORDS: usize = 5 * places::WORD_LENGTH;
 
 // Whether two moves are the same.
 pub fn same_move(a: Move, b: Move) -> bool
@@ -74,7 +70,7 @@ fn slot_sound(word: u32, kept: Move, within: bool, transmit: bool) -> bool
 
 // Whether the eight mapping words from a place on go with the kept moves, and map eight bytes at the most.
 fn all_slots_sound(d: &[u8], first: usize, count: usize, moves: [Move; 8], transmit: bool) -> bool
-    requires { ⌜ (first + 32 ≤ length (now d)) × (first < 400) ⌝ }
+    requires { ⌜ (first + 4 * mostMoves ≤ length (now d)) × (first < 2 ^ 16) ⌝ }
     ensures { λ r. ⌜ (r ≡ slotsSound (wayOf transmit) count 0 (wordsFrom 8 first (now (d .entry))) moves) × (length moves ≡ 8) ⌝ }
 {
     let mut at = first;
@@ -86,7 +82,7 @@ fn all_slots_sound(d: &[u8], first: usize, count: usize, moves: [Move; 8], trans
             return false;
         }
         used += kept.size as usize;
-        at += 4;
+        at += places::WORD_LENGTH;
         k += 1;
     }
     used <= 8
@@ -94,10 +90,11 @@ fn all_slots_sound(d: &[u8], first: usize, count: usize, moves: [Move; 8], trans
 
 // Whether three mapping words in a row are zero.
 fn are_zero(d: &[u8], at: usize) -> bool
-    requires { ⌜ (at + 12 ≤ length (now d)) × (at < 500) ⌝ }
+    requires { ⌜ (at + 12 ≤ length (now d)) × (at < 2 ^ 17) ⌝ }
     ensures { λ r. ⌜ r ≡ (eqb (value (part at 4 (now (d .entry)))) 0 && (eqb (value (part (at + 4) 4 (now (d .entry)))) 0 && eqb (value (part (at + 8) 4 (now (d .entry)))) 0)) ⌝ }
 {
-    (read4(d, at) == 0) & ((read4(d, at + 4) == 0) & (read4(d, at + 8) == 0))
+    (read4(d, at) == 0)
+        & ((read4(d, at + places::WORD_LENGTH) == 0) & (read4(d, at + TWO_WORDS) == 0))
 }
 
 // Whether no move is kept in a slot.
@@ -109,10 +106,10 @@ pub fn is_spare(m: Move) -> bool
 
 // Whether the slots from the third on are empty: their mapping words zero, and no move kept.
 pub fn is_rest_empty(d: &[u8], first: usize, moves: [Move; 8]) -> bool
-    requires { ⌜ (first + 32 ≤ length (now d)) × (first < 400) ⌝ }
-    ensures { λ r. ⌜ (r ≡ slotsEmpty (wordsFrom 6 (first + 8) (now (d .entry))) (drop 2 moves)) × (length moves ≡ 8) ⌝ }
+    requires { ⌜ (first + 4 * mostMoves ≤ length (now d)) × (first < 2 ^ 16) ⌝ }
+    ensures { λ r. ⌜ (r ≡ slotsEmpty (drop 2 (wordsFrom 8 first (now (d .entry)))) (drop 2 moves)) × (length moves ≡ 8) ⌝ }
 {
-    let words = are_zero(d, first + 8) & are_zero(d, first + 20);
+    let words = are_zero(d, first + TWO_WORDS) & are_zero(d, first + FIVE_WORDS);
     let near = is_spare(moves[2]) & (is_spare(moves[3]) & is_spare(moves[4]));
     let far = is_spare(moves[5]) & (is_spare(moves[6]) & is_spare(moves[7]));
     words & (near & far)
@@ -120,11 +117,10 @@ pub fn is_rest_empty(d: &[u8], first: usize, moves: [Move; 8]) -> bool
 
 // Whether a PDO's mapping is legal, its count at most eight, and the kept plan the one that it gives.
 pub fn mapping_sound(d: &[u8], p: usize, plan: Plan) -> bool
-    requires { ⌜ (length (now d) ≡ 389) × (p < 8) ⌝ }
+    requires { ⌜ (length (now d) ≡ dictionaryLength) × IsPdo p ⌝ }
     ensures { λ r. ⌜ r ≡ (leb (read (now (d .entry)) (mapCount p)) mostMoves && (mappingLegal (now (d .entry)) p && samePlan plan (planFor (mapped (now (d .entry)) p)))) ⌝ }
 {
-    let place = mapping_place(p);
-    let count = read1(d, place);
+    let count = records::map_count(d, p);
     if 8 < count {
         return false;
     }
@@ -132,12 +128,13 @@ pub fn mapping_sound(d: &[u8], p: usize, plan: Plan) -> bool
         return false;
     }
     let moves = plan.moves;
-    all_slots_sound(d, place + 1, count as usize, moves, 4 <= p)
+    let first = records::words_place(p);
+    all_slots_sound(d, first, count as usize, moves, places::EACH_WAY <= p)
 }
 
 // The moves that the first mapping words from a place on name, then spare slots.
 fn moves_of(d: &[u8], first: usize, count: usize, transmit: bool) -> [Move; 8]
-    requires { ⌜ (first + 32 ≤ length (now d)) × ((first < 400) × (count ≤ 8)) ⌝ }
+    requires { ⌜ (first + 4 * mostMoves ≤ length (now d)) × ((first < 2 ^ 16) × (count ≤ mostMoves)) ⌝ }
     ensures { λ r. ⌜ r ≡ movesNamed (wayOf transmit) count first (now (d .entry)) ⌝ }
 {
     let mut moves = [Move { place: 0, size: 0 }; 8];
@@ -145,7 +142,7 @@ fn moves_of(d: &[u8], first: usize, count: usize, transmit: bool) -> [Move; 8]
     let mut k: usize = 0;
     while k < count {
         moves[k] = move_of(read4(d, at), transmit);
-        at += 4;
+        at += places::WORD_LENGTH;
         k += 1;
     }
     moves
@@ -153,11 +150,11 @@ fn moves_of(d: &[u8], first: usize, count: usize, transmit: bool) -> [Move; 8]
 
 // The plan that a PDO's legal mapping gives.
 pub fn plan_of(d: &[u8], p: usize) -> Plan
-    requires { ⌜ (length (now d) ≡ 389) × ((p < 8) × ((read (now d) (mapCount p) ≤ mostMoves) × (mappingLegal (now d) p ≡ true))) ⌝ }
+    requires { ⌜ (length (now d) ≡ dictionaryLength) × (IsPdo p × ((read (now d) (mapCount p) ≤ mostMoves) × (mappingLegal (now d) p ≡ true))) ⌝ }
     ensures { λ r. ⌜ r ≡ planFor (mapped (now (d .entry)) p) ⌝ }
 {
-    let place = mapping_place(p);
-    let count = read1(d, place);
-    let moves = moves_of(d, place + 1, count as usize, 4 <= p);
+    let count = records::map_count(d, p);
+    let first = records::words_place(p);
+    let moves = moves_of(d, first, count as usize, places::EACH_WAY <= p);
     Plan { count, moves }
 }

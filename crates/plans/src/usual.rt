@@ -4,11 +4,13 @@ use crate::frames::word_of;
 use crate::mapping::is_rest_empty;
 use crate::mapping::is_spare;
 use crate::mapping::mapped_sound;
-use crate::mapping::mapping_place;
 use crate::mapping::same_move;
+use dictionary::objects;
+use dictionary::places;
 use dictionary::read1;
 use dictionary::read2;
 use dictionary::read4;
+use dictionary::records;
 use rules_dictionary::Move;
 use rules_dictionary::PdoData;
 use rules_dictionary::Plan;
@@ -17,23 +19,21 @@ ghost use mathlib.Core.Logic.{_⊎_};
 ghost use mathlib.Core.Bool.{true};
 ghost use Prim.Native.Nat.{_+_, _<_, _≤_};
 ghost use lib.ListN.{length};
+ghost use Rattle.rules_dictionary.specs.Table.{dictionaryLength};
 ghost use Rattle.rules_dictionary.specs.Numbers.{value, part};
 ghost use Rattle.rules.specs.Outcome.{sameData};
-ghost use Rattle.dictionary.specs.Sizes.{IsSize};
+ghost use Rattle.dictionary.specs.Sizes.{IsSize, IsPdo};
 ghost use Rattle.plans.specs.Words.{wayOf};
 ghost use Rattle.plans.specs.Moves.{readyBy, MovesFit};
 ghost use Rattle.plans.specs.Usual.{isShort, beginsUsual, goesOnUsual, pairUsual, StatusFirst};
 
-// Where 6041h stands.
-const STATUS_WORD: usize = 336;
-
 // Whether a PDO has nothing mapped or kept from its third slot on.
 pub fn is_short(d: &[u8], p: usize, plan: Plan) -> bool
-    requires { ⌜ (length (now d) ≡ 389) × (p < 8) ⌝ }
+    requires { ⌜ (length (now d) ≡ dictionaryLength) × IsPdo p ⌝ }
     ensures { λ r. ⌜ r ≡ isShort (now (d .entry)) p plan ⌝ }
 {
     let moves = plan.moves;
-    is_rest_empty(d, mapping_place(p) + 1, moves)
+    is_rest_empty(d, records::words_place(p), moves)
 }
 
 // Whether a mapping word and its kept move are of 6040h, or of 6041h to transmit.
@@ -45,7 +45,7 @@ fn begins_usually(word: u32, kept: Move, transmit: bool) -> bool
             & same_move(
                 kept,
                 Move {
-                    place: 336,
+                    place: places::STATUS_WORD as u16,
                     size: 2,
                 },
             );
@@ -54,7 +54,7 @@ fn begins_usually(word: u32, kept: Move, transmit: bool) -> bool
         & same_move(
             kept,
             Move {
-                place: 334,
+                place: places::CONTROL_WORD as u16,
                 size: 2,
             },
         )
@@ -72,19 +72,25 @@ fn goes_on_usually(count: u8, word: u32, kept: Move, transmit: bool) -> bool
 
 // Whether the count and the first two slots are usual, and kept as they are mapped.
 pub fn is_pair_usual(d: &[u8], p: usize, plan: Plan) -> bool
-    requires { ⌜ (length (now d) ≡ 389) × (p < 8) ⌝ }
+    requires { ⌜ (length (now d) ≡ dictionaryLength) × IsPdo p ⌝ }
     ensures { λ r. ⌜ r ≡ pairUsual (now (d .entry)) p plan ⌝ }
 {
-    let place = mapping_place(p);
-    let count = read1(d, place);
+    let count = records::map_count(d, p);
     if plan.count != count {
         return false;
     }
     let moves = plan.moves;
-    if !begins_usually(read4(d, place + 1), moves[0], 4 <= p) {
+    let first = records::words_place(p);
+    let transmit = places::EACH_WAY <= p;
+    if !begins_usually(read4(d, first), moves[0], transmit) {
         return false;
     }
-    goes_on_usually(count, read4(d, place + 5), moves[1], 4 <= p)
+    goes_on_usually(
+        count,
+        read4(d, first + places::WORD_LENGTH),
+        moves[1],
+        transmit,
+    )
 }
 
 // The value of a second object that is mapped; 0 where there is none.
@@ -104,12 +110,12 @@ fn second_value(d: &[u8], m: Move) -> u64
 
 // Whether a ready frame holds the status word and the second object that is mapped.
 pub fn is_frame_usual(d: &[u8], plan: Plan, frame: PdoData) -> bool
-    requires { ⌜ (length (now d) ≡ 389) × (MovesFit (plan .moves) (plan .count) × StatusFirst plan) ⌝ }
+    requires { ⌜ (length (now d) ≡ dictionaryLength) × (MovesFit (plan .moves) (plan .count) × StatusFirst plan) ⌝ }
     ensures { λ r. ⌜ (r ≡ true → sameData frame (readyBy (now (d .entry)) plan) ≡ true) ⌝ }
 {
     let moves = plan.moves;
     let second = moves[1];
     let content = frame.bytes;
-    let value = (read2(d, STATUS_WORD) as u64) + 0x1_0000 * second_value(d, second);
+    let value = (objects::status_word(d) as u64) + 0x1_0000 * second_value(d, second);
     (frame.length == 2 + second.size) & (word_of(content) == value)
 }

@@ -1,4 +1,5 @@
 // Mapping words: index, subindex and bit length of a mapped object.
+use dictionary::places;
 use rules_dictionary::Move;
 ghost use mathlib.Core.Path.{_≡_};
 ghost use Rattle.rules_dictionary.specs.Table.{receive, transmit};
@@ -10,31 +11,31 @@ fn receive_move(word: u32) -> Move
 {
     match word {
         0x6040_00_10 => Move {
-            place: 334,
+            place: places::CONTROL_WORD as u16,
             size: 2,
         },
         0x6060_00_08 => Move {
-            place: 338,
+            place: places::MODE as u16,
             size: 1,
         },
         0x607A_00_20 => Move {
-            place: 356,
+            place: places::TARGET_POSITION as u16,
             size: 4,
         },
         0x6081_00_20 => Move {
-            place: 369,
+            place: places::PROFILE_VELOCITY as u16,
             size: 4,
         },
         0x6083_00_20 => Move {
-            place: 373,
+            place: places::PROFILE_ACCELERATION as u16,
             size: 4,
         },
         0x6084_00_20 => Move {
-            place: 377,
+            place: places::PROFILE_DECELERATION as u16,
             size: 4,
         },
         0x60FF_00_20 => Move {
-            place: 381,
+            place: places::TARGET_VELOCITY as u16,
             size: 4,
         },
         _ => Move { place: 0, size: 0 },
@@ -46,25 +47,28 @@ fn transmit_move(word: u32) -> Move
     ensures { λ r. ⌜ r ≡ wordMove transmit word ⌝ }
 {
     match word {
-        0x1001_00_08 => Move { place: 4, size: 1 },
+        0x1001_00_08 => Move {
+            place: places::ERROR_REGISTER as u16,
+            size: 1,
+        },
         0x603F_00_10 => Move {
-            place: 332,
+            place: places::ERROR_CODE as u16,
             size: 2,
         },
         0x6041_00_10 => Move {
-            place: 336,
+            place: places::STATUS_WORD as u16,
             size: 2,
         },
         0x6061_00_08 => Move {
-            place: 339,
+            place: places::MODE_DISPLAY as u16,
             size: 1,
         },
         0x6064_00_20 => Move {
-            place: 340,
+            place: places::POSITION as u16,
             size: 4,
         },
         0x606C_00_20 => Move {
-            place: 348,
+            place: places::VELOCITY as u16,
             size: 4,
         },
         _ => Move { place: 0, size: 0 },

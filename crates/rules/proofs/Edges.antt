@@ -1,7 +1,7 @@
 -- The edges of 'Calls and refusals', by computation: each refusal and the order of them, the output's bytes, the order of the frames,
 -- and for each clause of soundness a state or a dictionary that breaks it alone.
 -- Assumes nothing.
-use Prim.Native.Nat.{ℕ, _+_}
+use Prim.Native.Nat.{ℕ, _+_, _-_}
 use mathlib.Core.Path.{_≡_, refl}
 use mathlib.Core.Bool.{Bool, true, false}
 use mathlib.Core.List.{List, [], _∷_, _++_, map}
@@ -13,7 +13,8 @@ use Rattle.drive.specs.declared.Store.the-variants.{Rested}
 use Rattle.drive.specs.declared.Drive.{Drive}
 use Rattle.rules_dictionary.specs.declared.PdoData.{PdoData}
 use Rattle.state.specs.declared.State.{State}
-use Rattle.rules_dictionary.specs.Table.{table, deviceType, positionWindow, transmissionType, mapEntry, identifier, statusWord, modeDisplay, mode, controlWord, heartbeatTime, position}
+use Rattle.rules_dictionary.specs.TheNode.{firstNode, lastNode}
+use Rattle.rules_dictionary.specs.Table.{table, deviceType, positionWindow, transmissionType, mapEntry, identifier, statusWord, modeDisplay, mode, controlWord, heartbeatTime, position, dictionaryLength, open-table}
 use Rattle.rules_dictionary.specs.Values.{Write, write, store, stored}
 use Rattle.rules_dictionary.proofs.Defaults.{packedDefaults}
 use Rattle.drive.specs.SetPoints.{withStore, withMarks, withCause}
@@ -22,7 +23,7 @@ use Rattle.rules_services.specs.PdoTraffic.{noData}
 use Rattle.rules_services.specs.Nmt.{freshState, noCounts, noneDue}
 use Rattle.rules.specs.Outcome.{End, ended, encoded, sentInto}
 use Rattle.rules.specs.Sound.{sound}
-use Rattle.rules.specs.Calls.{Call, powerUpCall, frameCall, eventCall, answer, refusalNumber}
+use Rattle.rules.specs.Calls.{Call, powerUpCall, frameCall, eventCall, answer, refusalNumber, outputLength}
 use Rattle.rules.specs.Scripts.{line, fromNothing, nothing, open-rules}
 use Rattle.rules.specs.Examples.{example1, example7, request, emergency, nmt, write1, write2, fourPdos, open-examples}
 
@@ -31,11 +32,22 @@ use Rattle.rules.specs.Examples.{example1, example7, request, emergency,
 number : Call → ℕ → ℕ → ℕ
 number c dictionary output = refusalNumber (answer c nothing (replicate dictionary 0) (replicate output 0) .refusal)
 
+-- "dictionary (389 bytes) and output (at least 66)", "node-ID N 1 to 127": what follows from the definitions is what the document says
+as-lent : (dictionaryLength ≡ 389) × (outputLength ≡ 66) × (firstNode ≡ 1) × (lastNode ≡ 127)
+unfolding open-table
+as-lent = (refl, refl, refl, refl)
+
 -- "dictionary not 389 bytes", "output under 66 bytes", "N outside 1..127", "lowest number first"
-lengths-first : (map (λ n. number (powerUpCall 5) n 66) (0 ∷ 388 ∷ 390 ∷ 389 ∷ []) ≡ 1 ∷ 1 ∷ 1 ∷ 0 ∷ [])
-    × (map (number (powerUpCall 5) 389) (0 ∷ 65 ∷ 66 ∷ 67 ∷ []) ≡ 2 ∷ 2 ∷ 0 ∷ 0 ∷ [])
-    × (map (λ n. number (powerUpCall n) 389 66) (0 ∷ 1 ∷ 127 ∷ 128 ∷ []) ≡ 3 ∷ 0 ∷ 0 ∷ 3 ∷ [])
-    × (number (powerUpCall 0) 388 65 ≡ 1) × (number (powerUpCall 0) 389 65 ≡ 2) × (number (frameCall 0x800 []) 389 66 ≡ 4) × (number (eventCall 0 []) 389 65 ≡ 2)
+lengths-first :
+    let d = dictionaryLength in
+    let o = outputLength in
+    (map (λ n. number (powerUpCall 5) n o) (0 ∷ (d - 1) ∷ (d + 1) ∷ d ∷ []) ≡ 1 ∷ 1 ∷ 1 ∷ 0 ∷ [])
+    × (map (number (powerUpCall 5) d) (0 ∷ (o - 1) ∷ o ∷ (o + 1) ∷ []) ≡ 2 ∷ 2 ∷ 0 ∷ 0 ∷ [])
+    × (map (λ n. number (powerUpCall n) d o) (0 ∷ firstNode ∷ lastNode ∷ (lastNode + 1) ∷ []) ≡ 3 ∷ 0 ∷ 0 ∷ 3 ∷ [])
+    × (number (powerUpCall 0) (d - 1) (o - 1) ≡ 1)
+    × (number (powerUpCall 0) d (o - 1) ≡ 2)
+    × (number (frameCall 0x800 []) d o ≡ 4)
+    × (number (eventCall 0 []) d (o - 1) ≡ 2)
 unfolding number open-rules
 lengths-first = (refl, refl, refl, refl, refl, refl, refl)
 

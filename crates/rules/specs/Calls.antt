@@ -1,6 +1,6 @@
 -- Document 01, 'Calls and refusals': power-up, one frame, or one event; the refusals, lowest number first; the answer.
 -- Assumes nothing.
-use Prim.Native.Nat.{ℕ, _+_}
+use Prim.Native.Nat.{ℕ, _+_, _*_}
 use mathlib.Core.List.{List}
 use mathlib.Core.Bool.{true, false, cond, not, _&&_}
 use lib.Dec.{eqb, leb}
@@ -15,7 +15,7 @@ use Rattle.rules_services.specs.Sdo.{sdo, requestBase, requestLength}
 use Rattle.rules_services.specs.PdoTraffic.{sync, syncBase, receivedBy}
 use Rattle.rules_services.specs.Nmt.{nmt, nmtIdentifier, powerUp}
 use Rattle.rules_services.specs.Events.{Told, event, badEvent, eventOf, isInPlace, happens}
-use Rattle.rules.specs.Outcome.{End, ended, sentInto, mostData}
+use Rattle.rules.specs.Outcome.{End, ended, sentInto, mostData, frameSize, mostFrames}
 use Rattle.rules.specs.Sound.{sound}
 
 -- the numbers of the refusals; 0 is none
@@ -29,8 +29,9 @@ refusalNumber BadFrame = 5
 refusalNumber BadEvent = 6
 refusalNumber OutOfPlace = 7
 
+-- "output (at least 66)": room for the most frames
 abbrev pub outputLength : ℕ
-outputLength = 66
+outputLength = mostFrames * frameSize
 
 abbrev pub lastIdentifier : ℕ
 lastIdentifier = 0x7FF

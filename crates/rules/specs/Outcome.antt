@@ -102,11 +102,16 @@ ended s d e =
 -- ---- "Output is eleven bytes a frame, one after another: identifier (2, little-endian), length, eight data bytes, unused ones
 -- zero. Bytes past the frames reported stay."
 
-abbrev pub frameSize : ℕ
-frameSize = 11
-
 abbrev pub mostData : ℕ
 mostData = 8
+
+-- identifier, length, data
+abbrev pub frameSize : ℕ
+frameSize = 2 + 1 + mostData
+
+-- "At most 6 frames."
+abbrev pub mostFrames : ℕ
+mostFrames = 6
 
 unfoldable pub encoded : Frame → List ℕ
 encoded f = bytes 2 (f .identifier) ++ length (f .content) ∷ padded 0 mostData (f .content)

@@ -11,7 +11,7 @@ use lib.ListN.{length, drop, length-append, length-drop, drop-of-length-le}
 use lib.Seq.{sets, sets-eq, take-at, drop-append-add, drop-drop}
 use Rattle.rules_dictionary.specs.Numbers.{bytes, all}
 use Rattle.rules_dictionary.specs.TheNode.{lastNode, isNodeId}
-use Rattle.rules_dictionary.specs.Table.{Row, table, sizeOf, dictionaryLength}
+use Rattle.rules_dictionary.specs.Table.{Row, table, sizeOf, total, bytesBefore, placeOf, dictionaryLength}
 use Rattle.rules_dictionary.specs.Values.{store, stored, toDefaults, defaultOf}
 use Rattle.rules_dictionary.specs.Legal.{isBelow, isAbove, badChoice}
 use Rattle.rules_dictionary.proofs.Tests.{and-left, and-right, allBelow, on-nodes, In, all-in}
@@ -26,14 +26,10 @@ unfoldable pub packedDefaults : ℕ → List Row → List ℕ
 packedDefaults n [] = []
 packedDefaults n (x ∷ xs) = bytes (sizeOf x) (defaultOf n x) ++ packedDefaults n xs
 
-abbrev pub total : List Row → ℕ
-total [] = 0
-total (x ∷ xs) = sizeOf x + total xs
-
 -- each row begins where the one before ends
 abbrev pub packedFrom : ℕ → List Row → Bool
 packedFrom place [] = true
-packedFrom place (x ∷ xs) = eqb (x .place) place && packedFrom (place + sizeOf x) xs
+packedFrom place (x ∷ xs) = eqb (placeOf x) place && packedFrom (place + sizeOf x) xs
 
 sets-behind : (before d bs : List ℕ) → length bs ≤ length d → sets (before ++ d) (length before) bs ≡ (before ++ bs) ++ drop (length bs) d
 sets-behind before d bs h =
@@ -48,22 +44,22 @@ filled-behind n [] before d p h = refl
 filled-behind n (x ∷ xs) before d p h =
     let bs = bytes (sizeOf x) (defaultOf n x) in
     let l : length bs ≡ sizeOf x = length-bytes (sizeOf x) (defaultOf n x) in
-    let e : x .place ≡ length before = eqb-true _ _ (and-left (eqb (x .place) (length before)) (packedFrom (length before + sizeOf x) xs) p) in
+    let e : placeOf x ≡ length before = eqb-true _ _ (and-left (eqb (placeOf x) (length before)) (packedFrom (length before + sizeOf x) xs) p) in
     let q : length (before ++ bs) ≡ length before + sizeOf x = length-append before bs ∙ ap (λ (k : ℕ). length before + k) l in
-    let stands : sets (before ++ d) (x .place) bs ≡ (before ++ bs) ++ drop (sizeOf x) d =
+    let stands : sets (before ++ d) (placeOf x) bs ≡ (before ++ bs) ++ drop (sizeOf x) d =
     ap (λ (k : ℕ). sets (before ++ d) k bs) e ∙ sets-behind before d bs (omega arith) ∙ ap (λ (k : ℕ). (before ++ bs) ++ drop k d) l in
     ap (λ (y : List ℕ). stored (toDefaults n xs) y) stands
     ∙ filled-behind n xs (before ++ bs) (drop (sizeOf x) d)
-    (ap (λ (k : ℕ). packedFrom k xs) q ∙ and-right (eqb (x .place) (length before)) (packedFrom (length before + sizeOf x) xs) p)
+    (ap (λ (k : ℕ). packedFrom k xs) q ∙ and-right (eqb (placeOf x) (length before)) (packedFrom (length before + sizeOf x) xs) p)
     (rw length-drop (omega arith))
     ∙ rw drop-drop (simp append-assoc)
 
 pub table-packed : packedFrom 0 table ≡ true
-unfolding table
+unfolding table bytesBefore placeOf
 table-packed = refl
 
 table-total : total table ≡ dictionaryLength
-unfolding table
+unfolding dictionaryLength
 table-total = refl
 
 -- THE LAW: whatever the dictionary held, it holds the defaults

@@ -8,7 +8,7 @@ use lib.ListN.{getD}
 use Rattle.rules_dictionary.specs.declared.Plan.{Plan}
 use Rattle.rules_dictionary.specs.declared.PdoData.{PdoData}
 use Rattle.rules_dictionary.specs.Numbers.{value, bytes, open-numbers}
-use Rattle.rules_dictionary.specs.Table.{Row, table, lookup, found, noObject, noSubindex, positionWindow, profileAcceleration, mode, transmissionType, identifier, mapCount, mapEntry, mappingWord, targetPosition, velocity, position, modeDisplay, controlWord, statusWord, emergencyIdentifier, pdos, open-table}
+use Rattle.rules_dictionary.specs.Table.{Row, table, lookup, found, noObject, noSubindex, positionWindow, profileAcceleration, mode, transmissionType, identifier, mapCount, mapEntry, mappingWord, targetPosition, velocity, position, modeDisplay, controlWord, statusWord, emergencyIdentifier, pdos, entries, placeOf, dictionaryLength, open-table}
 use Rattle.rules_dictionary.specs.Values.{read, store, stored, write, defaultOf, open-values}
 use Rattle.rules_dictionary.specs.Aborts.{Verdict, good, bad, belowRange, aboveRange, badValue, notMappable, overLength, noObject as absent, noSubindex as absentSub, open-aborts}
 use Rattle.rules_dictionary.specs.Legal.{valueVerdict, mapWords, open-legal}
@@ -32,6 +32,11 @@ little-endian = refl
 back-again : value (0x78 ∷ 0x56 ∷ 0x34 ∷ 0x12 ∷ []) ≡ 0x12345678
 unfolding open-edges
 back-again = refl
+
+-- "122 entries", "dictionary (389 bytes)": what follows from the rows is what the document says
+as-counted : (entries ≡ 122) × (dictionaryLength ≡ 389)
+unfolding open-edges
+as-counted = (refl, refl)
 
 -- 1000h is the first, 6502h the last; 6040h and 607Ah stand where the packed sizes put them
 in-place : map (λ x. read fresh x) (mode ∷ controlWord ∷ profileAcceleration ∷ emergencyIdentifier ∷ []) ≡ 0 ∷ 0 ∷ 1 ∷ 0x85 ∷ []
@@ -113,7 +118,7 @@ count-choice = refl
 planAt : ℕ → Plan
 planAt p = getD (plansOf fresh) p (planFor [])
 
-plan-places : map (λ m. m .place) (planAt 2 .moves) ≡ 334 ∷ 356 ∷ 0 ∷ 0 ∷ 0 ∷ 0 ∷ 0 ∷ 0 ∷ []
+plan-places : map (λ m. m .place) (planAt 2 .moves) ≡ placeOf controlWord ∷ placeOf targetPosition ∷ 0 ∷ 0 ∷ 0 ∷ 0 ∷ 0 ∷ 0 ∷ []
 unfolding planAt open-edges
 plan-places = refl
 

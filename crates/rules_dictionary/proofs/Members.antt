@@ -1,19 +1,19 @@
 -- Which rows stand in the table, and that values unpacked in order are those read row by row.
 -- Assumes nothing.
-use Prim.Native.Nat.{ℕ, _+_}
-use mathlib.Core.Path.{_≡_, refl, sym, _∙_, ap, ap₂}
+use Prim.Native.Nat.{ℕ, _+_, _*_, _<_}
+use mathlib.Core.Path.{_≡_, refl, sym, _∙_, ap, ap₂, subst}
 use mathlib.Core.Logic.{_⊎_, inl, inr}
 use mathlib.Core.Bool.{Bool, true}
 use mathlib.Core.List.{List, [], _∷_, _++_, map, flatMap}
 use borrow.Author.Tests.{eqb-true}
 use lib.Dec.{eqb}
-use lib.ListN.{take, drop}
+use lib.ListN.{take, drop, getD}
 use lib.Seq.{drop-drop}
 use Rattle.rules_dictionary.specs.Numbers.{value, all}
-use Rattle.rules_dictionary.specs.Table.{Row, table, nodeRows, driveRows, sizeOf, pdos, receivePdos, transmitPdos, communicationRows, mappingRows, identifier, transmissionType, mapCount, mapEntry, mapSlots}
+use Rattle.rules_dictionary.specs.Table.{Row, table, nodeRows, driveRows, sizeOf, placeOf, eachWay, pdos, receivePdos, transmitPdos, communicationRows, mappingRows, communicationCount, identifier, transmissionType, mapCount, mapEntry, mapSlots, wordsPlace, open-table}
 use Rattle.rules_dictionary.specs.Values.{write, read, unpacked}
 use Rattle.rules_dictionary.specs.Legal.{mapWords}
-use Rattle.rules_dictionary.proofs.Tests.{and-left, and-right, In, here, there, all-in}
+use Rattle.rules_dictionary.proofs.Tests.{and-left, and-right, In, here, there, all-in, getD-in, below}
 use Rattle.rules_dictionary.proofs.Defaults.{packedFrom, table-packed}
 
 -- ---- membership
@@ -52,6 +52,10 @@ in-flatMap f j (there {y = z} i) = in-right (f z) (in-flatMap f j i)
 
 -- ---- the rows of the PDOs
 
+-- a number below theirs is a PDO's
+pub pdo-in : (p : ℕ) → p < 2 * eachWay → In p pdos
+pdo-in p h = subst (λ (q : ℕ). In q pdos) (eqb-true _ _ (below (λ i. eqb (getD pdos i 0) i) (2 * eachWay) p refl h)) (getD-in pdos p 0 h)
+
 communications : {p : ℕ} {x : Row} → In p pdos → In x (communicationRows p) → In x table
 unfolding table
 communications {p} {x} i j = go (in-append receivePdos i)
@@ -82,6 +86,10 @@ mappings {p} {x} i j = go (in-append receivePdos i)
         (in-right (nodeRows ++ flatMap communicationRows receivePdos ++ flatMap mappingRows receivePdos ++ flatMap communicationRows transmitPdos)
         (in-flatMap mappingRows j t))
 
+pub communication-in : {p : ℕ} → In p pdos → In (communicationCount p) table
+unfolding communicationRows
+communication-in i = communications i here
+
 pub identifier-in : {p : ℕ} → In p pdos → In (identifier p) table
 unfolding communicationRows
 identifier-in i = communications i (there here)
@@ -104,19 +112,20 @@ pub unpacked-read : (xs : List Row) (place : ℕ) (d : List ℕ) → packedFrom 
 unfolding unpacked read
 unpacked-read [] place d h = refl
 unpacked-read (x ∷ xs) place d h =
-    let e : x .place ≡ place = eqb-true _ _ (and-left (eqb (x .place) place) (packedFrom (place + sizeOf x) xs) h) in
+    let e : placeOf x ≡ place = eqb-true _ _ (and-left (eqb (placeOf x) place) (packedFrom (place + sizeOf x) xs) h) in
     ap₂ _∷_ (ap (λ (k : ℕ). write x (value (take (sizeOf x) (drop k d)))) (sym e))
     (ap (unpacked xs) (drop-drop (sizeOf x) place d)
-    ∙ unpacked-read xs (place + sizeOf x) d (and-right (eqb (x .place) place) (packedFrom (place + sizeOf x) xs) h))
+    ∙ unpacked-read xs (place + sizeOf x) d (and-right (eqb (placeOf x) place) (packedFrom (place + sizeOf x) xs) h))
 
 pub unpacked-table : (d : List ℕ) → unpacked table d ≡ map (λ x. write x (read d x)) table
 unpacked-table d = unpacked-read table 0 d table-packed
 
-entries-packed : all (λ p. packedFrom (mapEntry p 1 .place) (map (mapEntry p) mapSlots)) pdos ≡ true
+entries-packed : all (λ p. packedFrom (wordsPlace p) (map (mapEntry p) mapSlots)) pdos ≡ true
+unfolding open-table
 entries-packed = refl
 
 pub words-read : {p : ℕ} (d : List ℕ) → In p pdos → mapWords d p ≡ map (λ k. read d (mapEntry p k)) mapSlots
 unfolding mapWords
 words-read {p} d i =
     ap (map (λ w. w .value))
-    (unpacked-read (map (mapEntry p) mapSlots) (mapEntry p 1 .place) d (all-in (λ p. packedFrom (mapEntry p 1 .place) (map (mapEntry p) mapSlots)) i entries-packed))
+    (unpacked-read (map (mapEntry p) mapSlots) (wordsPlace p) d (all-in (λ p. packedFrom (wordsPlace p) (map (mapEntry p) mapSlots)) i entries-packed))

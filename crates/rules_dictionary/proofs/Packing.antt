@@ -1,100 +1,187 @@
 -- The table's rules, each by one computed test over its rows, and the laws that follow.
 -- Assumes nothing.
-use Prim.Native.Nat.{ℕ, suc, _+_, _*_, _<_, _≤_}
+use Prim.Native.Nat.{ℕ, zero, suc, _+_, _-_, _*_, _^_, _<_, _≤_}
 use mathlib.Core.Path.{_≡_, refl, _∙_, subst}
-use mathlib.Core.Bool.{Bool, true, false, _&&_, _||_, or-comm}
+use mathlib.Core.Bool.{Bool, true, false, not, _&&_, _||_, false≢true}
 use mathlib.Core.Logic.{_⊎_, inl, inr}
 use mathlib.Core.List.{List, [], _∷_}
 use native.Mathlib.Omega.{arith}
-use native.Mathlib.Nat.{le-of-suc-le-suc}
-use borrow.Author.Tests.{ltb-true, leb-true, eqb-true}
+use borrow.Author.Tests.{ltb-true, eqb-true, eq-eqb, le-leb}
 use lib.Dec.{eqb, leb, ltb}
 use lib.ListN.{length, getD}
 use Rattle.rules_dictionary.specs.Numbers.{all}
-use Rattle.rules_dictionary.specs.Table.{Row, deviceType, table, sizeOf, dictionaryLength, entries, lookup, search, found}
-use Rattle.rules_dictionary.proofs.Tests.{and-left, and-right, allBelow, below, In, here, there, all-in}
+use Rattle.rules_dictionary.specs.Table.{Row, deviceType, table, rowAt, key, same, sizeOf, total, bytesBefore, placeOf, dictionaryLength, entries, pdos, communicationCount, identifier, transmissionType, mapCount, communicationPlace, mappingPlace, wordsPlace, communicationLength, mappingLength, recordPlace, lookup, search, found, open-table}
+use Rattle.rules_dictionary.proofs.Tests.{and-left, and-right, or-left, or-right, allBelow, below, In, here, there, all-in, getD-in}
 
--- ---- by number
-
--- the row of that number, from 0
-abbrev pub rowAt : ℕ → Row
-rowAt i = getD table i deviceType
-
--- index and subindex as one number
-abbrev pub key : Row → ℕ
-key x = x .index * 256 + x .subindex
-
--- "122 entries"
-pub counted : length table ≡ entries
-unfolding table
-counted = refl
+-- ---- by rank
 
 -- "in rising order of index and subindex"
 risingAt : ℕ → Bool
 risingAt i = ltb (key (rowAt i)) (key (rowAt (suc i)))
 
-rising-test : allBelow risingAt 121 ≡ true
-unfolding risingAt table
+rising-test : allBelow risingAt (entries - 1) ≡ true
+unfolding risingAt table entries
 rising-test = refl
 
 pub rising : (i : ℕ) → suc i < entries → key (rowAt i) < key (rowAt (suc i))
 unfolding risingAt
-rising i h = ltb-true _ _ (below risingAt 121 i rising-test (le-of-suc-le-suc h))
+rising i h = ltb-true _ _ (below risingAt (entries - 1) i rising-test (omega arith))
 
--- "packed": each row begins where the one before ends, the first at 0, and the last ends with the dictionary
-packedAt : ℕ → Bool
-packedAt i = eqb (rowAt (suc i) .place) (rowAt i .place + sizeOf (rowAt i))
+-- ---- rows that stand one after another, of which no two have the same index and subindex
 
-packed-test : allBelow packedAt 121 ≡ true
-unfolding packedAt table
-packed-test = refl
+abbrev pub allDiffer : List Row → Bool
+allDiffer [] = true
+allDiffer (x ∷ xs) = all (λ y. not (same y x)) xs && allDiffer xs
 
-pub packed : (i : ℕ) → suc i < entries → rowAt (suc i) .place ≡ rowAt i .place + sizeOf (rowAt i)
-unfolding packedAt
-packed i h = eqb-true _ _ (below packedAt 121 i packed-test (le-of-suc-le-suc h))
-
-pub first-place : rowAt 0 .place ≡ 0
+differ-test : allDiffer table ≡ true
 unfolding table
+differ-test = refl
+
+same-self : (x : Row) → same x x ≡ true
+same-self x = rw (eq-eqb (x .index) (x .index) refl, eq-eqb (x .subindex) (x .subindex) refl) refl
+
+-- the first stands in front
+first-before : (x : Row) (xs : List Row) → bytesBefore x (x ∷ xs) ≡ 0
+unfolding bytesBefore
+first-before x xs = rw (same-self x, bytesBefore) refl
+
+-- another stands behind the first
+rest-before : (y : Row) (xs : List Row) {x : Row} → all (λ z. not (same z y)) xs ≡ true → In x xs →
+    bytesBefore x (y ∷ xs) ≡ sizeOf y + bytesBefore x xs
+unfolding bytesBefore
+rest-before y xs {x} h i = go (same x y) (all-in (λ z. not (same z y)) i h)
+  where
+    go : (b : Bool) → not b ≡ true → (elim b [ true ↦ 0 | false ↦ sizeOf y + bytesBefore x xs ]) ≡ sizeOf y + bytesBefore x xs
+    go true e = absurd (false≢true e)
+    go false e = refl
+
+-- each ends within their bytes
+ends-within : (xs : List Row) {x : Row} → allDiffer xs ≡ true → In x xs → bytesBefore x xs + sizeOf x ≤ total xs
+ends-within (x ∷ xs) h here = rw (first-before x xs) (omega arith)
+ends-within (y ∷ xs) {x} h (there i) =
+    let before = rest-before y xs (and-left (all (λ z. not (same z y)) xs) (allDiffer xs) h) i in
+    omega (arith, ends-within xs (and-right (all (λ z. not (same z y)) xs) (allDiffer xs) h) i)
+
+-- each begins where the one before ends
+follows : (xs : List Row) (i : ℕ) (e : Row) → allDiffer xs ≡ true → suc i < length xs →
+    bytesBefore (getD xs (suc i) e) xs ≡ bytesBefore (getD xs i e) xs + sizeOf (getD xs i e)
+follows [] i e h l = absurd (omega arith)
+follows (x ∷ []) i e h l = absurd (omega arith)
+follows (x ∷ y ∷ xs) zero e h l =
+    rest-before x (y ∷ xs) (and-left (all (λ z. not (same z x)) (y ∷ xs)) (allDiffer (y ∷ xs)) h) here
+    ∙ rw (first-before y xs, first-before x (y ∷ xs)) (omega arith)
+follows (x ∷ y ∷ xs) (suc i) e h l =
+    let others = and-left (all (λ z. not (same z x)) (y ∷ xs)) (allDiffer (y ∷ xs)) h in
+    let next = rest-before x (y ∷ xs) others (getD-in (y ∷ xs) (suc i) e (omega arith)) in
+    let this = rest-before x (y ∷ xs) others (getD-in (y ∷ xs) i e (omega arith)) in
+    omega (arith, follows (y ∷ xs) i e (and-right (all (λ z. not (same z x)) (y ∷ xs)) (allDiffer (y ∷ xs)) h) (omega arith))
+
+-- one lies before the other
+abbrev Apart : List Row → Row → Row → Type 0
+Apart xs x y = (bytesBefore x xs + sizeOf x ≤ bytesBefore y xs) ⊎ (bytesBefore y xs + sizeOf y ≤ bytesBefore x xs)
+
+-- any two are one, or apart
+one-or-apart : (xs : List Row) {x y : Row} → allDiffer xs ≡ true → In x xs → In y xs → (x ≡ y) ⊎ Apart xs x y
+one-or-apart (x ∷ xs) h here here = inl refl
+one-or-apart (x ∷ xs) {y = y} h here (there j) =
+    let before = rest-before x xs (and-left (all (λ z. not (same z x)) xs) (allDiffer xs) h) j in
+    inr (inl (rw (first-before x xs) (omega arith)))
+one-or-apart (y ∷ xs) {x = x} h (there i) here =
+    let before = rest-before y xs (and-left (all (λ z. not (same z y)) xs) (allDiffer xs) h) i in
+    inr (inr (rw (first-before y xs) (omega arith)))
+one-or-apart (z ∷ xs) {x} {y} h (there i) (there j) =
+    go (one-or-apart xs (and-right (all (λ w. not (same w z)) xs) (allDiffer xs) h) i j)
+  where
+    others : all (λ w. not (same w z)) xs ≡ true
+    others = and-left (all (λ w. not (same w z)) xs) (allDiffer xs) h
+
+    go : (x ≡ y) ⊎ Apart xs x y → (x ≡ y) ⊎ Apart (z ∷ xs) x y
+    go (inl e) = inl e
+    go (inr (inl l)) = inr (inl (rw (rest-before z xs others i, rest-before z xs others j) (omega arith)))
+    go (inr (inr l)) = inr (inr (rw (rest-before z xs others i, rest-before z xs others j) (omega arith)))
+
+-- ---- places
+
+-- every row lies within the dictionary
+pub within : {x : Row} → In x table → placeOf x + sizeOf x ≤ dictionaryLength
+unfolding placeOf dictionaryLength
+within i = ends-within table differ-test i
+
+-- "packed": in the table's order, each row begins where the one before ends, and the first at 0
+pub packed : (i : ℕ) → suc i < entries → placeOf (rowAt (suc i)) ≡ placeOf (rowAt i) + sizeOf (rowAt i)
+unfolding placeOf entries
+packed i h = follows table i deviceType differ-test h
+
+pub first-place : placeOf (rowAt 0) ≡ 0
+unfolding placeOf bytesBefore table
 first-place = refl
 
-pub last-end : rowAt 121 .place + sizeOf (rowAt 121) ≡ dictionaryLength
-unfolding table
+-- .. and the last ends with the dictionary
+pub last-end : placeOf (rowAt (entries - 1)) + sizeOf (rowAt (entries - 1)) ≡ dictionaryLength
+unfolding placeOf bytesBefore table entries dictionaryLength
 last-end = refl
 
--- ---- by membership
+-- a place is a number of 16 bits
+pub short : dictionaryLength < 2 ^ 16
+unfolding dictionaryLength table
+short = ltb-true _ _ refl
 
 -- no byte is in both
 abbrev pub apart : Row → Row → Bool
-apart x y = leb (x .place + sizeOf x) (y .place) || leb (y .place + sizeOf y) (x .place)
-
--- of any two rows at different places of the list
-abbrev pub allApart : List Row → Bool
-allApart [] = true
-allApart (x ∷ xs) = all (apart x) xs && allApart xs
-
-abbrev pub isWithin : Row → Bool
-isWithin x = leb (x .place + sizeOf x) dictionaryLength
-
-rows-test : (allApart table ≡ true) × (all isWithin table ≡ true)
-unfolding table
-rows-test = (refl, refl)
-
--- every row lies within the dictionary
-pub within : {x : Row} → In x table → x .place + sizeOf x ≤ dictionaryLength
-within i = leb-true _ _ (all-in isWithin i (rows-test .1))
-
-apart-sym : (x y : Row) → apart x y ≡ true → apart y x ≡ true
-apart-sym x y h = or-comm (leb (y .place + sizeOf y) (x .place)) (leb (x .place + sizeOf x) (y .place)) ∙ h
-
-either : {x y : Row} {xs : List Row} → In x xs → In y xs → allApart xs ≡ true → (x ≡ y) ⊎ (apart x y ≡ true)
-either here here h = inl refl
-either {x} {y} (here {xs = zs}) (there j) h = inr (all-in (apart x) j (and-left (all (apart x) zs) (allApart zs) h))
-either {x} {y} (there i) (here {xs = zs}) h = inr (apart-sym y x (all-in (apart y) i (and-left (all (apart y) zs) (allApart zs) h)))
-either (there {y = z} {xs = zs} i) (there j) h = either i j (and-right (all (apart z) zs) (allApart zs) h)
+apart x y = leb (placeOf x + sizeOf x) (placeOf y) || leb (placeOf y + sizeOf y) (placeOf x)
 
 -- any two rows are one, or share no byte
 pub same-or-apart : {x y : Row} → In x table → In y table → (x ≡ y) ⊎ (apart x y ≡ true)
-same-or-apart i j = either i j (rows-test .0)
+unfolding placeOf
+same-or-apart {x} {y} i j = go (one-or-apart table differ-test i j)
+  where
+    go : (x ≡ y) ⊎ Apart table x y → (x ≡ y) ⊎ (apart x y ≡ true)
+    go (inl e) = inl e
+    go (inr (inl l)) = inr (or-left (leb (placeOf x + sizeOf x) (placeOf y)) _ (le-leb _ _ l))
+    go (inr (inr l)) = inr (or-right (leb (placeOf x + sizeOf x) (placeOf y)) _ (le-leb _ _ l))
+
+-- ---- the PDOs' records are regular
+
+-- the records of a kind stand one after another in each direction
+regularAt : ℕ → Bool
+regularAt p =
+    eqb (communicationPlace p) (recordPlace communicationPlace communicationLength p)
+    && (eqb (mappingPlace p) (recordPlace mappingPlace mappingLength p)
+    && (eqb (placeOf (identifier p)) (communicationPlace p + sizeOf (communicationCount p))
+    && (eqb (placeOf (transmissionType p)) (placeOf (identifier p) + sizeOf (identifier p))
+    && eqb (wordsPlace p) (mappingPlace p + sizeOf (mapCount p)))))
+
+regular-test : all regularAt pdos ≡ true
+unfolding regularAt open-table
+regular-test = refl
+
+-- what the test says of a PDO
+pub record Regular (p : ℕ) : Type 0 where
+  pub communication : communicationPlace p ≡ recordPlace communicationPlace communicationLength p
+  pub mapping : mappingPlace p ≡ recordPlace mappingPlace mappingLength p
+  pub identifies : placeOf (identifier p) ≡ communicationPlace p + sizeOf (communicationCount p)
+  pub types : placeOf (transmissionType p) ≡ placeOf (identifier p) + sizeOf (identifier p)
+  pub words : wordsPlace p ≡ mappingPlace p + sizeOf (mapCount p)
+
+pub regular : {p : ℕ} → In p pdos → Regular p
+unfolding regularAt
+regular {p} i =
+    let a = eqb (communicationPlace p) (recordPlace communicationPlace communicationLength p) in
+    let b = eqb (mappingPlace p) (recordPlace mappingPlace mappingLength p) in
+    let c = eqb (placeOf (identifier p)) (communicationPlace p + sizeOf (communicationCount p)) in
+    let d = eqb (placeOf (transmissionType p)) (placeOf (identifier p) + sizeOf (identifier p)) in
+    let e = eqb (wordsPlace p) (mappingPlace p + sizeOf (mapCount p)) in
+    let all-of = all-in regularAt i regular-test in
+    let from-b = and-right a (b && (c && (d && e))) all-of in
+    let from-c = and-right b (c && (d && e)) from-b in
+    let from-d = and-right c (d && e) from-c in
+    record {
+      communication = eqb-true _ _ (and-left a (b && (c && (d && e))) all-of);
+      mapping = eqb-true _ _ (and-left b (c && (d && e)) from-b);
+      identifies = eqb-true _ _ (and-left c (d && e) from-c);
+      types = eqb-true _ _ (and-left d e from-d);
+      words = eqb-true _ _ (and-right d e from-d);
+    }
 
 -- ---- the look-up finds rows of the table
 

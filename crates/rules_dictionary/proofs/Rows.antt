@@ -11,7 +11,7 @@ use lib.Dec.{leb}
 use lib.ListN.{length, take, drop, set, length-drop}
 use lib.Seq.{sets, length-sets, sets-eq, drop-set-lt, drop-set-add, take-set-le, take-at, drop-at, length-take-le}
 use Rattle.rules_dictionary.specs.Numbers.{value, bytes, part, all, isByte, areBytes}
-use Rattle.rules_dictionary.specs.Table.{Row, sizeOf}
+use Rattle.rules_dictionary.specs.Table.{Row, sizeOf, placeOf}
 use Rattle.rules_dictionary.specs.Values.{Write, field, read, store, stored}
 use Rattle.rules_dictionary.proofs.Tests.{and-left, and-right, and-both}
 use Rattle.rules_dictionary.proofs.Packing.{apart}
@@ -107,37 +107,37 @@ part-same vs d i h =
 
 pub length-store : (x : Row) (v : ℕ) (d : List ℕ) → length (store x v d) ≡ length d
 unfolding store
-length-store x v d = length-sets d (x .place) (bytes (sizeOf x) v)
+length-store x v d = length-sets d (placeOf x) (bytes (sizeOf x) v)
 
 pub store-bytes : (x : Row) (v : ℕ) (d : List ℕ) → areBytes d ≡ true → areBytes (store x v d) ≡ true
 unfolding store
-store-bytes x v d h = all-sets (bytes (sizeOf x) v) d (x .place) h (bytes-are (sizeOf x) v)
+store-bytes x v d h = all-sets (bytes (sizeOf x) v) d (placeOf x) h (bytes-are (sizeOf x) v)
 
 pub field-apart : (x y : Row) (v : ℕ) (d : List ℕ) → apart x y ≡ true → field (store x v d) y ≡ field d y
 unfolding store
-field-apart x y v d h = part-apart (bytes (sizeOf x) v) d (x .place) (y .place) (sizeOf y) (rw (length-bytes (sizeOf x) v) h)
+field-apart x y v d h = part-apart (bytes (sizeOf x) v) d (placeOf x) (placeOf y) (sizeOf y) (rw (length-bytes (sizeOf x) v) h)
 
-pub field-same : (x : Row) (v : ℕ) (d : List ℕ) → x .place + sizeOf x ≤ length d → field (store x v d) x ≡ bytes (sizeOf x) v
+pub field-same : (x : Row) (v : ℕ) (d : List ℕ) → placeOf x + sizeOf x ≤ length d → field (store x v d) x ≡ bytes (sizeOf x) v
 unfolding store
 field-same x v d h =
     let bs = bytes (sizeOf x) v in
     let l : length bs ≡ sizeOf x = length-bytes (sizeOf x) v in
-    ap (λ (k : ℕ). part (x .place) k (sets d (x .place) bs)) (sym l) ∙ part-same bs d (x .place) (omega arith)
+    ap (λ (k : ℕ). part (placeOf x) k (sets d (placeOf x) bs)) (sym l) ∙ part-same bs d (placeOf x) (omega arith)
 
 pub read-apart : (x y : Row) (v : ℕ) (d : List ℕ) → apart x y ≡ true → read (store x v d) y ≡ read d y
 unfolding read
 read-apart x y v d h = ap value (field-apart x y v d h)
 
-pub read-same : (x : Row) (v : ℕ) (d : List ℕ) → x .place + sizeOf x ≤ length d → v < 256 ^ sizeOf x → read (store x v d) x ≡ v
+pub read-same : (x : Row) (v : ℕ) (d : List ℕ) → placeOf x + sizeOf x ≤ length d → v < 256 ^ sizeOf x → read (store x v d) x ≡ v
 unfolding read
 read-same x v d h l = ap value (field-same x v d h) ∙ value-bytes (sizeOf x) v l
 
-pub read-fits : (x : Row) (d : List ℕ) → areBytes d ≡ true → x .place + sizeOf x ≤ length d → read d x < 256 ^ sizeOf x
+pub read-fits : (x : Row) (d : List ℕ) → areBytes d ≡ true → placeOf x + sizeOf x ≤ length d → read d x < 256 ^ sizeOf x
 unfolding read
 read-fits x d h l =
     let bs = field d x in
-    let e : length bs ≡ sizeOf x = length-take-le (sizeOf x) (drop (x .place) d) (rw length-drop (omega arith)) in
-    subst (λ (k : ℕ). value bs < 256 ^ k) e (value-fits bs (part-bytes (x .place) (sizeOf x) d h))
+    let e : length bs ≡ sizeOf x = length-take-le (sizeOf x) (drop (placeOf x) d) (rw length-drop (omega arith)) in
+    subst (λ (k : ℕ). value bs < 256 ^ k) e (value-fits bs (part-bytes (placeOf x) (sizeOf x) d h))
 
 -- ---- writes in order
 

@@ -4,10 +4,11 @@ use Prim.Native.Nat.{ℕ, zero, suc, _<_, _≤_}
 use native.Mathlib.Decide.{ℕ-discrete}
 use native.Mathlib.Omega.{arith}
 use mathlib.Core.Path.{_≡_, refl, _∙_, ap}
-use mathlib.Core.Bool.{Bool, true, false, _&&_, false≢true}
+use mathlib.Core.Bool.{Bool, true, false, _&&_, _||_, false≢true}
 use mathlib.Core.List.{List, [], _∷_}
 use borrow.Author.Tests.{leb-true}
 use lib.Dec.{leb}
+use lib.ListN.{length, getD}
 use Rattle.rules_dictionary.specs.Numbers.{all}
 use Rattle.rules_dictionary.specs.TheNode.{firstNode, lastNode, isNodeId}
 
@@ -24,6 +25,13 @@ and-right false b h = absurd (false≢true h)
 pub and-both : (a b : Bool) → a ≡ true → b ≡ true → (a && b) ≡ true
 and-both a b p q = rw (p, q) refl
 
+pub or-left : (a b : Bool) → a ≡ true → (a || b) ≡ true
+or-left a b h = rw h refl
+
+pub or-right : (a b : Bool) → b ≡ true → (a || b) ≡ true
+or-right true b h = refl
+or-right false b h = h
+
 -- ---- lists
 
 -- the element stands in the list
@@ -35,6 +43,12 @@ module _ {ℓ} {A : Type ℓ} (f : A → Bool) where
   pub all-in : {x : A} {xs : List A} → In x xs → all f xs ≡ true → f x ≡ true
   all-in (here {xs = ys}) h = and-left _ (all f ys) h
   all-in (there {y = y} {xs = ys} i) h = all-in i (and-right (f y) (all f ys) h)
+
+-- the element of a number stands in the list
+pub getD-in {ℓ} : {A : Type ℓ} (xs : List A) (i : ℕ) (e : A) → i < length xs → In (getD xs i e) xs
+getD-in [] i e h = absurd (omega arith)
+getD-in (x ∷ xs) zero e h = here
+getD-in (x ∷ xs) (suc i) e h = there (getD-in xs i e (omega arith))
 
 abbrev Some {ℓ} : {A : Type ℓ} → List A → Type 0
 Some [] = ⊥

@@ -8,7 +8,7 @@ use lib.ListN.{take, drop, getD}
 use Rattle.rules_dictionary.specs.declared.Mode.{Mode}
 use Rattle.rules_dictionary.specs.declared.Mode.the-variants.{NoMode, ProfilePosition, ProfileVelocity}
 use Rattle.rules_dictionary.specs.Numbers.{bit, bits, between, any, sum}
-use Rattle.rules_dictionary.specs.Table.{Row, Role, plain, modeOfOperation, pdoIdentifier, pdoType, mappingCount, mappingEntry, Mappable, unmappable, toReceive, toTransmit, Direction, receive, transmit, directionOf, pdos, identifier, mapEntry, mapSlots, wordIndex, wordSubindex, wordLength, sizeOf, Found, found, noObject as missing, noSubindex as missingSubindex, lookup}
+use Rattle.rules_dictionary.specs.Table.{Row, Role, plain, modeOfOperation, pdoIdentifier, pdoType, mappingCount, mappingEntry, Mappable, unmappable, toReceive, toTransmit, Direction, receive, transmit, directionOf, pdos, identifier, mapEntry, mapSlots, wordsPlace, wordIndex, wordSubindex, wordLength, sizeOf, Found, found, noObject as missing, noSubindex as missingSubindex, lookup}
 use Rattle.rules_dictionary.specs.Values.{read, unpacked}
 use Rattle.rules_dictionary.specs.Aborts.{Verdict, good, bad, test, firstOf, noObject, noSubindex, belowRange, aboveRange, badValue, notMappable, overLength}
 
@@ -119,7 +119,7 @@ entryVerdict p w =
 
 -- the eight mapping words of a PDO, which stand one after another
 unfoldable pub mapWords : List ℕ → ℕ → List ℕ
-mapWords d p = map (λ w. w .value) (unpacked (map (mapEntry p) mapSlots) (drop (mapEntry p 1 .place) d))
+mapWords d p = map (λ w. w .value) (unpacked (map (mapEntry p) mapSlots) (drop (wordsPlace p) d))
 
 abbrev pub mostBits : ℕ
 mostBits = 64

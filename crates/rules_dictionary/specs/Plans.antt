@@ -7,7 +7,7 @@ use Rattle.rules_dictionary.specs.declared.Move.{Move}
 use Rattle.rules_dictionary.specs.declared.Plan.{Plan}
 use Rattle.rules_dictionary.specs.declared.PdoData.{PdoData}
 use Rattle.rules_dictionary.specs.Numbers.{padded}
-use Rattle.rules_dictionary.specs.Table.{Row, sizeOf, mapCount, mostMoves, pdos, transmitPdos, wordIndex, wordSubindex, Found, found, noObject, noSubindex, lookup}
+use Rattle.rules_dictionary.specs.Table.{Row, sizeOf, placeOf, mapCount, mostMoves, pdos, transmitPdos, wordIndex, wordSubindex, Found, found, noObject, noSubindex, lookup}
 use Rattle.rules_dictionary.specs.Values.{read, field}
 use Rattle.rules_dictionary.specs.Legal.{mapWords}
 
@@ -27,7 +27,7 @@ mapped d p = targets (take (read d (mapCount p)) (mapWords d p))
 
 -- "up to eight moves (place and size in the dictionary)"
 abbrev pub move : Row → Move
-move x = record { place = x .place; size = sizeOf x }
+move x = record { place = placeOf x; size = sizeOf x }
 
 abbrev pub noMove : Move
 noMove = record { place = 0; size = 0 }

@@ -62,12 +62,11 @@ pub record Row : Type 0 where
   pub mappable : Mappable
   pub range : Range
   pub default : Default
-  pub place : ℕ
   pub role : Role
 
-abbrev pub row : Role → ℕ → ℕ → ValueType → Access → Mappable → Range → Default → ℕ → Row
-row o i s t a m r v p =
-    record { index = i; subindex = s; type = t; access = a; mappable = m; range = r; default = v; place = p; role = o }
+abbrev pub row : Role → ℕ → ℕ → ValueType → Access → Mappable → Range → Default → Row
+row o i s t a m r v =
+    record { index = i; subindex = s; type = t; access = a; mappable = m; range = r; default = v; role = o }
 
 abbrev pub sizeOf : Row → ℕ
 sizeOf x = size (x .type)
@@ -75,6 +74,10 @@ sizeOf x = size (x .type)
 -- the same index and subindex
 abbrev pub same : Row → Row → Bool
 same x y = eqb (x .index) (y .index) && eqb (x .subindex) (y .subindex)
+
+-- index and subindex as one number
+abbrev pub key : Row → ℕ
+key x = x .index * 256 + x .subindex
 
 abbrev pub isConstant : Access → Bool
 isConstant constant = true
@@ -86,95 +89,88 @@ isWritable constant = false
 isWritable nodeWritten = false
 isWritable writable = true
 
--- the number of bytes, and of entries
-abbrev pub dictionaryLength : ℕ
-dictionaryLength = 389
-
-abbrev pub entries : ℕ
-entries = 122
-
--- ---- the node's rows: index, subindex, type, access, mappable, range, default, place
+-- ---- the node's rows: index, subindex, type, access, mappable, range, default
 
 abbrev pub deviceType : Row
-deviceType = row plain 0x1000 0 u32 constant unmappable (whole u32) (fixed 0x00020192) 0
+deviceType = row plain 0x1000 0 u32 constant unmappable (whole u32) (fixed 0x00020192)
 
 abbrev pub errorRegister : Row
-errorRegister = row plain 0x1001 0 u8 nodeWritten toTransmit (whole u8) (fixed 0) 4
+errorRegister = row plain 0x1001 0 u8 nodeWritten toTransmit (whole u8) (fixed 0)
 
 abbrev pub syncIdentifier : Row
-syncIdentifier = row plain 0x1005 0 u32 constant unmappable (whole u32) (fixed 0x80) 5
+syncIdentifier = row plain 0x1005 0 u32 constant unmappable (whole u32) (fixed 0x80)
 
 abbrev pub emergencyIdentifier : Row
-emergencyIdentifier = row plain 0x1014 0 u32 constant unmappable (whole u32) (plusNode 0x80) 9
+emergencyIdentifier = row plain 0x1014 0 u32 constant unmappable (whole u32) (plusNode 0x80)
 
 abbrev pub heartbeatTime : Row
-heartbeatTime = row plain 0x1017 0 u16 writable unmappable (whole u16) (fixed 0) 13
+heartbeatTime = row plain 0x1017 0 u16 writable unmappable (whole u16) (fixed 0)
 
 abbrev pub identityCount : Row
-identityCount = row plain 0x1018 0 u8 constant unmappable (whole u8) (fixed 1) 15
+identityCount = row plain 0x1018 0 u8 constant unmappable (whole u8) (fixed 1)
 
 abbrev pub vendor : Row
-vendor = row plain 0x1018 1 u32 constant unmappable (whole u32) (fixed 0) 16
+vendor = row plain 0x1018 1 u32 constant unmappable (whole u32) (fixed 0)
 
 -- ---- the drive's rows
 
 abbrev pub errorCode : Row
-errorCode = row plain 0x603F 0 u16 nodeWritten toTransmit (whole u16) (fixed 0) 332
+errorCode = row plain 0x603F 0 u16 nodeWritten toTransmit (whole u16) (fixed 0)
 
 abbrev pub controlWord : Row
-controlWord = row plain 0x6040 0 u16 writable toReceive (whole u16) (fixed 0) 334
+controlWord = row plain 0x6040 0 u16 writable toReceive (whole u16) (fixed 0)
 
 abbrev pub statusWord : Row
-statusWord = row plain 0x6041 0 u16 nodeWritten toTransmit (whole u16) (fixed 0) 336
+statusWord = row plain 0x6041 0 u16 nodeWritten toTransmit (whole u16) (fixed 0)
 
 abbrev pub mode : Row
-mode = row modeOfOperation 0x6060 0 i8 writable toReceive (whole i8) (fixed 0) 338
+mode = row modeOfOperation 0x6060 0 i8 writable toReceive (whole i8) (fixed 0)
 
 abbrev pub modeDisplay : Row
-modeDisplay = row plain 0x6061 0 i8 nodeWritten toTransmit (whole i8) (fixed 0) 339
+modeDisplay = row plain 0x6061 0 i8 nodeWritten toTransmit (whole i8) (fixed 0)
 
 abbrev pub position : Row
-position = row plain 0x6064 0 i32 nodeWritten toTransmit (whole i32) (fixed 0) 340
+position = row plain 0x6064 0 i32 nodeWritten toTransmit (whole i32) (fixed 0)
 
 abbrev pub positionWindow : Row
-positionWindow = row plain 0x6067 0 u32 writable unmappable (upTo 0x7FFFFFFF) (fixed 0) 344
+positionWindow = row plain 0x6067 0 u32 writable unmappable (upTo 0x7FFFFFFF) (fixed 0)
 
 abbrev pub velocity : Row
-velocity = row plain 0x606C 0 i32 nodeWritten toTransmit (whole i32) (fixed 0) 348
+velocity = row plain 0x606C 0 i32 nodeWritten toTransmit (whole i32) (fixed 0)
 
 abbrev pub velocityWindow : Row
-velocityWindow = row plain 0x606D 0 u16 writable unmappable (whole u16) (fixed 0) 352
+velocityWindow = row plain 0x606D 0 u16 writable unmappable (whole u16) (fixed 0)
 
 abbrev pub velocityThreshold : Row
-velocityThreshold = row plain 0x606F 0 u16 writable unmappable (whole u16) (fixed 0) 354
+velocityThreshold = row plain 0x606F 0 u16 writable unmappable (whole u16) (fixed 0)
 
 abbrev pub targetPosition : Row
-targetPosition = row plain 0x607A 0 i32 writable toReceive (whole i32) (fixed 0) 356
+targetPosition = row plain 0x607A 0 i32 writable toReceive (whole i32) (fixed 0)
 
 abbrev pub limitCount : Row
-limitCount = row plain 0x607D 0 u8 constant unmappable (whole u8) (fixed 2) 360
+limitCount = row plain 0x607D 0 u8 constant unmappable (whole u8) (fixed 2)
 
 -- -2^31 and 2^31-1, in their words
 abbrev pub minimumPosition : Row
-minimumPosition = row plain 0x607D 1 i32 writable unmappable (whole i32) (fixed 0x80000000) 361
+minimumPosition = row plain 0x607D 1 i32 writable unmappable (whole i32) (fixed 0x80000000)
 
 abbrev pub maximumPosition : Row
-maximumPosition = row plain 0x607D 2 i32 writable unmappable (whole i32) (fixed 0x7FFFFFFF) 365
+maximumPosition = row plain 0x607D 2 i32 writable unmappable (whole i32) (fixed 0x7FFFFFFF)
 
 abbrev pub profileVelocity : Row
-profileVelocity = row plain 0x6081 0 u32 writable toReceive (whole u32) (fixed 0) 369
+profileVelocity = row plain 0x6081 0 u32 writable toReceive (whole u32) (fixed 0)
 
 abbrev pub profileAcceleration : Row
-profileAcceleration = row plain 0x6083 0 u32 writable toReceive (from 1 u32) (fixed 1) 373
+profileAcceleration = row plain 0x6083 0 u32 writable toReceive (from 1 u32) (fixed 1)
 
 abbrev pub profileDeceleration : Row
-profileDeceleration = row plain 0x6084 0 u32 writable toReceive (from 1 u32) (fixed 1) 377
+profileDeceleration = row plain 0x6084 0 u32 writable toReceive (from 1 u32) (fixed 1)
 
 abbrev pub targetVelocity : Row
-targetVelocity = row plain 0x60FF 0 i32 writable toReceive (whole i32) (fixed 0) 381
+targetVelocity = row plain 0x60FF 0 i32 writable toReceive (whole i32) (fixed 0)
 
 abbrev pub supportedModes : Row
-supportedModes = row plain 0x6502 0 u32 constant unmappable (whole u32) (fixed 5) 385
+supportedModes = row plain 0x6502 0 u32 constant unmappable (whole u32) (fixed 5)
 
 -- ---- the PDOs: 0 to 3 receive, 4 to 7 transmit
 
@@ -204,25 +200,22 @@ byDirection transmit r t = t
 abbrev pub ofPdo : ℕ → ℕ → ℕ → ℕ → ℕ
 ofPdo p ofReceive ofTransmit step = byDirection (directionOf p) ofReceive ofTransmit + step * (p % eachWay)
 
--- 1400h to 1403h and 1800h to 1803h: three rows, six bytes
+-- 1400h to 1403h and 1800h to 1803h: three rows
 abbrev pub communicationIndex : ℕ → ℕ
 communicationIndex p = ofPdo p 0x1400 0x1800 1
 
-abbrev pub communicationPlace : ℕ → ℕ
-communicationPlace p = ofPdo p 20 176 6
-
 abbrev pub communicationCount : ℕ → Row
-communicationCount p = row plain (communicationIndex p) 0 u8 constant unmappable (whole u8) (fixed 2) (communicationPlace p)
+communicationCount p = row plain (communicationIndex p) 0 u8 constant unmappable (whole u8) (fixed 2)
 
 -- "PDO identifiers default to 200h-500h and, with bit 30, 180h-480h, in steps of 100h, plus N"
 abbrev pub identifier : ℕ → Row
 identifier p =
     row (pdoIdentifier p) (communicationIndex p) 1 u32 writable unmappable (whole u32)
-    (plusNode (ofPdo p 0x200 (2 ^ 30 + 0x180) 0x100)) (communicationPlace p + 1)
+    (plusNode (ofPdo p 0x200 (2 ^ 30 + 0x180) 0x100))
 
 abbrev pub transmissionType : ℕ → Row
 transmissionType p =
-    row (pdoType p) (communicationIndex p) 2 u8 writable unmappable (whole u8) (fixed 255) (communicationPlace p + 5)
+    row (pdoType p) (communicationIndex p) 2 u8 writable unmappable (whole u8) (fixed 255)
 
 -- "Default maps: receive 6040; 6040+6060; 6040+607A; 6040+60FF; transmit 6041; 6041+6061; 6041+6064; 6041+606C"
 abbrev pub defaultMaps : List (List Row)
@@ -253,25 +246,22 @@ wordSubindex w = bits 8 16 w
 abbrev pub wordLength : ℕ → ℕ
 wordLength w = bits 0 8 w
 
--- 1600h to 1603h and 1A00h to 1A03h: the count and eight entries, 33 bytes
+-- 1600h to 1603h and 1A00h to 1A03h: the count and eight entries
 abbrev pub mostMoves : ℕ
 mostMoves = 8
 
 abbrev pub mappingIndex : ℕ → ℕ
 mappingIndex p = ofPdo p 0x1600 0x1A00 1
 
-abbrev pub mappingPlace : ℕ → ℕ
-mappingPlace p = ofPdo p 44 200 33
-
 abbrev pub mapCount : ℕ → Row
 mapCount p =
-    row (mappingCount p) (mappingIndex p) 0 u8 writable unmappable (upTo mostMoves) (fixed (length (defaultMap p))) (mappingPlace p)
+    row (mappingCount p) (mappingIndex p) 0 u8 writable unmappable (upTo mostMoves) (fixed (length (defaultMap p)))
 
 -- entry 1 to 8
 abbrev pub mapEntry : ℕ → ℕ → Row
 mapEntry p k =
     row (mappingEntry p) (mappingIndex p) k u32 writable unmappable (whole u32)
-    (fixed (getD (map mappingWord (defaultMap p)) (k - 1) 0)) (mappingPlace p + 1 + 4 * (k - 1))
+    (fixed (getD (map mappingWord (defaultMap p)) (k - 1) 0))
 
 abbrev pub mapSlots : List ℕ
 mapSlots = 1 ∷ 2 ∷ 3 ∷ 4 ∷ 5 ∷ 6 ∷ 7 ∷ 8 ∷ []
@@ -303,6 +293,55 @@ table =
     ++ flatMap mappingRows transmitPdos
     ++ driveRows
 
+-- "122 entries"
+unfoldable pub entries : ℕ
+entries = length table
+
+-- the row of that rank, from 0
+abbrev pub rowAt : ℕ → Row
+rowAt i = getD table i deviceType
+
+-- ---- places, "packed": each row stands behind those before it
+
+-- the bytes of rows
+abbrev pub total : List Row → ℕ
+total [] = 0
+total (x ∷ xs) = sizeOf x + total xs
+
+-- the bytes of the rows before that one
+unfoldable pub bytesBefore : Row → List Row → ℕ
+bytesBefore x [] = 0
+bytesBefore x (y ∷ ys) = elim (same x y) [ true ↦ 0 | false ↦ sizeOf y + bytesBefore x ys ]
+
+-- where the row's value begins
+unfoldable pub placeOf : Row → ℕ
+placeOf x = bytesBefore x table
+
+-- the bytes of them all: "389"
+unfoldable pub dictionaryLength : ℕ
+dictionaryLength = total table
+
+-- where a PDO's records stand, and its mapping words in theirs
+abbrev pub communicationPlace : ℕ → ℕ
+communicationPlace p = placeOf (communicationCount p)
+
+abbrev pub mappingPlace : ℕ → ℕ
+mappingPlace p = placeOf (mapCount p)
+
+abbrev pub wordsPlace : ℕ → ℕ
+wordsPlace p = placeOf (mapEntry p 1)
+
+-- the bytes of a PDO's records, and so how far the next PDO's are on
+unfoldable pub communicationLength : ℕ → ℕ
+communicationLength p = total (communicationRows p)
+
+unfoldable pub mappingLength : ℕ → ℕ
+mappingLength p = total (mappingRows p)
+
+-- so many records of its direction on from the first one, by the first's place and length
+abbrev pub recordPlace : (ℕ → ℕ) → (ℕ → ℕ) → ℕ → ℕ
+recordPlace place size p = let first = byDirection (directionOf p) 0 eachWay in place first + size first * (p % eachWay)
+
 -- ---- the look-up
 
 pub data Found : Type 0 where
@@ -321,5 +360,5 @@ lookup i s = search false i s table
 
 -- opens every definition of this module, where a proof computes
 unfoldable pub open-table : Unit {0}
-unfolding communicationRows mappingRows table search lookup
+unfolding communicationRows mappingRows table entries bytesBefore placeOf dictionaryLength communicationLength mappingLength search lookup
 open-table = tt

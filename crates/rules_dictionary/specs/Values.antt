@@ -5,11 +5,11 @@ use mathlib.Core.List.{List, [], _∷_, map}
 use lib.ListN.{take, drop}
 use lib.Seq.{sets}
 use Rattle.rules_dictionary.specs.Numbers.{value, bytes, part}
-use Rattle.rules_dictionary.specs.Table.{Row, Default, fixed, plusNode, sizeOf}
+use Rattle.rules_dictionary.specs.Table.{Row, Default, fixed, plusNode, sizeOf, placeOf}
 
 -- the bytes of a row
 abbrev pub field : List ℕ → Row → List ℕ
-field d x = part (x .place) (sizeOf x) d
+field d x = part (placeOf x) (sizeOf x) d
 
 -- the value of a row
 unfoldable pub read : List ℕ → Row → ℕ
@@ -17,7 +17,7 @@ read d x = value (field d x)
 
 -- the dictionary with that value in the row
 unfoldable pub store : Row → ℕ → List ℕ → List ℕ
-store x v d = sets d (x .place) (bytes (sizeOf x) v)
+store x v d = sets d (placeOf x) (bytes (sizeOf x) v)
 
 -- a value for a row
 pub record Write : Type 0 where

@@ -8,7 +8,7 @@ use lib.Dec.{eqb}
 use Rattle.state.specs.declared.State.{State}
 use Rattle.rules_dictionary.specs.TheNode.{lastNode}
 use Rattle.rules_dictionary.specs.Numbers.{all}
-use Rattle.rules_dictionary.specs.Table.{Row, table, isWritable, transmit, mode, controlWord, heartbeatTime}
+use Rattle.rules_dictionary.specs.Table.{Row, table, placeOf, isWritable, transmit, mode, controlWord, heartbeatTime, open-table}
 use Rattle.rules_dictionary.specs.Values.{write}
 use Rattle.rules_dictionary.specs.Legal.{suits}
 use Rattle.rules_dictionary.proofs.Tests.{and-left, and-right, In, all-in}
@@ -22,7 +22,7 @@ use Rattle.sdo.specs.Serving.{restartedAt, isMapping, remaps}
 
 -- the node-ID stays
 pub restarted-id : (place : ℕ) (s t : State) → t ≡ restartedAt place s → s .node .id ≤ lastNode → t .node .id ≤ lastNode
-restarted-id place s t e h = rw e (go (eqb place (heartbeatTime .place)))
+restarted-id place s t e h = rw e (go (eqb place (placeOf heartbeatTime)))
   where
     go : (b : Bool) → cond b (withHeartbeat 0 s) s .node .id ≤ lastNode
     go true = h
@@ -32,7 +32,7 @@ restarted-id place s t e h = rw e (go (eqb place (heartbeatTime .place)))
 
 -- a test by place is the test by index and subindex
 isAt : Row → Row → Bool
-isAt y x = Bool·beq (wrote y (write x 0 ∷ [])) (eqb (x .place) (y .place))
+isAt y x = Bool·beq (wrote y (write x 0 ∷ [])) (eqb (placeOf x) (placeOf y))
 
 -- a row of a mapping is none that is acted on
 notActed : Row → Bool
@@ -43,7 +43,7 @@ notSent : Row → Bool
 notSent x = not (isWritable (x .access)) || not (suits transmit (x .mappable))
 
 rows-test : all (λ x. (isAt mode x && (isAt controlWord x && isAt heartbeatTime x)) && (notActed x && notSent x)) table ≡ true
-unfolding isAt notActed notSent table
+unfolding isAt notActed notSent open-table
 rows-test = refl
 
 same-test : (a b : Bool) → Bool·beq a b ≡ true → a ≡ b
@@ -59,15 +59,15 @@ module _ {x : Row} (i : In x table) where
   places : (isAt mode x && (isAt controlWord x && isAt heartbeatTime x)) ≡ true
   places = and-left _ (notActed x && notSent x) tests
 
-  pub mode-at : (v : ℕ) → wrote mode (write x v ∷ []) ≡ eqb (x .place) (mode .place)
+  pub mode-at : (v : ℕ) → wrote mode (write x v ∷ []) ≡ eqb (placeOf x) (placeOf mode)
   unfolding isAt
   mode-at v = same-test _ _ (and-left (isAt mode x) (isAt controlWord x && isAt heartbeatTime x) places)
 
-  pub control-at : (v : ℕ) → wrote controlWord (write x v ∷ []) ≡ eqb (x .place) (controlWord .place)
+  pub control-at : (v : ℕ) → wrote controlWord (write x v ∷ []) ≡ eqb (placeOf x) (placeOf controlWord)
   unfolding isAt
   control-at v = same-test _ _ (and-left (isAt controlWord x) (isAt heartbeatTime x) (and-right (isAt mode x) _ places))
 
-  pub heartbeat-at : (v : ℕ) → wrote heartbeatTime (write x v ∷ []) ≡ eqb (x .place) (heartbeatTime .place)
+  pub heartbeat-at : (v : ℕ) → wrote heartbeatTime (write x v ∷ []) ≡ eqb (placeOf x) (placeOf heartbeatTime)
   unfolding isAt
   heartbeat-at v = same-test _ _ (and-right (isAt controlWord x) (isAt heartbeatTime x) (and-right (isAt mode x) _ places))
 

@@ -1,21 +1,21 @@
 -- What is asked of an object, from the entry that the look-up found to the effect that the rules give the request.
 -- Assumes nothing.
-use Prim.Native.Nat.{ℕ, _<_}
+use Prim.Native.Nat.{ℕ}
 use mathlib.Core.Path.{_≡_, refl, sym, _∙_, ap, subst}
 use mathlib.Core.Bool.{Bool, true, false, not, Bool·not-not}
 use mathlib.Core.List.{List, []}
 use borrow.Author.Tests.{eq-eqb}
 use lib.Dec.{eqb}
-use lib.ListN.{length}
 use lib.Seq.{sets}
 use Rattle.state.specs.declared.State.{State}
 use Rattle.rules_dictionary.specs.Numbers.{value, bytes, part}
-use Rattle.rules_dictionary.specs.Table.{Row, ValueType, u8, u16, u32, i8, i32, size, isWritable, mode, controlWord, sizeOf, pdos, noObject as missing, noSubindex as missingSubindex, lookup}
+use Rattle.rules_dictionary.specs.Table.{Row, ValueType, u8, u16, u32, i8, i32, size, isWritable, mode, controlWord, placeOf, noObject as missing, noSubindex as missingSubindex, lookup}
 use Rattle.rules_dictionary.specs.Values.{read, store, stored}
 use Rattle.rules_dictionary.specs.Aborts.{Abort, noObject, noSubindex, abortCode, Verdict, good, bad}
 use Rattle.rules_services.specs.Effects.{Effect, sends, becomes}
 use Rattle.rules_services.specs.Sdo as sdo
 use Rattle.dictionary.specs.declared.Entry.{Entry}
+use Rattle.dictionary.specs.Sizes.{IsPdo}
 use Rattle.dictionary.proofs.Stands.{Stands}
 use Rattle.output.specs.Laying.{emitted}
 use Rattle.output.proofs.Laws.{emitted-none}
@@ -153,10 +153,10 @@ module _ (rq : List ℕ) (s : State) (d o : List ℕ) (e : Entry) (st : Stands (
         rw (q, asked-is, fine-row, stored-is)
         (mapping-served rq s d o (st .listed) (sdo.askedValue rq x) written (sym role-is ∙ h) o₁ told)
 
-    pub act-served : b ≡ false → (old : ℕ) → old ≡ value (part (controlWord .place) (sizeOf controlWord) d) → (r : Done) (d₂ o₂ : List ℕ) →
-        Did (acts old (eqb (e .place) (mode .place)) (eqb (e .place) (controlWord .place)) (restartedAt (e .place) s) d₁) 1 d₁ o₁ r d₂ o₂ × (r .quiet ≡ false) →
+    pub act-served : b ≡ false → (old : ℕ) → old ≡ read d controlWord → (r : Done) (d₂ o₂ : List ℕ) →
+        Did (acts old (eqb (e .place) (placeOf mode)) (eqb (e .place) (placeOf controlWord)) (restartedAt (e .place) s) d₁) 1 d₁ o₁ r d₂ o₂ × (r .quiet ≡ false) →
         Served s (objectAsked true rq s d) d o r d₂ o₂
-    unfolding x sdo.decided sdo.reply read
+    unfolding x sdo.decided sdo.reply
     act-served h old was r d₂ o₂ (did, busy) =
         rw (asked-is, fine-row)
         (acted-served rq s d o (st .listed) (sdo.askedValue rq x) written (sym role-is ∙ h) r d₂ o₁ o₂ told
@@ -164,5 +164,5 @@ module _ (rq : List ℕ) (s : State) (d o : List ℕ) (e : Entry) (st : Stands (
 
 -- ---- what is known of what was found
 
-pub pdo-fits : {i j : ℕ} (e : Entry) → Stands i j e → pdoOf (e .role) < length pdos
+pub pdo-fits : {i j : ℕ} (e : Entry) → Stands i j e → IsPdo (pdoOf (e .role))
 pdo-fits e st = rw (st .is-entry) (pdo-below (st .listed))

@@ -8,7 +8,7 @@ use mathlib.Core.List.{List, [], _∷_}
 use lib.Dec.{eqb}
 use Rattle.state.specs.declared.State.{State}
 use Rattle.rules_dictionary.specs.Numbers.{bytes}
-use Rattle.rules_dictionary.specs.Table.{Row, table, isWritable, controlWord, mode}
+use Rattle.rules_dictionary.specs.Table.{Row, table, placeOf, isWritable, controlWord, mode}
 use Rattle.rules_dictionary.specs.Values.{write, read, store, stored}
 use Rattle.rules_dictionary.proofs.Tests.{In}
 use Rattle.rules_services.specs.Effects.{Effect, sends, writes}
@@ -51,7 +51,7 @@ module _ (rq : List ℕ) (s : State) (d o : List ℕ) {x : Row} (i : In x table)
   -- any other: the value is acted on
   module _ (plain : isMapping (x .role) ≡ false) where
     abbrev effect : Effect
-    effect = acts (read d controlWord) (eqb (x .place) (mode .place)) (eqb (x .place) (controlWord .place)) (restartedAt (x .place) s) (store x v d)
+    effect = acts (read d controlWord) (eqb (placeOf x) (placeOf mode)) (eqb (placeOf x) (placeOf controlWord)) (restartedAt (placeOf x) s) (store x v d)
 
     acted : Acted effect
     acted = acts-leave _ _ _ _ _

@@ -9,7 +9,7 @@ use lib.ListN.{length}
 use Rattle.state.specs.declared.State.{State}
 use Rattle.rules_dictionary.specs.TheNode.{lastNode}
 use Rattle.rules_dictionary.specs.Numbers.{any}
-use Rattle.rules_dictionary.specs.Table.{Role, plain, modeOfOperation, pdoIdentifier, pdoType, mappingCount, mappingEntry, heartbeatTime, dictionaryLength}
+use Rattle.rules_dictionary.specs.Table.{Role, plain, modeOfOperation, pdoIdentifier, pdoType, mappingCount, mappingEntry, heartbeatTime, placeOf, dictionaryLength}
 use Rattle.rules_dictionary.specs.Values.{Write, stored}
 use Rattle.rules_services.specs.Effects.{Effect, withHeartbeat}
 use Rattle.rules.specs.Calls.{outputLength}
@@ -19,7 +19,7 @@ use Rattle.effects.specs.Leaves.{touches, partsOf, Rests}
 
 -- the heartbeat's count restarted where the value of 1017h is written
 abbrev pub restartedAt : ℕ → State → State
-restartedAt place s = cond (eqb place (heartbeatTime .place)) (withHeartbeat 0 s) s
+restartedAt place s = cond (eqb place (placeOf heartbeatTime)) (withHeartbeat 0 s) s
 
 -- the row is of a PDO's mapping
 abbrev pub isMapping : Role → Bool

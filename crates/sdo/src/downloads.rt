@@ -4,7 +4,8 @@ ghost use mathlib.Core.Bool.{true, false};
 ghost use Prim.Native.Nat.{_≤_};
 ghost use lib.Dec.{eqb};
 ghost use lib.ListN.{length};
-ghost use Rattle.rules_dictionary.specs.Table.{controlWord, mode};
+ghost use Rattle.rules_dictionary.specs.TheNode.{lastNode};
+ghost use Rattle.rules_dictionary.specs.Table.{controlWord, mode, placeOf, dictionaryLength};
 ghost use Rattle.rules_dictionary.specs.Aborts.{good};
 ghost use Rattle.rules_services.specs.Sdo.{askedIndex, askedSubindex};
 ghost use Rattle.rules.specs.Calls.{outputLength};
@@ -14,18 +15,16 @@ ghost use Rattle.effects.specs.Leaves.{bare, Did};
 ghost use Rattle.verdicts.specs.Verdicts.{roleBack};
 ghost use Rattle.sdo.specs.Requests.{objectAsked, downloadVerdictOf};
 ghost use Rattle.sdo.specs.Serving.{isMapping, restartedAt, Servable, Served};
-use crate::places::CONTROL_WORD;
 use crate::places::DATA_PLACE;
-use crate::places::HEARTBEAT_TIME;
-use crate::places::MODE;
 use crate::replies::ABORTED;
 use crate::replies::answer;
 use crate::replies::reply;
 use crate::tests::download_verdict;
 use dictionary::Entry;
 use dictionary::Role;
+use dictionary::objects;
+use dictionary::places;
 use dictionary::read;
-use dictionary::read2;
 use dictionary::write;
 use effects::Done;
 use effects::Parts;
@@ -53,7 +52,7 @@ fn is_mapping(role: Role) -> bool
 fn restarted(parts: Parts, place: usize) -> Parts
     ensures { λ r. ⌜ bare r ≡ restartedAt place (bare parts) ⌝ }
 {
-    if place == HEARTBEAT_TIME {
+    if place == places::HEARTBEAT_TIME {
         let mut next = parts;
         next.node.heartbeat = 0;
         return next;
@@ -63,14 +62,14 @@ fn restarted(parts: Parts, place: usize) -> Parts
 
 // The value at a place is written: acted on, behind the reply; `old` is 6040h as it stood before.
 fn act(old: u16, place: usize, parts: Parts, d: &mut [u8], output: &mut [u8]) -> Done
-    requires { ⌜ (length (now d) ≡ 389) × ((outputLength ≤ length (now output)) × (parts .node .id ≤ 127)) ⌝ }
-    ensures { λ r. ⌜ Did (acts old (eqb place (mode .place)) (eqb place (controlWord .place)) (restartedAt place (bare parts)) (now (d .entry))) 1 (now (d .entry)) (now (output .entry)) r (now (d .exit)) (now (output .exit)) × (r .quiet ≡ false) ⌝ }
+    requires { ⌜ (length (now d) ≡ dictionaryLength) × ((outputLength ≤ length (now output)) × (parts .node .id ≤ lastNode)) ⌝ }
+    ensures { λ r. ⌜ Did (acts old (eqb place (placeOf mode)) (eqb place (placeOf controlWord)) (restartedAt place (bare parts)) (now (d .entry))) 1 (now (d .entry)) (now (output .entry)) r (now (d .exit)) (now (output .exit)) × (r .quiet ≡ false) ⌝ }
 {
     let next = restarted(parts, place);
     acted(
         old,
-        place == MODE,
-        place == CONTROL_WORD,
+        place == places::MODE,
+        place == places::CONTROL_WORD,
         next,
         d,
         output,
@@ -86,7 +85,7 @@ fn apply(request: [u8; 8], e: Entry, parts: Parts, d: &mut [u8], output: &mut [u
     let place = e.place as usize;
     let size = e.size;
     let v = read(&request, DATA_PLACE, size);
-    let old = read2(d, CONTROL_WORD);
+    let old = objects::control_word(d);
     let frames = reply(DOWNLOADED, 0, request, parts.node.id, output);
     write(d, place, size, v);
     let role = e.role;

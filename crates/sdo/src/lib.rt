@@ -1,6 +1,6 @@
 // Document 01, 'SDO': the expedited server.
 
-mod places; // where things stand
+mod places; // where the parts of a request stand
 mod replies; // replies on 580h+N
 mod tests; // the tests of a download
 mod downloads; // a value written

@@ -1,4 +1,4 @@
-// Where the parts of a request stand in it, and entries in the dictionary.
+// Where the parts of a request stand in it.
 
 // The command of a request.
 pub const COMMAND_PLACE: usize = 0;
@@ -11,12 +11,3 @@ pub const SUBINDEX_PLACE: usize = 3;
 
 // Its data bytes.
 pub const DATA_PLACE: usize = 4;
-
-// 1017h
-pub const HEARTBEAT_TIME: usize = 13;
-
-// 6040h
-pub const CONTROL_WORD: usize = 334;
-
-// 6060h
-pub const MODE: usize = 338;

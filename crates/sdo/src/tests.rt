@@ -1,14 +1,13 @@
 // The tests of a download, in order; the first that fires decides.
 ghost use mathlib.Core.Path.{_≡_};
 ghost use mathlib.Core.Bool.{not, _||_};
-ghost use Prim.Native.Nat.{_<_};
 ghost use lib.ListN.{length};
-ghost use Rattle.rules_dictionary.specs.Table.{identifier, mappingEntry};
+ghost use Rattle.rules_dictionary.specs.Table.{identifier, mappingEntry, dictionaryLength};
 ghost use Rattle.rules_dictionary.specs.Values.{read};
 ghost use Rattle.rules_dictionary.specs.Legal.{isValid};
 ghost use Rattle.rules_services.specs.Effects.{isPreOperational};
 ghost use Rattle.rules_services.specs.Sdo.{isWrongTime};
-ghost use Rattle.dictionary.specs.Sizes.{IsSize};
+ghost use Rattle.dictionary.specs.Sizes.{IsSize, IsPdo};
 ghost use Rattle.verdicts.specs.Verdicts.{verdictCode, roleBack, pdoOf};
 ghost use Rattle.sdo.specs.Requests.{mayWrite, toldBy, downloadVerdictOf};
 use crate::places::COMMAND_PLACE;
@@ -17,15 +16,12 @@ use dictionary::Access;
 use dictionary::Entry;
 use dictionary::Role;
 use dictionary::read;
-use dictionary::read1;
-use dictionary::read4;
-use plans::mapping_place;
+use dictionary::records;
 use state::NmtState;
 use verdicts::aborts::NO_WRITING;
 use verdicts::aborts::TOO_LONG;
 use verdicts::aborts::TOO_SHORT;
 use verdicts::aborts::WRONG_TIME;
-use verdicts::identifier_place;
 use verdicts::is_valid;
 use verdicts::value_verdict;
 
@@ -66,29 +62,29 @@ fn is_pre_operational(m: NmtState) -> bool
 
 // "mappings outside Pre-operational; mappings while that PDO is valid".
 fn is_mapping_shut(nmt: NmtState, d: &[u8], p: usize) -> bool
-    requires { ⌜ (length (now d) ≡ 389) × (p < 8) ⌝ }
+    requires { ⌜ (length (now d) ≡ dictionaryLength) × IsPdo p ⌝ }
     ensures { λ r. ⌜ r ≡ (not (isPreOperational nmt) || isValid (read (now (d .entry)) (identifier p))) ⌝ }
 {
     if !is_pre_operational(nmt) {
         return true;
     }
-    is_valid(read4(d, identifier_place(p)))
+    is_valid(records::identifier(d, p))
 }
 
 // "entries while :0 is not 0".
 fn is_entry_shut(nmt: NmtState, d: &[u8], p: usize) -> bool
-    requires { ⌜ (length (now d) ≡ 389) × (p < 8) ⌝ }
+    requires { ⌜ (length (now d) ≡ dictionaryLength) × IsPdo p ⌝ }
     ensures { λ r. ⌜ r ≡ isWrongTime nmt (now (d .entry)) (mappingEntry p) ⌝ }
 {
     if is_mapping_shut(nmt, d, p) {
         return true;
     }
-    read1(d, mapping_place(p)) != 0
+    records::map_count(d, p) != 0
 }
 
 // Whether an entry of that role may not be written now.
 fn is_wrong_time(nmt: NmtState, d: &[u8], role: Role) -> bool
-    requires { ⌜ (length (now d) ≡ 389) × (pdoOf role < 8) ⌝ }
+    requires { ⌜ (length (now d) ≡ dictionaryLength) × IsPdo (pdoOf role) ⌝ }
     ensures { λ r. ⌜ r ≡ isWrongTime nmt (now (d .entry)) (roleBack role) ⌝ }
 {
     match role {
@@ -103,7 +99,7 @@ fn is_wrong_time(nmt: NmtState, d: &[u8], role: Role) -> bool
 
 // What a download to an entry gives: 0 or the abort code.
 pub fn download_verdict(request: [u8; 8], nmt: NmtState, d: &[u8], e: Entry) -> u32
-    requires { ⌜ (length (now d) ≡ 389) × (IsSize (e .size) × (pdoOf (e .role) < 8)) ⌝ }
+    requires { ⌜ (length (now d) ≡ dictionaryLength) × (IsSize (e .size) × IsPdo (pdoOf (e .role))) ⌝ }
     ensures { λ r. ⌜ r ≡ verdictCode (downloadVerdictOf request nmt (now (d .entry)) e) ⌝ }
 {
     let access = e.access;

@@ -1,6 +1,5 @@
 // The drive's clauses, 6041h and 6061h, and the heartbeat count.
-use dictionary::read1;
-use dictionary::read2;
+use dictionary::objects;
 use drive::Drive;
 use drive::states::has;
 use drive::states::is_faulty;
@@ -12,24 +11,13 @@ ghost use mathlib.Core.Path.{_≡_};
 ghost use mathlib.Core.Bool.{not, _&&_};
 ghost use lib.Dec.{eqb};
 ghost use lib.ListN.{length};
-ghost use Rattle.rules_dictionary.specs.Table.{statusWord, mode, modeDisplay};
+ghost use Rattle.rules_dictionary.specs.Table.{statusWord, mode, modeDisplay, dictionaryLength};
 ghost use Rattle.rules_dictionary.specs.Values.{read};
 ghost use Rattle.rules_dictionary.specs.Legal.{modeNumber};
 ghost use Rattle.drive.specs.StatusWord.{status};
 ghost use Rattle.rules_services.specs.Effects.{isStopped};
 ghost use Rattle.rules.specs.Sound.{storeInPlace, takenInPlace, causeInPlace, driveSound, heartbeatSound};
 ghost use Rattle.soundness.specs.Parts.{driveClauses};
-
-// Where 1017h, 6040h, 6041h, 6060h and 6061h stand.
-const HEARTBEAT_TIME: usize = 13;
-
-const CONTROL_WORD: usize = 334;
-
-const STATUS_WORD: usize = 336;
-
-const MODE: usize = 338;
-
-const MODE_DISPLAY: usize = 339;
 
 // Bit 4 of 6040h.
 const NEW_SET_POINT: u16 = 16;
@@ -58,19 +46,19 @@ fn mode_number(m: Mode) -> u8
 
 // "6041h .. as the rules make" it. The flags: not Stopped, voltage.
 fn is_status_made(remote: bool, voltage: bool, v: Drive, d: &[u8]) -> bool
-    requires { ⌜ length (now d) ≡ 389 ⌝ }
+    requires { ⌜ length (now d) ≡ dictionaryLength ⌝ }
     ensures { λ r. ⌜ r ≡ eqb (read (now (d .entry)) statusWord) (status remote voltage v (now (d .entry))) ⌝ }
 {
-    read2(d, STATUS_WORD) == status(remote, voltage, v, d)
+    objects::status_word(d) == status(remote, voltage, v, d)
 }
 
 // "6061h as the rules make" it: 6060h, which is the drive's mode.
 fn is_mode_made(m: Mode, d: &[u8]) -> bool
-    requires { ⌜ length (now d) ≡ 389 ⌝ }
+    requires { ⌜ length (now d) ≡ dictionaryLength ⌝ }
     ensures { λ r. ⌜ r ≡ (eqb (read (now (d .entry)) modeDisplay) (read (now (d .entry)) mode) && eqb (read (now (d .entry)) mode) (modeNumber m)) ⌝ }
 {
-    let asked = read1(d, MODE);
-    (read1(d, MODE_DISPLAY) == asked) & (asked == mode_number(m))
+    let asked = objects::mode(d);
+    (objects::mode_display(d) == asked) & (asked == mode_number(m))
 }
 
 // "set-point store other than Empty, taken mark and limit mark only in Operation enabled with mode 1"
@@ -83,10 +71,10 @@ fn is_store_in_place(v: Drive) -> bool
 
 // "taken mark only while bit 4 of 6040h is 1"
 fn is_taken_in_place(v: Drive, d: &[u8]) -> bool
-    requires { ⌜ length (now d) ≡ 389 ⌝ }
+    requires { ⌜ length (now d) ≡ dictionaryLength ⌝ }
     ensures { λ r. ⌜ r ≡ takenInPlace v (now (d .entry)) ⌝ }
 {
-    !v.taken | has(read2(d, CONTROL_WORD), NEW_SET_POINT)
+    !v.taken | has(objects::control_word(d), NEW_SET_POINT)
 }
 
 // "cause present only in the two fault states"
@@ -99,7 +87,7 @@ fn is_cause_in_place(v: Drive) -> bool
 
 // Whether the drive's marks and store are in place.
 fn is_drive_sound(v: Drive, d: &[u8]) -> bool
-    requires { ⌜ length (now d) ≡ 389 ⌝ }
+    requires { ⌜ length (now d) ≡ dictionaryLength ⌝ }
     ensures { λ r. ⌜ r ≡ driveSound v (now (d .entry)) ⌝ }
 {
     (is_store_in_place(v) & is_taken_in_place(v, d)) & is_cause_in_place(v)
@@ -107,15 +95,15 @@ fn is_drive_sound(v: Drive, d: &[u8]) -> bool
 
 // "heartbeat count zero or below 1017h"
 fn is_heartbeat_sound(count: u16, d: &[u8]) -> bool
-    requires { ⌜ length (now d) ≡ 389 ⌝ }
+    requires { ⌜ length (now d) ≡ dictionaryLength ⌝ }
     ensures { λ r. ⌜ r ≡ heartbeatSound count (now (d .entry)) ⌝ }
 {
-    (count == 0) | (count < read2(d, HEARTBEAT_TIME))
+    (count == 0) | (count < objects::heartbeat_time(d))
 }
 
 // Whether the clauses of the drive, 6041h, 6061h and the heartbeat count hold.
 pub fn is_drive_clear(s: State, d: &[u8]) -> bool
-    requires { ⌜ length (now d) ≡ 389 ⌝ }
+    requires { ⌜ length (now d) ≡ dictionaryLength ⌝ }
     ensures { λ r. ⌜ r ≡ driveClauses s (now (d .entry)) ⌝ }
 {
     let node = s.node;

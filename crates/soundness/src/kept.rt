@@ -7,11 +7,12 @@ use rules_dictionary::Plan;
 ghost use mathlib.Core.Path.{_≡_};
 ghost use mathlib.Core.Bool.{true};
 ghost use lib.ListN.{length};
+ghost use Rattle.rules_dictionary.specs.Table.{dictionaryLength};
 ghost use Rattle.soundness.specs.Kept.{plansKept, readyKept};
 
 // Whether every PDO's mapping is legal, with a count in range, and its kept plan the one that it gives.
 pub fn are_plans_kept(d: &[u8], plans: [Plan; 8]) -> bool
-    requires { ⌜ length (now d) ≡ 389 ⌝ }
+    requires { ⌜ length (now d) ≡ dictionaryLength ⌝ }
     ensures { λ r. ⌜ r ≡ plansKept (now (d .entry)) plans ⌝ }
 {
     let mut p: usize = 0;
@@ -27,7 +28,7 @@ pub fn are_plans_kept(d: &[u8], plans: [Plan; 8]) -> bool
 
 // Whether every transmit PDO's ready frame is the one that its kept plan gives.
 pub fn are_frames_kept(d: &[u8], plans: [Plan; 8], ready: [PdoData; 4]) -> bool
-    requires { ⌜ (length (now d) ≡ 389) × (plansKept (now d) plans ≡ true) ⌝ }
+    requires { ⌜ (length (now d) ≡ dictionaryLength) × (plansKept (now d) plans ≡ true) ⌝ }
     ensures { λ r. ⌜ r ≡ readyKept (now (d .entry)) ready ⌝ }
 {
     let mut t: usize = 0;

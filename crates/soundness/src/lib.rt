@@ -13,6 +13,8 @@ use kept::are_plans_kept;
 use legality::dictionary_legal;
 pub use pdos::type_of;
 pub use pdos::works;
+use state::FIRST_NODE;
+use state::LAST_NODE;
 use state::State;
 use usual::are_frames_usual;
 use usual::are_plans_usual;
@@ -21,6 +23,7 @@ use waiting::is_waiting_sound;
 ghost use mathlib.Core.Path.{_≡_};
 ghost use mathlib.Core.Bool.{true};
 ghost use lib.ListN.{length};
+ghost use Rattle.rules_dictionary.specs.Table.{dictionaryLength};
 ghost use Rattle.rules_dictionary.specs.TheNode.{isNodeId};
 ghost use Rattle.rules.specs.Sound.{waitingSound, sound};
 ghost use Rattle.soundness.specs.Kept.{plansKept, readyKept};
@@ -29,7 +32,7 @@ ghost use Rattle.soundness.specs.Usual.{plansUsual};
 
 // Whether mappings are legal, and plans, ready frames and what waits for SYNC as they should be.
 fn are_pdos_clear(s: State, d: &[u8]) -> bool
-    requires { ⌜ length (now d) ≡ 389 ⌝ }
+    requires { ⌜ length (now d) ≡ dictionaryLength ⌝ }
     ensures { λ r. ⌜ r ≡ pdoClauses s (now (d .entry)) ⌝ }
 {
     let node = s.node;
@@ -51,7 +54,7 @@ fn are_pdos_clear(s: State, d: &[u8]) -> bool
 
 // Whether every mapping is usual, with its kept plan.
 fn has_usual_plans(s: State, d: &[u8]) -> bool
-    requires { ⌜ length (now d) ≡ 389 ⌝ }
+    requires { ⌜ length (now d) ≡ dictionaryLength ⌝ }
     ensures { λ r. ⌜ (r ≡ true → plansUsual (now (d .entry)) (s .axis .plans) ≡ true) ⌝ }
 {
     let axis = s.axis;
@@ -61,7 +64,7 @@ fn has_usual_plans(s: State, d: &[u8]) -> bool
 
 // Whether the ready frames are those of usual mappings.
 fn has_usual_frames(s: State, d: &[u8]) -> bool
-    requires { ⌜ (length (now d) ≡ 389) × (plansUsual (now d) (s .axis .plans) ≡ true) ⌝ }
+    requires { ⌜ (length (now d) ≡ dictionaryLength) × (plansUsual (now d) (s .axis .plans) ≡ true) ⌝ }
     ensures { λ r. ⌜ (r ≡ true → readyKept (now (d .entry)) (s .axis .ready) ≡ true) ⌝ }
 {
     let axis = s.axis;
@@ -72,7 +75,7 @@ fn has_usual_frames(s: State, d: &[u8]) -> bool
 
 // Whether all that waits for SYNC is sound, mostly nothing; the plans are known to be the mappings'.
 fn does_wait_soundly(s: State, d: &[u8]) -> bool
-    requires { ⌜ (length (now d) ≡ 389) × (plansKept (now d) (s .axis .plans) ≡ true) ⌝ }
+    requires { ⌜ (length (now d) ≡ dictionaryLength) × (plansKept (now d) (s .axis .plans) ≡ true) ⌝ }
     ensures { λ r. ⌜ r ≡ waitingSound s (now (d .entry)) ⌝ }
 {
     let node = s.node;
@@ -88,16 +91,17 @@ fn does_wait_soundly(s: State, d: &[u8]) -> bool
     is_waiting_sound(nmt, d, plans, counts, due, held)
 }
 
-// "N legal": 1 to 127.
+// "N legal".
 fn is_node_id(n: u8) -> bool
     ensures { λ r. ⌜ r ≡ isNodeId n ⌝ }
 {
-    (1 <= n) & (n <= 127)
+    let id = n as u32;
+    (FIRST_NODE <= id) & (id <= LAST_NODE)
 }
 
 // Whether state and dictionary are sound; what is kept for the PDOs is told in fewer steps where their mappings are usual.
 pub fn is_sound(s: State, d: &[u8]) -> bool
-    requires { ⌜ length (now d) ≡ 389 ⌝ }
+    requires { ⌜ length (now d) ≡ dictionaryLength ⌝ }
     ensures { λ r. ⌜ r ≡ sound s (now (d .entry)) ⌝ }
 {
     let node = s.node;

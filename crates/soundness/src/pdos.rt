@@ -1,12 +1,10 @@
 // A PDO's identifier and type, and whether it works.
-use dictionary::read1;
-use dictionary::read4;
-use plans::mapping_place;
+use dictionary::records;
 use state::NmtState;
 ghost use mathlib.Core.Path.{_≡_};
 ghost use Prim.Native.Nat.{_<_};
 ghost use lib.ListN.{length};
-ghost use Rattle.rules_dictionary.specs.Table.{communicationPlace, identifier};
+ghost use Rattle.rules_dictionary.specs.Table.{identifier, dictionaryLength};
 ghost use Rattle.rules_dictionary.specs.Values.{read};
 ghost use Rattle.rules_dictionary.specs.Legal.{isValid};
 ghost use Rattle.rules_services.specs.Effects.{isOperational};
@@ -15,32 +13,20 @@ ghost use Rattle.rules_services.specs.PdoTraffic.{works, typeOf};
 // Bit 31 of an identifier.
 const INVALID: u32 = 0x8000_0000;
 
-// Where a PDO's communication record stands: a count, four bytes of identifier, and the type.
-fn communication_place(p: usize) -> usize
-    requires { ⌜ p < 8 ⌝ }
-    ensures { λ r. ⌜ (r ≡ communicationPlace p) × (r < 300) ⌝ }
-{
-    if p < 4 {
-        return 20 + 6 * p;
-    }
-    176 + 6 * (p - 4)
-}
-
 // The type of a PDO.
 pub fn type_of(d: &[u8], p: usize) -> u8
-    requires { ⌜ (length (now d) ≡ 389) × (p < 8) ⌝ }
+    requires { ⌜ (length (now d) ≡ dictionaryLength) × (p < 8) ⌝ }
     ensures { λ r. ⌜ r ≡ typeOf (now (d .entry)) p ⌝ }
 {
-    read1(d, communication_place(p) + 5)
+    records::transmission_type(d, p)
 }
 
 // Whether a PDO's identifier is valid.
 fn is_valid(d: &[u8], p: usize) -> bool
-    requires { ⌜ (length (now d) ≡ 389) × (p < 8) ⌝ }
+    requires { ⌜ (length (now d) ≡ dictionaryLength) × (p < 8) ⌝ }
     ensures { λ r. ⌜ r ≡ isValid (read (now (d .entry)) (identifier p)) ⌝ }
 {
-    let word = read4(d, communication_place(p) + 1);
-    word / INVALID % 2 != 1
+    records::identifier(d, p) / INVALID % 2 != 1
 }
 
 // Is the node in Operational.
@@ -56,7 +42,7 @@ fn is_operational(m: NmtState) -> bool
 
 // "A PDO works only in Operational, valid, with something mapped."
 pub fn works(m: NmtState, d: &[u8], p: usize) -> bool
-    requires { ⌜ (length (now d) ≡ 389) × (p < 8) ⌝ }
+    requires { ⌜ (length (now d) ≡ dictionaryLength) × (p < 8) ⌝ }
     ensures { λ r. ⌜ r ≡ works m (now (d .entry)) p ⌝ }
 {
     if !is_operational(m) {
@@ -65,5 +51,5 @@ pub fn works(m: NmtState, d: &[u8], p: usize) -> bool
     if !is_valid(d, p) {
         return false;
     }
-    0 < read1(d, mapping_place(p))
+    0 < records::map_count(d, p)
 }

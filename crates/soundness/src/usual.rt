@@ -11,7 +11,7 @@ ghost use mathlib.Core.Bool.{true, not};
 ghost use lib.Dec.{eqb};
 ghost use lib.ListN.{length, take, drop};
 ghost use Rattle.rules_dictionary.specs.Numbers.{all};
-ghost use Rattle.rules_dictionary.specs.Table.{pdos, receivePdos, transmitPdos};
+ghost use Rattle.rules_dictionary.specs.Table.{pdos, receivePdos, transmitPdos, dictionaryLength};
 ghost use Rattle.rules_services.specs.PdoTraffic.{noData};
 ghost use Rattle.rules.specs.Outcome.{sameData};
 ghost use Rattle.rules.specs.Sound.{pairwise};
@@ -21,7 +21,7 @@ ghost use Rattle.soundness.specs.Usual.{plansUsual, nothingWaits};
 
 // Whether no PDO has anything from its third slot on.
 fn are_short(d: &[u8], plans: [Plan; 8]) -> bool
-    requires { ⌜ length (now d) ≡ 389 ⌝ }
+    requires { ⌜ length (now d) ≡ dictionaryLength ⌝ }
     ensures { λ r. ⌜ r ≡ pairwise (isShort (now (d .entry))) pdos plans ⌝ }
 {
     let transmit = is_short(d, 4, plans[4])
@@ -33,7 +33,7 @@ fn are_short(d: &[u8], plans: [Plan; 8]) -> bool
 
 // Whether every receive PDO is usual in its first two slots.
 fn are_receive_usual(d: &[u8], plans: [Plan; 8]) -> bool
-    requires { ⌜ length (now d) ≡ 389 ⌝ }
+    requires { ⌜ length (now d) ≡ dictionaryLength ⌝ }
     ensures { λ r. ⌜ (r ≡ true → pairwise (pairUsual (now (d .entry))) receivePdos (take 4 plans) ≡ true) ⌝ }
 {
     if !is_pair_usual(d, 0, plans[0]) {
@@ -50,7 +50,7 @@ fn are_receive_usual(d: &[u8], plans: [Plan; 8]) -> bool
 
 // Whether every transmit PDO is usual in its first two slots.
 fn are_transmit_usual(d: &[u8], plans: [Plan; 8]) -> bool
-    requires { ⌜ length (now d) ≡ 389 ⌝ }
+    requires { ⌜ length (now d) ≡ dictionaryLength ⌝ }
     ensures { λ r. ⌜ (r ≡ true → pairwise (pairUsual (now (d .entry))) transmitPdos (drop 4 plans) ≡ true) ⌝ }
 {
     if !is_pair_usual(d, 4, plans[4]) {
@@ -67,7 +67,7 @@ fn are_transmit_usual(d: &[u8], plans: [Plan; 8]) -> bool
 
 // Whether every mapping is usual, with its kept plan.
 pub fn are_plans_usual(d: &[u8], plans: [Plan; 8]) -> bool
-    requires { ⌜ length (now d) ≡ 389 ⌝ }
+    requires { ⌜ length (now d) ≡ dictionaryLength ⌝ }
     ensures { λ r. ⌜ (r ≡ true → plansUsual (now (d .entry)) plans ≡ true) ⌝ }
 {
     if !are_short(d, plans) {
@@ -81,7 +81,7 @@ pub fn are_plans_usual(d: &[u8], plans: [Plan; 8]) -> bool
 
 // Whether the ready frames are those of usual mappings.
 pub fn are_frames_usual(d: &[u8], plans: [Plan; 8], ready: [PdoData; 4]) -> bool
-    requires { ⌜ (length (now d) ≡ 389) × (plansUsual (now d) plans ≡ true) ⌝ }
+    requires { ⌜ (length (now d) ≡ dictionaryLength) × (plansUsual (now d) plans ≡ true) ⌝ }
     ensures { λ r. ⌜ (r ≡ true → readyKept (now (d .entry)) ready ≡ true) ⌝ }
 {
     is_frame_usual(d, plans[4], ready[0])

@@ -11,6 +11,7 @@ ghost use mathlib.Core.Path.{_≡_};
 ghost use mathlib.Core.Bool.{true};
 ghost use Prim.Native.Nat.{_<_};
 ghost use lib.ListN.{length, take};
+ghost use Rattle.rules_dictionary.specs.Table.{dictionaryLength};
 ghost use Rattle.rules_dictionary.specs.Plans.{pdoData};
 ghost use Rattle.plans.specs.Moves.{MovesFit};
 ghost use Rattle.transfer.specs.Transfer.{movesOf, sizes};
@@ -25,7 +26,7 @@ const LAST_SYNCHRONOUS: u8 = 240;
 
 // "SYNC counts below their type and zero where unused"
 fn is_count_sound(m: NmtState, d: &[u8], p: usize, count: u8) -> bool
-    requires { ⌜ (length (now d) ≡ 389) × (p < 8) ⌝ }
+    requires { ⌜ (length (now d) ≡ dictionaryLength) × (p < 8) ⌝ }
     ensures { λ r. ⌜ r ≡ countSound m (now (d .entry)) p count ⌝ }
 {
     if count == 0 {
@@ -43,7 +44,7 @@ fn is_count_sound(m: NmtState, d: &[u8], p: usize, count: u8) -> bool
 
 // "due marks .. only in Operational, due for working type 0 TPDOs"
 fn is_mark_sound(m: NmtState, d: &[u8], p: usize, due: bool) -> bool
-    requires { ⌜ (length (now d) ≡ 389) × (p < 8) ⌝ }
+    requires { ⌜ (length (now d) ≡ dictionaryLength) × (p < 8) ⌝ }
     ensures { λ r. ⌜ r ≡ dueSound m (now (d .entry)) p due ⌝ }
 {
     if !due {
@@ -97,7 +98,7 @@ fn is_full(plan: Plan, frame: PdoData) -> bool
 
 // "held frames only in Operational, .. held for working synchronous RPDOs, with full length and legal values"
 fn is_held_sound(m: NmtState, d: &[u8], p: usize, plan: Plan, frame: PdoData) -> bool
-    requires { ⌜ (length (now d) ≡ 389) × ((p < 4) × (planKept (now d) p plan ≡ true)) ⌝ }
+    requires { ⌜ (length (now d) ≡ dictionaryLength) × ((p < 4) × (planKept (now d) p plan ≡ true)) ⌝ }
     ensures { λ r. ⌜ r ≡ heldSound m (now (d .entry)) p frame ⌝ }
 {
     let content = frame.bytes;
@@ -125,7 +126,7 @@ pub fn is_waiting_sound(
     due: [bool; 4],
     held: [PdoData; 4],
 ) -> bool
-    requires { ⌜ (length (now d) ≡ 389) × (plansKept (now d) plans ≡ true) ⌝ }
+    requires { ⌜ (length (now d) ≡ dictionaryLength) × (plansKept (now d) plans ≡ true) ⌝ }
     ensures { λ r. ⌜ r ≡ waitSound m (now (d .entry)) counts due held ⌝ }
 {
     let mut t: usize = 0;

@@ -25,6 +25,11 @@ pub struct Axis {
     pub due: [bool; 4],
 }
 
+// The first and the last node-ID.
+pub const FIRST_NODE: u32 = 1;
+
+pub const LAST_NODE: u32 = 127;
+
 // What is the node's: its node-ID, NMT state, the voltage flag, and the ticks since the last heartbeat.
 pub struct Node {
     pub id: u8,

@@ -16,7 +16,7 @@ use Rattle.state.specs.declared.NmtState.the-variants.{PreOperational, Operatio
 use Rattle.state.specs.declared.Refusal.the-variants.{DictionaryLength, OutputLength, NodeId, BadFrame, BadEvent, OutOfPlace}
 use Rattle.rules_dictionary.specs.Numbers.{any, filter, bytes}
 use Rattle.rules_dictionary.specs.TheNode.{isNodeId}
-use Rattle.rules_dictionary.specs.Table.{Row, table, same, sizeOf, dictionaryLength, statusWord, modeDisplay, controlWord, errorRegister, heartbeatTime, receivePdos, transmitPdos, Found, found, noObject, noSubindex, lookup, open-table}
+use Rattle.rules_dictionary.specs.Table.{Row, table, same, sizeOf, dictionaryLength, statusWord, modeDisplay, controlWord, errorRegister, heartbeatTime, receivePdos, transmitPdos, Found, found, noObject, noSubindex, lookup, open-table, placeOf}
 use Rattle.rules_dictionary.specs.Values.{Write, write, read, store, stored, unpacked, toDefaults, defaultOf}
 use Rattle.rules_dictionary.specs.Aborts.{Verdict, good, bad}
 use Rattle.rules_dictionary.specs.Legal.{isSynchronous}
@@ -57,11 +57,11 @@ sets-other (v ∷ vs) d at i (inr h) = sets-other vs (set d at v) (suc at) i (in
 
 pub byte-store : (x : Row) (v i : ℕ) (d : List ℕ) → covers i x ≡ false → getD (store x v d) i 0 ≡ getD d i 0
 unfolding store
-byte-store x v i d h = sets-other (bytes (sizeOf x) v) d (x .place) i (go (leb (x .place) i) refl h)
+byte-store x v i d h = sets-other (bytes (sizeOf x) v) d (placeOf x) i (go (leb (placeOf x) i) refl h)
   where
-    go : (b : Bool) → leb (x .place) i ≡ b → (b && ltb i (x .place + sizeOf x)) ≡ false → (i < x .place) ⊎ (x .place + length (bytes (sizeOf x) v) ≤ i)
+    go : (b : Bool) → leb (placeOf x) i ≡ b → (b && ltb i (placeOf x + sizeOf x)) ≡ false → (i < placeOf x) ⊎ (placeOf x + length (bytes (sizeOf x) v) ≤ i)
     go true e k = inr (rw (length-bytes (sizeOf x) v) (ltb-false i _ k))
-    go false e k = inl (leb-false (x .place) i e)
+    go false e k = inl (leb-false (placeOf x) i e)
 
 -- every write is of one of those rows
 abbrev pub Within : Effect → List Row → Type 0

@@ -15,7 +15,8 @@ use Rattle.state.specs.declared.NmtState.the-variants.{PreOperational, Operatio
 use Rattle.state.specs.declared.State.{State}
 use Rattle.state.specs.declared.Refusal.the-variants.{Accepted, DictionaryLength, OutputLength, NotSound, BadFrame}
 use Rattle.rules_dictionary.specs.Numbers.{value, bytes, areBytes, bit, between}
-use Rattle.rules_dictionary.specs.Table.{Row, dictionaryLength, statusWord, mapCount, mapEntry, mapSlots, mappingRows, identifier, eachWay, pdos, receivePdos, transmitPdos, directionOf, Found, found, lookup, open-table}
+use Rattle.rules_dictionary.specs.TheNode.{firstNode, lastNode}
+use Rattle.rules_dictionary.specs.Table.{Row, dictionaryLength, statusWord, mapCount, mapEntry, mapSlots, mappingRows, identifier, eachWay, pdos, receivePdos, transmitPdos, directionOf, Found, found, lookup, open-table, placeOf}
 use Rattle.rules_dictionary.specs.Values.{field, read, unpacked}
 use Rattle.rules_dictionary.specs.Aborts.{Abort, abortCode, Verdict, bad}
 use Rattle.rules_dictionary.specs.Legal.{isValid, frameIdentifier, reservedBits, transmits, transmitBit, firstIdentifier, lastIdentifier as lastPdoIdentifier, identifiers}
@@ -327,9 +328,9 @@ status-bytes : (d : List ℕ) → areBytes d ≡ true → length d ≡ dictionar
 unfolding read
 status-bytes d b l =
     let bs = field d statusWord in
-    let room : 336 + 2 ≤ length d = omega (arith, within status-in) in
+    let room : placeOf statusWord + 2 ≤ length d = omega (arith, within status-in) in
     let k : length bs ≡ 2 = field-length statusWord d room in
-    let same : bytes 2 (value bs) ≡ bs = ap (λ (j : ℕ). bytes j (value bs)) (sym k) ∙ bytes-value bs (part-bytes 336 2 d b) in
+    let same : bytes 2 (value bs) ≡ bs = ap (λ (j : ℕ). bytes j (value bs)) (sym k) ∙ bytes-value bs (part-bytes (placeOf statusWord) 2 d b) in
     four-bytes (value bs) (read-fits statusWord d b room) ∙ ap (λ (l : List ℕ). l ++ (0 ∷ 0 ∷ [])) same
 
 pub same-status-word : SameStatusWord
@@ -341,7 +342,7 @@ same-status-word r o room awake-now =
     let at = run-holds r .at in
     let law = sound-lawful s d (at .long) (at .sound) in
     let n = s .node .id in
-    let small : n ≤ 127 = leb-true n 127 (and-right (leb 1 n) (leb n 127) (law .id)) in
+    let small : n ≤ lastNode = leb-true n lastNode (and-right (leb firstNode n) (leb n lastNode) (law .id)) in
     let e : decided (uploadStatus n) s d o ≡ performs (sends (reply 0x4B rqStatus s (bytes dataSize (read d statusWord))) (becomes s)) =
     frame-decided (requestBase + n) rqStatus s d o (at .long) room (at .sound) (omega arith) (omega arith)
     ∙ ap performs (sdo-framed rqStatus s d ∙ ap (λ (b : Bool). cond (not b) (sdo rqStatus s d) (becomes s)) awake-now ∙ uploads-status s d) in (

@@ -13,7 +13,7 @@ use Rattle.rules_dictionary.specs.declared.PdoData.{PdoData}
 use Rattle.state.specs.declared.NmtState.{NmtState}
 use Rattle.state.specs.declared.State.{State}
 use Rattle.rules_dictionary.specs.TheNode.{isNodeId}
-use Rattle.rules_dictionary.specs.Table.{Row, table, dictionaryLength, eachWay, pdos, receivePdos, transmitPdos, mode, modeDisplay, controlWord, heartbeatTime}
+use Rattle.rules_dictionary.specs.Table.{Row, table, dictionaryLength, eachWay, pdos, receivePdos, transmitPdos, mode, modeDisplay, controlWord, heartbeatTime, open-table}
 use Rattle.rules_dictionary.specs.Values.{read, stored}
 use Rattle.rules_dictionary.specs.Legal.{modeNumber, isCyclic}
 use Rattle.rules_dictionary.specs.Plans.{plansOf, readyOf}
@@ -159,7 +159,7 @@ module _ (s : State) (d : List ℕ) (e : Effect) (law : Lawful (e .state) (store
       eq-eqb _ _ (settled-status (e .state) d1 long1 ∙ sym (status-same d1 d2 (settled-motion (e .state) d1) (not (isStopped (e .state .node .nmt))) (e .state .node .voltage) (e .state .axis .drive)))
 
   mode-after : read d2 mode ≡ modeNumber (e .state .axis .drive .mode)
-  unfolding d1 d2
+  unfolding d1 d2 open-table
   mode-after = settled-apart (e .state) d1 mode refl refl ∙ law .mode
 
   made-mode : modeAsMade (ended s d e .state) d2 ≡ true
@@ -167,11 +167,11 @@ module _ (s : State) (d : List ℕ) (e : Effect) (law : Lawful (e .state) (store
   made-mode = and-both _ _ (eq-eqb _ _ (settled-display (e .state) d1 long1 ∙ sym mode-after)) (eq-eqb _ _ mode-after)
 
   drive-after : driveSound (e .state .axis .drive) d2 ≡ true
-  unfolding driveSound takenInPlace d1 d2
+  unfolding driveSound takenInPlace d1 d2 open-table
   drive-after = rw (settled-apart (e .state) d1 controlWord refl refl) (law .drive)
 
   heartbeat-after : heartbeatSound (e .state .node .heartbeat) d2 ≡ true
-  unfolding heartbeatSound d1 d2
+  unfolding heartbeatSound d1 d2 open-table
   heartbeat-after = rw (settled-apart (e .state) d1 heartbeatTime refl refl) (law .heartbeat)
 
   counts-after : (t : ℕ) → In t transmitters → countSound (e .state .node .nmt) d2 (eachWay + t) (paceFor s (e .state) (e .synced) d2 (readyOf d2) t .count) ≡ true

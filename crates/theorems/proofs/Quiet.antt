@@ -12,7 +12,7 @@ use lib.Seq.{sets, sets-eq, length-take-le, drop-drop}
 use Rattle.rules_dictionary.specs.declared.PdoData.{PdoData}
 use Rattle.state.specs.declared.State.{State}
 use Rattle.rules_dictionary.specs.Numbers.{value, bytes, part, areBytes}
-use Rattle.rules_dictionary.specs.Table.{Row, sizeOf, statusWord, modeDisplay, mode, eachWay}
+use Rattle.rules_dictionary.specs.Table.{Row, sizeOf, statusWord, modeDisplay, mode, eachWay, placeOf}
 use Rattle.rules_dictionary.specs.Values.{field, read, store, stored}
 use Rattle.rules_dictionary.specs.Legal.{isCyclic, modeNumber}
 use Rattle.rules_dictionary.specs.Plans.{readyOf}
@@ -30,8 +30,8 @@ use Rattle.theorems.proofs.Runs.{Holds}
 
 -- ---- what is stored again
 
-pub field-length : (x : Row) (d : List ℕ) → x .place + sizeOf x ≤ length d → length (field d x) ≡ sizeOf x
-field-length x d h = length-take-le (sizeOf x) (drop (x .place) d) (rw length-drop (omega arith))
+pub field-length : (x : Row) (d : List ℕ) → placeOf x + sizeOf x ≤ length d → length (field d x) ≡ sizeOf x
+field-length x d h = length-take-le (sizeOf x) (drop (placeOf x) d) (rw length-drop (omega arith))
 
 put-back : (at n : ℕ) (d : List ℕ) → take at d ++ part at n d ++ drop (at + n) d ≡ d
 put-back at n d =
@@ -40,13 +40,13 @@ put-back at n d =
     ∙ ap (λ (l : List ℕ). take at d ++ l) (take-append-drop n (drop at d))
     ∙ take-append-drop at d
 
-pub store-self : (x : Row) (d : List ℕ) → areBytes d ≡ true → x .place + sizeOf x ≤ length d → store x (read d x) d ≡ d
+pub store-self : (x : Row) (d : List ℕ) → areBytes d ≡ true → placeOf x + sizeOf x ≤ length d → store x (read d x) d ≡ d
 unfolding store read
 store-self x d b h =
     let bs = field d x in
     let l : length bs ≡ sizeOf x = field-length x d h in
-    let same : bytes (sizeOf x) (value bs) ≡ bs = ap (λ (k : ℕ). bytes k (value bs)) (sym l) ∙ bytes-value bs (part-bytes (x .place) (sizeOf x) d b) in
-    ap (sets d (x .place)) same ∙ sets-eq bs d (x .place) (omega arith) ∙ ap (λ (k : ℕ). take (x .place) d ++ bs ++ drop (x .place + k) d) l ∙ put-back (x .place) (sizeOf x) d
+    let same : bytes (sizeOf x) (value bs) ≡ bs = ap (λ (k : ℕ). bytes k (value bs)) (sym l) ∙ bytes-value bs (part-bytes (placeOf x) (sizeOf x) d b) in
+    ap (sets d (placeOf x)) same ∙ sets-eq bs d (placeOf x) (omega arith) ∙ ap (λ (k : ℕ). take (placeOf x) d ++ bs ++ drop (placeOf x + k) d) l ∙ put-back (placeOf x) (sizeOf x) d
 
 module _ (a : Stand) (h : Holds a) where
   s : State

@@ -20,7 +20,7 @@ use Rattle.state.specs.declared.Refusal.the-variants.{DictionaryLength, OutputL
 use Rattle.rules_dictionary.specs.TheNode.{isNodeId}
 use Rattle.state.specs.declared.State.{State}
 use Rattle.rules_dictionary.specs.Numbers.{all, areBytes, isByte, padded, bytes, filter}
-use Rattle.rules_dictionary.specs.Table.{Row, sizeOf, mostMoves, identifier, ValueType, u8, u16, u32, i8, i32, dictionaryLength, controlWord, mode, heartbeatTime, errorRegister, errorCode, eachWay, receivePdos, Found as Found′, found, noObject, noSubindex, lookup}
+use Rattle.rules_dictionary.specs.Table.{Row, sizeOf, mostMoves, identifier, ValueType, u8, u16, u32, i8, i32, dictionaryLength, controlWord, mode, heartbeatTime, errorRegister, errorCode, eachWay, receivePdos, Found as Found′, found, noObject, noSubindex, lookup, placeOf}
 use Rattle.rules_dictionary.specs.Aborts.{Abort, abortCode, Verdict, good, bad, unknownCommand, noObject as absent, noSubindex as absentSub}
 use Rattle.rules_dictionary.specs.Legal.{isSynchronous, frameIdentifier}
 use Rattle.rules_dictionary.specs.Plans.{mapped, pdoData, joined, readyOf, readyFor}
@@ -535,7 +535,7 @@ at-most-six-in-order r k b =
 joined-bytes : (d : List ℕ) (xs : List Row) → areBytes d ≡ true → areBytes (joined d xs) ≡ true
 unfolding joined
 joined-bytes d [] h = refl
-joined-bytes d (x ∷ xs) h = all-append isByte (field d x) (joined d xs) (part-bytes (x .place) (sizeOf x) d h) (joined-bytes d xs h)
+joined-bytes d (x ∷ xs) h = all-append isByte (field d x) (joined d xs) (part-bytes (placeOf x) (sizeOf x) d h) (joined-bytes d xs h)
 
 data-octet : (i : ℕ) (l : List ℕ) → areBytes l ≡ true → ofBytes (frame i (take (pdoData l .length) (pdoData l .bytes))) ≡ true
 unfolding pdoData

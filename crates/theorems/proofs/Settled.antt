@@ -117,6 +117,7 @@ unfolding settled
 settled-length s d = length-store modeDisplay _ _ ∙ length-store statusWord _ d
 
 pub settled-motion : (s : State) (d : List ℕ) → SameMotion d (settled s d)
+unfolding open-table
 settled-motion s d =
     record {
       control = settled-apart s d controlWord refl refl;
@@ -140,7 +141,7 @@ settled-pdo s d y i h = settled-apart s d y (other statusWord status-in refl) (o
 
 module _ (s : State) (d : List ℕ) (long : length d ≡ dictionaryLength) where
   pub settled-status : read (settled s d) statusWord ≡ statusOf s d
-  unfolding settled statusOf
+  unfolding settled statusOf open-table
   settled-status =
       read-apart modeDisplay statusWord _ (store statusWord (statusOf s d) d) refl
       ∙ read-same statusWord (statusOf s d) d (omega (arith, within status-in)) (status-fits _ _ _ d)

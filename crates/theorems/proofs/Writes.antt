@@ -281,6 +281,7 @@ module _ (s : State) (d : List ℕ) (ws : List Write) (law : Lawful s d) (rows :
       lawful-with t1 acted v1 (control-mode d1 (read d controlWord) (t1 .axis .drive)) (control-sound d1 (read d controlWord) (t1 .axis .drive) (acted .moved .cause))
 
   reset-lawful : Lawful (withDrive v1 t1) (store errorRegister 0 d1)
+  unfolding open-table
   reset-lawful =
       store-lawful (withDrive v1 t1) d1 errorRegister 0 controlled register-in refl
       (drive-may (t1 .node .id) d1 errorRegister 0 refl refl (omega arith) (whole-range errorRegister 0 refl refl (omega arith))) refl refl refl

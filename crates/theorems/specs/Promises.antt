@@ -15,7 +15,7 @@ use Rattle.state.specs.declared.State.{State}
 use Rattle.state.specs.declared.Refusal.the-variants.{Accepted, DictionaryLength, NotSound}
 use Rattle.rules_dictionary.specs.Numbers.{all, any, areBytes, filter, bit}
 use Rattle.rules_dictionary.specs.TheNode.{isNodeId}
-use Rattle.rules_dictionary.specs.Table.{Row, table, sizeOf, same, dictionaryLength, statusWord, mode, modeDisplay, controlWord, errorCode, errorRegister, position, velocity, identifier, mappingRows, eachWay, pdos, receivePdos, transmitPdos, Found, found, noObject, noSubindex, lookup}
+use Rattle.rules_dictionary.specs.Table.{Row, table, sizeOf, same, dictionaryLength, statusWord, mode, modeDisplay, controlWord, errorCode, errorRegister, position, velocity, identifier, mappingRows, eachWay, pdos, receivePdos, transmitPdos, Found, found, noObject, noSubindex, lookup, placeOf}
 use Rattle.rules_dictionary.specs.Values.{Write, read, field, unpacked}
 use Rattle.rules_dictionary.specs.Aborts.{Abort, bad}
 use Rattle.rules_dictionary.specs.Plans.{mapped, planFor, readyFor, plansOf, readyOf, joined, pdoData}
@@ -265,7 +265,7 @@ mayChange (eventCall k xs) s d = statusWord ∷ modeDisplay ∷ byTold (eventOf 
 
 -- the byte of that number is one of the row's
 abbrev pub covers : ℕ → Row → Bool
-covers i x = leb (x .place) i && ltb i (x .place + sizeOf x)
+covers i x = leb (placeOf x) i && ltb i (placeOf x + sizeOf x)
 
 -- byte for byte: a byte of no such row stays
 abbrev pub ChangesNoOther : Type 0

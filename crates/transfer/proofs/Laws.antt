@@ -13,7 +13,7 @@ use lib.ListN.{length, take, drop, length-map}
 use Rattle.rules_dictionary.specs.declared.Plan.{Plan}
 use Rattle.rules_dictionary.specs.declared.Move.{Move}
 use Rattle.rules_dictionary.specs.Numbers.{value, isByte, areBytes, all, any, padded}
-use Rattle.rules_dictionary.specs.Table.{Row, plain, modeOfOperation, sizeOf, same, Direction, receive, transmit, directionOf, pdos, receivePdos, transmitPdos, mapCount, mapEntry, mapSlots, eachWay, mostMoves, controlWord, mode, targetPosition, profileVelocity, profileAcceleration, profileDeceleration, targetVelocity, heartbeatTime}
+use Rattle.rules_dictionary.specs.Table.{Row, plain, modeOfOperation, sizeOf, placeOf, same, Direction, receive, transmit, directionOf, pdos, receivePdos, transmitPdos, mapCount, mapEntry, mapSlots, eachWay, mostMoves, controlWord, mode, targetPosition, profileVelocity, profileAcceleration, profileDeceleration, targetVelocity, heartbeatTime, open-table}
 use Rattle.rules_dictionary.specs.Values.{read, store, stored, unpacked}
 use Rattle.rules_dictionary.specs.Aborts.{good, bad, isGood, firstOf, belowRange, badValue}
 use Rattle.rules_dictionary.specs.Legal.{isMode, suits, isBelow, isAbove, otherBadValue, mappingVerdict, valueVerdict, entryVerdict, mapWords}
@@ -67,9 +67,10 @@ module _ (x : Row) (wide : suc (x .range .greatest) ≡ 256 ^ sizeOf x) (d : Lis
 
 -- the code's rule on it is the rules' own
 abbrev Judged : Row → Type 0
-Judged x = (d : List ℕ) (v : ℕ) → v < 256 ^ sizeOf x → isGood (valueVerdict d x v) ≡ isLegal (x .place) v
+Judged x = (d : List ℕ) (v : ℕ) → v < 256 ^ sizeOf x → isGood (valueVerdict d x v) ≡ isLegal (placeOf x) v
 
 judged : Each Judged (mappables receive)
+unfolding open-table
 judged = (
   (λ d v h. free controlWord refl d v h refl refl),
   (
@@ -112,11 +113,13 @@ map-in f g (there i) h = map-in f g i (cc)
 
 -- each by a computed test: 6040h and 6060h are told by their places; 1017h is not among them, nor what may be mapped to transmit, nor a PDO's row
 module _ {x : Row} (i : In x (mappables receive)) where
-  control-told : same controlWord x ≡ eqb (x .place) (controlWord .place)
-  control-told = map-in (same controlWord) (λ y. eqb (y .place) (controlWord .place)) i refl
+  control-told : same controlWord x ≡ eqb (placeOf x) (placeOf controlWord)
+  unfolding open-table
+  control-told = map-in (same controlWord) (λ y. eqb (placeOf y) (placeOf controlWord)) i refl
 
-  mode-told : same mode x ≡ eqb (x .place) (mode .place)
-  mode-told = map-in (same mode) (λ y. eqb (y .place) (mode .place)) i refl
+  mode-told : same mode x ≡ eqb (placeOf x) (placeOf mode)
+  unfolding open-table
+  mode-told = map-in (same mode) (λ y. eqb (placeOf y) (placeOf mode)) i refl
 
   no-heartbeat : same heartbeatTime x ≡ false
   no-heartbeat = map-in (same heartbeatTime) (λ y. false) i refl
@@ -147,8 +150,8 @@ legal-rows (x ∷ xs) d bs r h =
     (legal-rows xs d (drop (sizeOf x) bs) (λ y j. r y (there j)) (all-drop (sizeOf x) bs h))
 
 -- a row that is told by its place among those that may be received
-wrote-rows : (y : Row) → ((x : Row) → In x (mappables receive) → same y x ≡ eqb (x .place) (y .place)) →
-    (xs : List Row) (bs : List ℕ) → Received xs → hasPlace (y .place) (map move xs) ≡ wrote y (unpacked xs bs)
+wrote-rows : (y : Row) → ((x : Row) → In x (mappables receive) → same y x ≡ eqb (placeOf x) (placeOf y)) →
+    (xs : List Row) (bs : List ℕ) → Received xs → hasPlace (placeOf y) (map move xs) ≡ wrote y (unpacked xs bs)
 unfolding unpacked
 wrote-rows y t [] bs r = refl
 wrote-rows y t (x ∷ xs) bs r = ap₂ _||_ (sym (t x (r x here))) (wrote-rows y t xs (drop (sizeOf x) bs) (λ z j. r z (there j)))
@@ -196,11 +199,11 @@ module _ {plan : Plan} {xs : List Row} (r : Receives plan xs) where
   pub stored-is : (bs d : List ℕ) → storedMoves (movesOf plan) bs d ≡ stored (unpacked xs bs) d
   stored-is bs d = ap (λ (ms : List Move). storedMoves ms bs d) moves-are ∙ stored-rows xs bs d
 
-  pub control-is : (bs : List ℕ) → hasPlace (controlWord .place) (movesOf plan) ≡ wrote controlWord (unpacked xs bs)
-  control-is bs = ap (hasPlace (controlWord .place)) moves-are ∙ wrote-rows controlWord (λ x i. control-told i) xs bs (r .received)
+  pub control-is : (bs : List ℕ) → hasPlace (placeOf controlWord) (movesOf plan) ≡ wrote controlWord (unpacked xs bs)
+  control-is bs = ap (hasPlace (placeOf controlWord)) moves-are ∙ wrote-rows controlWord (λ x i. control-told i) xs bs (r .received)
 
-  pub mode-is : (bs : List ℕ) → hasPlace (mode .place) (movesOf plan) ≡ wrote mode (unpacked xs bs)
-  mode-is bs = ap (hasPlace (mode .place)) moves-are ∙ wrote-rows mode (λ x i. mode-told i) xs bs (r .received)
+  pub mode-is : (bs : List ℕ) → hasPlace (placeOf mode) (movesOf plan) ≡ wrote mode (unpacked xs bs)
+  mode-is bs = ap (hasPlace (placeOf mode)) moves-are ∙ wrote-rows mode (λ x i. mode-told i) xs bs (r .received)
 
   pub heartbeat-is : (bs : List ℕ) → wrote heartbeatTime (unpacked xs bs) ≡ false
   heartbeat-is bs = no-heartbeat-rows xs bs (r .received)

@@ -9,7 +9,7 @@ use lib.Seq.{sets}
 use Rattle.rules_dictionary.specs.declared.Move.{Move}
 use Rattle.rules_dictionary.specs.declared.Plan.{Plan}
 use Rattle.rules_dictionary.specs.Numbers.{value, bytes, any, sum}
-use Rattle.rules_dictionary.specs.Table.{mode, profileAcceleration, profileDeceleration}
+use Rattle.rules_dictionary.specs.Table.{placeOf, mode, profileAcceleration, profileDeceleration}
 use Rattle.rules_dictionary.specs.Legal.{isMode}
 
 -- a plan's moves, without its spare slots
@@ -27,8 +27,8 @@ hasPlace place ms = any (λ m. eqb (m .place) place) ms
 -- of the objects that may be received, 6060h must be a mode, 6083h and 6084h not zero; the others are free
 abbrev pub isLegal : ℕ → ℕ → Bool
 isLegal place v =
-    cond (eqb place (mode .place)) (isMode v)
-    (cond (eqb place (profileAcceleration .place)) (not (eqb v 0)) (cond (eqb place (profileDeceleration .place)) (not (eqb v 0)) true))
+    cond (eqb place (placeOf mode)) (isMode v)
+    (cond (eqb place (placeOf profileAcceleration)) (not (eqb v 0)) (cond (eqb place (placeOf profileDeceleration)) (not (eqb v 0)) true))
 
 -- every value packed in the bytes may be received
 unfoldable pub movesLegal : List Move → List ℕ → Bool

@@ -1,6 +1,7 @@
 // The values that stand packed in a received frame, by the plan of its receive PDO: how many bytes they are, whether they may be
 // received, and where they go. Proved against specs/Transfer.antt; proofs/Laws.antt ties that to the rows of the rules.
 
+use dictionary::places;
 use dictionary::read;
 use dictionary::write;
 use rules_dictionary::Plan;
@@ -12,15 +13,6 @@ ghost use Rattle.rules_dictionary.specs.Table.{dictionaryLength};
 ghost use Rattle.rules_dictionary.specs.Legal.{isMode};
 ghost use Rattle.plans.specs.Moves.{MovesFit};
 ghost use Rattle.transfer.specs.Transfer.{movesOf, sizes, isLegal, movesLegal, storedMoves, hasPlace};
-
-// Where 6060h stands.
-const MODE: u16 = 338;
-
-// Where 6083h stands.
-const ACCELERATION: u16 = 373;
-
-// Where 6084h stands.
-const DECELERATION: u16 = 377;
 
 // How many bytes a plan maps.
 pub fn length_of(plan: Plan) -> u8
@@ -71,10 +63,10 @@ fn is_mode(v: u32) -> bool
 fn is_legal(place: u16, v: u32) -> bool
     ensures { λ r. ⌜ r ≡ isLegal place v ⌝ }
 {
-    match place {
-        MODE => is_mode(v),
-        ACCELERATION => v != 0,
-        DECELERATION => v != 0,
+    match place as usize {
+        places::MODE => is_mode(v),
+        places::PROFILE_ACCELERATION => v != 0,
+        places::PROFILE_DECELERATION => v != 0,
         _ => true,
     }
 }

@@ -1,16 +1,16 @@
 -- Laws for callers: what a verdict's code tells, and that the verdict on an entry is the one on its row.
 -- Assumes nothing.
-use Prim.Native.Nat.{ℕ, _<_}
+use Prim.Native.Nat.{ℕ, _*_}
 use mathlib.Core.Path.{_≡_, refl}
 use mathlib.Core.Bool.{Bool, true, false, _||_, false≢true}
 use mathlib.Core.List.{List}
 use borrow.Author.Tests.{ltb-true}
 use lib.Dec.{eqb, ltb}
-use lib.ListN.{length}
-use Rattle.rules_dictionary.specs.Table.{Row, Role, plain, modeOfOperation, pdoIdentifier, pdoType, mappingCount, mappingEntry, pdos, table, open-table}
+use Rattle.rules_dictionary.specs.Table.{Row, Role, plain, modeOfOperation, pdoIdentifier, pdoType, mappingCount, mappingEntry, eachWay, table}
 use Rattle.rules_dictionary.specs.Aborts.{Abort, unknownCommand, noObject, noSubindex, noWriting, tooLong, tooShort, wrongTime, belowRange, aboveRange, badValue, notMappable, overLength, Verdict, good, bad, isGood, firstOf}
 use Rattle.rules_dictionary.specs.Legal.{valueVerdict}
 use Rattle.rules_dictionary.proofs.Tests.{In, all-in}
+use Rattle.dictionary.specs.Sizes.{IsPdo}
 use Rattle.dictionary.specs.Entries.{roleOf, entryOf}
 use Rattle.verdicts.specs.Verdicts.{verdictCode, roleBack, pdoOf, roleVerdict, valueVerdictOf}
 
@@ -51,9 +51,9 @@ unfolding valueVerdictOf roleVerdict valueVerdict firstOf
 of-row d x v = rw (role-back (x .role))
 
 -- the PDO of a row of the table is one of the eight: one computed test
-pub pdo-below : {x : Row} → In x table → pdoOf (entryOf x .role) < length pdos
-unfolding open-table
-pdo-below i = ltb-true _ _ (all-in (λ x. ltb (pdoOf (entryOf x .role)) (length pdos)) i refl)
+pub pdo-below : {x : Row} → In x table → IsPdo (pdoOf (entryOf x .role))
+unfolding table
+pdo-below i = ltb-true _ _ (all-in (λ x. ltb (pdoOf (entryOf x .role)) (2 * eachWay)) i refl)
 
 -- the three modes, with nothing behind them
 pub three-or-none : (a b c : Bool) → (a || (b || c)) ≡ (a || (b || (c || false)))

@@ -12,10 +12,10 @@ use lib.ListN.{take}
 use lib.Seq.{take-nil}
 use Rattle.rules_dictionary.specs.declared.Move.{Move}
 use Rattle.rules_dictionary.specs.Numbers.{value, part, sum}
-use Rattle.rules_dictionary.specs.Table.{Direction, directionOf, wordIndex, wordSubindex, wordLength, Found, found, noObject, noSubindex, lookup, sizeOf}
+use Rattle.rules_dictionary.specs.Table.{Direction, directionOf, eachWay, mostMoves, wordIndex, wordSubindex, wordLength, Found, found, noObject, noSubindex, lookup, sizeOf}
 use Rattle.rules_dictionary.specs.Aborts.{good, bad, isGood, firstOf, test, notMappable, overLength}
 use Rattle.rules_dictionary.specs.Legal.{suits, targetVerdict, entryVerdict, countVerdict, mostBits}
-use Rattle.dictionary.specs.Entries.{foundOf}
+use Rattle.dictionary.specs.Entries.{presenceOf}
 use Rattle.plans.specs.Words.{wordMove, wayOf, namesOne}
 use Rattle.plans.specs.Slots.{wordsFrom}
 use Rattle.plans.proofs.Naming.{or-right, or-none, verdict}
@@ -30,12 +30,12 @@ unfolding entryVerdict
 word-zero p w e = rw e
 
 -- a word that names an object is good
-pub word-named : (p w : ℕ) (m : Move) → m ≡ wordMove (wayOf (leb 4 p)) w → (m .size ≡ 0 → ⊥) → 0 ≡ verdictCode (entryVerdict p w)
+pub word-named : (p w : ℕ) (m : Move) → m ≡ wordMove (wayOf (leb eachWay p)) w → (m .size ≡ 0 → ⊥) → 0 ≡ verdictCode (entryVerdict p w)
 word-named p w m e h =
     let n : namesOne (directionOf p) w ≡ true = rw (← way-of p, ← e, ne-eqb (m .size) 0 h) refl in
     sym (ap verdictCode (is-good (entryVerdict p w) (verdict p w ∙ or-right (eqb w 0) (namesOne (directionOf p) w) n)))
 
-target-refused : (way : Direction) (w : ℕ) (f : Found) → isGood (targetVerdict way w f) ≡ false → targetVerdict way w f ≡ unnamed (foundOf f)
+target-refused : (way : Direction) (w : ℕ) (f : Found) → isGood (targetVerdict way w f) ≡ false → targetVerdict way w f ≡ unnamed (presenceOf f)
 unfolding targetVerdict firstOf
 target-refused way w (found x) h = go (not (suits way (x .mappable)) || not (eqb (wordLength w) (8 * sizeOf x))) h
   where
@@ -46,15 +46,15 @@ target-refused way w noObject h = refl
 target-refused way w noSubindex h = refl
 
 -- another is refused by what its index and subindex find
-pub word-refused : (p w : ℕ) (m : Move) → m ≡ wordMove (wayOf (leb 4 p)) w → m .size ≡ 0 → (w ≡ 0 → ⊥) →
-    verdictCode (unnamed (foundOf (lookup (wordIndex w) (wordSubindex w)))) ≡ verdictCode (entryVerdict p w)
+pub word-refused : (p w : ℕ) (m : Move) → m ≡ wordMove (wayOf (leb eachWay p)) w → m .size ≡ 0 → (w ≡ 0 → ⊥) →
+    verdictCode (unnamed (presenceOf (lookup (wordIndex w) (wordSubindex w)))) ≡ verdictCode (entryVerdict p w)
 unfolding entryVerdict
 word-refused p w m e h z =
     let n : namesOne (directionOf p) w ≡ false = rw (← way-of p, ← e, eq-eqb (m .size) 0 h) refl in
     go (eqb w 0) (verdict p w ∙ or-none (eqb w 0) (namesOne (directionOf p) w) n ∙ ne-eqb w 0 z)
   where
     go : (b : Bool) → isGood (elim b [ true ↦ good | false ↦ targetVerdict (directionOf p) w (lookup (wordIndex w) (wordSubindex w)) ]) ≡ false →
-        verdictCode (unnamed (foundOf (lookup (wordIndex w) (wordSubindex w))))
+        verdictCode (unnamed (presenceOf (lookup (wordIndex w) (wordSubindex w))))
         ≡ verdictCode (elim b [ true ↦ good | false ↦ targetVerdict (directionOf p) w (lookup (wordIndex w) (wordSubindex w)) ])
     go true h = absurd (true≢false h)
     go false h = ap verdictCode (sym (target-refused (directionOf p) w (lookup (wordIndex w) (wordSubindex w)) h))
@@ -74,23 +74,23 @@ module _ (used w : ℕ) (ws : List ℕ) where
 
 -- the words that are left of a count, out of those that are left of the eight
 abbrev pub left : ℕ → ℕ → ℕ → List ℕ → List ℕ
-left n k at d = take (n - k) (wordsFrom (8 - k) at d)
+left n k at d = take (n - k) (wordsFrom (mostMoves - k) at d)
 
-pub at-first : (n first : ℕ) (d : List ℕ) → wordsVerdict 0 (left n 0 first d) ≡ countVerdict (wordsFrom 8 first d) n
+pub at-first : (n first : ℕ) (d : List ℕ) → wordsVerdict 0 (left n 0 first d) ≡ countVerdict (wordsFrom mostMoves first d) n
 unfolding countVerdict wordsVerdict
 at-first n first d =
     let e : n - 0 ≡ n = omega arith in
-    let s = sum (map wordLength (take n (wordsFrom 8 first d))) in
+    let s = sum (map wordLength (take n (wordsFrom mostMoves first d))) in
     let f : 0 + s ≡ s = omega arith in
     rw (e, f)
 
 module _ (used n k at : ℕ) (d : List ℕ) where
-  module _ (h : k < n) (g : k < 8) where
+  module _ (h : k < n) (g : k < mostMoves) where
     next-left : left n k at d ≡ value (part at 4 d) ∷ left n (k + 1) (at + 4) d
     unfolding wordsFrom
     next-left =
         let e : n - k ≡ suc (n - (k + 1)) = omega arith in
-        let f : 8 - k ≡ suc (8 - (k + 1)) = omega arith in
+        let f : mostMoves - k ≡ suc (mostMoves - (k + 1)) = omega arith in
         rw (e, f)
 
     pub at-zero : value (part at 4 d) ≡ 0 → wordsVerdict used (left n k at d) ≡ bad notMappable
@@ -100,14 +100,14 @@ module _ (used n k at : ℕ) (d : List ℕ) where
         wordsVerdict used (left n k at d) ≡ wordsVerdict (used + wordLength (value (part at 4 d))) (left n (k + 1) (at + 4) d)
     at-word e = rw next-left (next-word used (value (part at 4 d)) (left n (k + 1) (at + 4) d) e)
 
-  module _ (h : (n ≤ k) ⊎ (8 ≤ k)) where
+  module _ (h : (n ≤ k) ⊎ (mostMoves ≤ k)) where
     none-left : left n k at d ≡ []
     unfolding wordsFrom
     none-left = go h
       where
-        go : (n ≤ k) ⊎ (8 ≤ k) → take (n - k) (wordsFrom (8 - k) at d) ≡ []
+        go : (n ≤ k) ⊎ (mostMoves ≤ k) → take (n - k) (wordsFrom (mostMoves - k) at d) ≡ []
         go (inl h) = let e : n - k ≡ 0 = omega arith in rw e
-        go (inr h) = let e : 8 - k ≡ 0 = omega arith in rw e (take-nil (n - k))
+        go (inr h) = let e : mostMoves - k ≡ 0 = omega arith in rw e (take-nil (n - k))
 
     pub over : mostBits < used → wordsVerdict used (left n k at d) ≡ bad overLength
     unfolding wordsVerdict firstOf

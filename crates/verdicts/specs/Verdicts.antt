@@ -11,8 +11,8 @@ use Rattle.rules_dictionary.specs.Legal.{transmitBit, firstIdentifier, lastIden
 use Rattle.dictionary.specs.declared.Role.{Role}
 use Rattle.dictionary.specs.declared.Role.the-variants.{Plain, ModeOfOperation, PdoIdentifier, PdoType, MappingCount, MappingEntry}
 use Rattle.dictionary.specs.declared.Entry.{Entry}
-use Rattle.dictionary.specs.declared.Found.{Found}
-use Rattle.dictionary.specs.declared.Found.the-variants as found
+use Rattle.dictionary.specs.declared.Presence.{Presence}
+use Rattle.dictionary.specs.declared.Presence.the-variants as presence
 
 abbrev pub verdictCode : Verdict → ℕ
 verdictCode good = 0
@@ -68,10 +68,10 @@ takes p q w v = not (eqb q p) && isValid v && eqb (frameIdentifier w) (frameIden
 -- ---- mappings
 
 -- why a mapping word that names no object is refused, by what its index and subindex find
-abbrev pub unnamed : Found → Verdict
-unnamed (found.Entry e) = bad notMappable
-unnamed found.NoObject = bad noObject
-unnamed found.NoSubindex = bad noSubindex
+abbrev pub unnamed : Presence → Verdict
+unnamed presence.Listed = bad notMappable
+unnamed presence.NoObject = bad noObject
+unnamed presence.NoSubindex = bad noSubindex
 
 -- words that are to be mapped, with so many bits before them
 unfoldable pub wordsVerdict : ℕ → List ℕ → Verdict

@@ -1,22 +1,13 @@
 // The identifier of a PDO: alone, and beside those of the other PDOs.
-use crate::pdos::EACH_WAY;
-use crate::pdos::PDOS;
-use crate::pdos::first_of;
-use dictionary::read4;
+use dictionary::places;
+use dictionary::records;
 ghost use mathlib.Core.Path.{_≡_};
-ghost use Prim.Native.Nat.{_<_};
 ghost use lib.ListN.{length};
 ghost use Rattle.rules_dictionary.specs.Numbers.{any};
-ghost use Rattle.rules_dictionary.specs.Table.{identifier, pdos};
+ghost use Rattle.rules_dictionary.specs.Table.{pdos, dictionaryLength};
 ghost use Rattle.rules_dictionary.specs.Legal.{isValid, frameIdentifier, identifiers, clashes, badIdentifier};
+ghost use Rattle.dictionary.specs.Sizes.{IsPdo};
 ghost use Rattle.verdicts.specs.Verdicts.{illFormed, outside, takes};
-
-// Where the communication records of the first receive and the first transmit PDO stand, and the length of one.
-const RECEIVE: usize = 20;
-
-const TRANSMIT: usize = 176;
-
-const LENGTH: usize = 6;
 
 // Bit 31: the PDO is not valid.
 const INVALID: u32 = 0x8000_0000;
@@ -33,13 +24,6 @@ const NINETEEN: u32 = 0x8_0000;
 const FIRST: u32 = 0x181;
 
 const LAST: u32 = 0x57F;
-
-// Where a PDO's identifier stands.
-pub fn identifier_place(p: usize) -> usize
-    ensures { λ r. ⌜ (r ≡ identifier p .place) × (r < 300) ⌝ }
-{
-    first_of(p, RECEIVE, TRANSMIT) + LENGTH * (p % EACH_WAY) + 1
-}
 
 // Whether a word makes its PDO valid.
 pub fn is_valid(w: u32) -> bool
@@ -61,7 +45,7 @@ fn ill_formed(p: usize, w: u32) -> bool
 {
     let transmits = w / TRANSMITS % 2 == 1;
     let reserved = w / ELEVEN % NINETEEN != 0;
-    if p < EACH_WAY {
+    if p < places::EACH_WAY {
         return transmits | reserved;
     }
     !transmits | reserved
@@ -84,12 +68,12 @@ fn takes(p: usize, q: usize, w: u32, other: u32) -> bool
 
 // Whether another PDO is valid and has the word's identifier.
 fn is_taken(d: &[u8], p: usize, w: u32) -> bool
-    requires { ⌜ length (now d) ≡ 389 ⌝ }
+    requires { ⌜ length (now d) ≡ dictionaryLength ⌝ }
     ensures { λ r. ⌜ r ≡ any (clashes (identifiers (now (d .entry))) p w) pdos ⌝ }
 {
     let mut q: usize = 0;
-    while q < PDOS {
-        if takes(p, q, w, read4(d, identifier_place(q))) {
+    while q < places::PDOS {
+        if takes(p, q, w, records::identifier(d, q)) {
             return true;
         }
         q += 1;
@@ -99,7 +83,7 @@ fn is_taken(d: &[u8], p: usize, w: u32) -> bool
 
 // Whether a word is none for the identifier of a PDO.
 pub fn bad_identifier(d: &[u8], p: usize, w: u32) -> bool
-    requires { ⌜ (length (now d) ≡ 389) × (p < 8) ⌝ }
+    requires { ⌜ (length (now d) ≡ dictionaryLength) × IsPdo p ⌝ }
     ensures { λ r. ⌜ r ≡ badIdentifier (identifiers (now (d .entry))) p w ⌝ }
 {
     if ill_formed(p, w) {
@@ -111,6 +95,6 @@ pub fn bad_identifier(d: &[u8], p: usize, w: u32) -> bool
     if outside(w) | is_taken(d, p, w) {
         return true;
     }
-    let present = read4(d, identifier_place(p));
+    let present = records::identifier(d, p);
     is_valid(present) & (w != present)
 }

@@ -3,9 +3,7 @@
 pub mod aborts; // the abort codes
 mod identifiers; // the identifier of a PDO
 mod mapping; // the mapping of a PDO
-mod pdos; // where the records of the PDOs stand
 mod values; // a value for an entry
 
-pub use identifiers::identifier_place;
 pub use identifiers::is_valid;
 pub use values::value_verdict;

@@ -4,49 +4,36 @@ use crate::aborts::NO_OBJECT;
 use crate::aborts::NO_SUBINDEX;
 use crate::aborts::NOT_MAPPABLE;
 use crate::aborts::OVER_LENGTH;
-use crate::pdos::EACH_WAY;
-use crate::pdos::first_of;
-use dictionary::Found;
-use dictionary::find;
+use dictionary::Presence;
+use dictionary::places;
 use dictionary::read4;
+use dictionary::records;
+use dictionary::seek;
 use plans::move_of;
 ghost use mathlib.Core.Path.{_≡_};
-ghost use Prim.Native.Nat.{_+_, _<_, _≤_};
+ghost use Prim.Native.Nat.{_+_, _*_, _^_, _<_, _≤_};
 ghost use lib.ListN.{length};
-ghost use Rattle.rules_dictionary.specs.Table.{mappingPlace, wordIndex, wordSubindex, wordLength, lookup};
+ghost use Rattle.rules_dictionary.specs.Table.{mostMoves, wordIndex, wordSubindex, wordLength, lookup, dictionaryLength};
 ghost use Rattle.rules_dictionary.specs.Legal.{entryVerdict, countVerdict, mapWords};
-ghost use Rattle.dictionary.specs.Entries.{foundOf};
+ghost use Rattle.dictionary.specs.Entries.{presenceOf};
+ghost use Rattle.dictionary.specs.Sizes.{IsPdo};
 ghost use Rattle.plans.specs.Slots.{wordsFrom};
 ghost use Rattle.verdicts.specs.Verdicts.{verdictCode, unnamed};
 
-// Where the mapping records of the first receive and the first transmit PDO stand, and the length of one.
-const RECEIVE: usize = 44;
-
-const TRANSMIT: usize = 200;
-
-const LENGTH: usize = 33;
-
 // The mapping words of a PDO.
-const MOST_WORDS: u32 = 8;
+const MOST_WORDS: u32 = places::MOST_WORDS as u32;
 
 // The bits of a PDO's data.
 const MOST_BITS: u32 = 64;
 
-// Where a PDO's first mapping word stands, behind the count.
-fn words_place(p: usize) -> usize
-    ensures { λ r. ⌜ (r ≡ mappingPlace p + 1) × (r < 345) ⌝ }
-{
-    first_of(p, RECEIVE, TRANSMIT) + LENGTH * (p % EACH_WAY) + 1
-}
-
 // Why a mapping word that names no object of its PDO's direction is refused.
 fn unnamed_verdict(w: u32) -> u32
-    ensures { λ r. ⌜ r ≡ verdictCode (unnamed (foundOf (lookup (wordIndex w) (wordSubindex w)))) ⌝ }
+    ensures { λ r. ⌜ r ≡ verdictCode (unnamed (presenceOf (lookup (wordIndex w) (wordSubindex w)))) ⌝ }
 {
-    match find((w / 0x1_0000 % 0x1_0000) as u16, (w / 0x100 % 0x100) as u8) {
-        Found::Entry(e) => NOT_MAPPABLE,
-        Found::NoObject => NO_OBJECT,
-        Found::NoSubindex => NO_SUBINDEX,
+    match seek((w / 0x1_0000 % 0x1_0000) as u16, (w / 0x100 % 0x100) as u8) {
+        Presence::Listed => NOT_MAPPABLE,
+        Presence::NoObject => NO_OBJECT,
+        Presence::NoSubindex => NO_SUBINDEX,
     }
 }
 
@@ -57,7 +44,7 @@ pub fn entry_verdict(p: usize, w: u32) -> u32
     if w == 0 {
         return GOOD;
     }
-    let named = move_of(w, EACH_WAY <= p);
+    let named = move_of(w, places::EACH_WAY <= p);
     if named.size != 0 {
         return GOOD;
     }
@@ -73,8 +60,8 @@ fn word_length(w: u32) -> u32
 
 // What a count gives of the eight mapping words from a place on.
 fn words_verdict(d: &[u8], first: usize, n: u32) -> u32
-    requires { ⌜ (first + 32 ≤ length (now d)) × (first < 400) ⌝ }
-    ensures { λ r. ⌜ r ≡ verdictCode (countVerdict (wordsFrom 8 first (now (d .entry))) n) ⌝ }
+    requires { ⌜ (first + 4 * mostMoves ≤ length (now d)) × (first < 2 ^ 16) ⌝ }
+    ensures { λ r. ⌜ r ≡ verdictCode (countVerdict (wordsFrom mostMoves first (now (d .entry))) n) ⌝ }
 {
     let count = if n < MOST_WORDS { n } else { MOST_WORDS };
     let mut at = first;
@@ -86,7 +73,7 @@ fn words_verdict(d: &[u8], first: usize, n: u32) -> u32
             return NOT_MAPPABLE;
         }
         bits += word_length(word);
-        at += 4;
+        at += places::WORD_LENGTH;
         k += 1;
     }
     if MOST_BITS < bits {
@@ -97,8 +84,8 @@ fn words_verdict(d: &[u8], first: usize, n: u32) -> u32
 
 // What a count of mapped objects gives for a PDO.
 pub fn count_verdict(d: &[u8], p: usize, n: u32) -> u32
-    requires { ⌜ (length (now d) ≡ 389) × (p < 8) ⌝ }
+    requires { ⌜ (length (now d) ≡ dictionaryLength) × IsPdo p ⌝ }
     ensures { λ r. ⌜ r ≡ verdictCode (countVerdict (mapWords (now (d .entry)) p) n) ⌝ }
 {
-    words_verdict(d, words_place(p), n)
+    words_verdict(d, records::words_place(p), n)
 }

@@ -9,9 +9,10 @@ use crate::mapping::entry_verdict;
 use dictionary::Entry;
 use dictionary::Role;
 ghost use mathlib.Core.Path.{_≡_};
-ghost use Prim.Native.Nat.{_<_};
 ghost use lib.ListN.{length};
+ghost use Rattle.rules_dictionary.specs.Table.{dictionaryLength};
 ghost use Rattle.rules_dictionary.specs.Legal.{isMode, isType};
+ghost use Rattle.dictionary.specs.Sizes.{IsPdo};
 ghost use Rattle.verdicts.specs.Verdicts.{verdictCode, badIf, pdoOf, roleVerdict, valueVerdictOf};
 
 // The transmission types up to this one wait for SYNC.
@@ -46,7 +47,7 @@ fn bad_if(bad: bool) -> u32
 
 // What the rule of a role gives for a value.
 fn role_verdict(d: &[u8], role: Role, v: u32) -> u32
-    requires { ⌜ (length (now d) ≡ 389) × (pdoOf role < 8) ⌝ }
+    requires { ⌜ (length (now d) ≡ dictionaryLength) × IsPdo (pdoOf role) ⌝ }
     ensures { λ r. ⌜ r ≡ verdictCode (roleVerdict (now (d .entry)) role v) ⌝ }
 {
     match role {
@@ -61,7 +62,7 @@ fn role_verdict(d: &[u8], role: Role, v: u32) -> u32
 
 // What an SDO write of that value to the entry gives: 0 or the abort code.
 pub fn value_verdict(d: &[u8], e: Entry, v: u32) -> u32
-    requires { ⌜ (length (now d) ≡ 389) × (pdoOf (e .role) < 8) ⌝ }
+    requires { ⌜ (length (now d) ≡ dictionaryLength) × IsPdo (pdoOf (e .role)) ⌝ }
     ensures { λ r. ⌜ r ≡ verdictCode (valueVerdictOf (now (d .entry)) e v) ⌝ }
 {
     if v < e.least {

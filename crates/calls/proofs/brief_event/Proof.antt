@@ -2,6 +2,7 @@
 use native.Mathlib.Omega.{arith}
 use mathlib.Core.Path.{sym, _∙_, subst}
 use borrow.Author.Tests.{not-true, not-false}
+use Rattle.rules_dictionary.specs.Table.{table, dictionaryLength}
 use Rattle.rules.specs.Calls.{eventCall, answered}
 use Rattle.events.proofs.Laws.{refused-bad, refused-out, does-it}
 use Rattle.theorems.proofs.Runs.{ToldFits, arguments-fit}
@@ -16,6 +17,7 @@ refuse-requires : tie.Need-refuse-requires
 refuse-requires c κs = search needs
 
 returns : tie.Need-returns
+unfolding dictionaryLength table
 returns c =
     let a = c .before .before .before .before .before .args in
     refused-gives (c .refuse .ensures) (no-dictionary (eventCall (a .number) (a .arguments .now)) (a .s) (a .d .now) (a .output .now) (c .before .if1 .taken))
@@ -24,11 +26,13 @@ refuse-requires-2 : tie.Need-refuse-requires-2
 refuse-requires-2 c κs = search needs
 
 returns-2 : tie.Need-returns-2
+unfolding dictionaryLength table
 returns-2 c =
     let a = c .before .before .before .before .before .before .args in
     refused-gives (c .refuse2 .ensures) (no-room (eventCall (a .number) (a .arguments .now)) (a .s) (a .d .now) (a .output .now) (c .before .before .if1 .left) (c .before .if2 .taken))
 
 is-sound-requires : tie.Need-is-sound-requires
+unfolding dictionaryLength table
 is-sound-requires c κs = search needs
 
 refuse-requires-3 : tie.Need-refuse-requires-3
@@ -38,6 +42,7 @@ same-length : tie.Need-same-length
 same-length c = search needs
 
 returns-3 : tie.Need-returns-3
+unfolding dictionaryLength table
 returns-3 c =
     let t = c .before .before in
     let e = t .before .before in
@@ -59,6 +64,7 @@ same-length-2 : tie.Need-same-length-2
 same-length-2 c = search needs
 
 returns-4 : tie.Need-returns-4
+unfolding dictionaryLength table
 returns-4 c =
     let b = c .before .before in
     let v = b .before in
@@ -80,6 +86,7 @@ same-length-3 : tie.Need-same-length-3
 same-length-3 c = search needs
 
 returns-5 : tie.Need-returns-5
+unfolding dictionaryLength table
 returns-5 c =
     let p = c .before .before in
     let b = p .before .before in
@@ -93,6 +100,7 @@ returns-5 c =
     ∙ refused-out (a .s) (a .d .now) (v .event-of .result) (sym (b .is-bad .ensures) ∙ p .before .if4 .left) (sym (p .is-in-place .ensures) ∙ not-true _ (c .before .if5 .taken))))
 
 happen-requires : tie.Need-happen-requires
+unfolding dictionaryLength table
 happen-requires c κs =
     let p = c .before .before .before in
     let b = p .before .before in
@@ -115,7 +123,7 @@ same-length-5 : tie.Need-same-length-5
 same-length-5 c = search needs
 
 returns-6 : tie.Need-returns-6
-unfolding answered
+unfolding answered dictionaryLength table
 returns-6 c =
     let p = c .before .before .before .before .before .before .before .before in
     let b = p .before .before in

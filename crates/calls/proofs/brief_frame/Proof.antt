@@ -4,6 +4,7 @@ use mathlib.Core.Path.{sym, _∙_, ap, subst}
 use mathlib.Core.List.{List}
 use Prim.Native.Nat.{ℕ}
 use borrow.Author.Tests.{not-true, not-false}
+use Rattle.rules_dictionary.specs.Table.{table, dictionaryLength}
 use Rattle.rules.specs.Outcome.{ended}
 use Rattle.rules.specs.Calls.{frameCall, framed, does, accepted, answered}
 use Rattle.plans.proofs.Assembly.{are-bytes}
@@ -19,6 +20,7 @@ refuse-requires : tie.Need-refuse-requires
 refuse-requires c κs = search needs
 
 returns : tie.Need-returns
+unfolding dictionaryLength table
 returns c =
     let a = c .before .before .before .before .before .args in
     refused-gives (c .refuse .ensures) (no-dictionary (frameCall (a .identifier) (a .bytes .now)) (a .s) (a .d .now) (a .output .now) (c .before .if1 .taken))
@@ -27,11 +29,13 @@ refuse-requires-2 : tie.Need-refuse-requires-2
 refuse-requires-2 c κs = search needs
 
 returns-2 : tie.Need-returns-2
+unfolding dictionaryLength table
 returns-2 c =
     let a = c .before .before .before .before .before .before .args in
     refused-gives (c .refuse2 .ensures) (no-room (frameCall (a .identifier) (a .bytes .now)) (a .s) (a .d .now) (a .output .now) (c .before .before .if1 .left) (c .before .if2 .taken))
 
 is-sound-requires : tie.Need-is-sound-requires
+unfolding dictionaryLength table
 is-sound-requires c κs = search needs
 
 refuse-requires-3 : tie.Need-refuse-requires-3
@@ -41,6 +45,7 @@ same-length : tie.Need-same-length
 same-length c = search needs
 
 returns-3 : tie.Need-returns-3
+unfolding dictionaryLength table
 returns-3 c =
     let t = c .before .before in
     let e = t .before .before in
@@ -55,6 +60,7 @@ same-length-2 : tie.Need-same-length-2
 same-length-2 c = search needs
 
 returns-4 : tie.Need-returns-4
+unfolding dictionaryLength table
 returns-4 c =
     let t = c .before .before .before in
     let e = t .before .before in
@@ -69,6 +75,7 @@ same-length-3 : tie.Need-same-length-3
 same-length-3 c = search needs
 
 returns-5 : tie.Need-returns-5
+unfolding dictionaryLength table
 returns-5 c =
     let t = c .before .before .before .before in
     let e = t .before .before in
@@ -83,6 +90,7 @@ content-of-requires : tie.Need-content-of-requires
 content-of-requires c κs = search needs
 
 take-frame-requires : tie.Need-take-frame-requires
+unfolding dictionaryLength table
 take-frame-requires c κs =
     let v = c .before .before in
     let t = v .before .before .before .before in
@@ -100,7 +108,7 @@ same-length-5 : tie.Need-same-length-5
 same-length-5 c = search needs
 
 returns-6 : tie.Need-returns-6
-unfolding answered
+unfolding answered dictionaryLength table
 returns-6 c =
     let v = c .before .before .before .before .before .before .before in
     let t = v .before .before .before .before in

@@ -1,5 +1,6 @@
 -- `calls::brief_power_up` meets its contract. Assumes nothing.
 use mathlib.Core.Path.{sym}
+use Rattle.rules_dictionary.specs.Table.{table, dictionaryLength}
 use Rattle.rules_services.specs.Nmt.{powerUp}
 use Rattle.rules.specs.Calls.{powerUpCall, does, answered}
 use Rattle.calls.proofs.Refusals.{no-dictionary, no-room, decides, decides-not, too-low, too-high, a-node}
@@ -13,6 +14,7 @@ refuse-requires : tie.Need-refuse-requires
 refuse-requires c κs = search needs
 
 returns : tie.Need-returns
+unfolding dictionaryLength table
 returns c =
     let a = c .before .before .before .before .args in
     refused-gives (c .refuse .ensures) (no-dictionary (powerUpCall (a .n)) (a .s) (a .d .now) (a .output .now) (c .before .if1 .taken))
@@ -21,6 +23,7 @@ refuse-requires-2 : tie.Need-refuse-requires-2
 refuse-requires-2 c κs = search needs
 
 returns-2 : tie.Need-returns-2
+unfolding dictionaryLength table
 returns-2 c =
     let a = c .before .before .before .before .before .args in
     refused-gives (c .refuse2 .ensures) (no-room (powerUpCall (a .n)) (a .s) (a .d .now) (a .output .now) (c .before .before .if1 .left) (c .before .if2 .taken))
@@ -29,6 +32,7 @@ refuse-requires-3 : tie.Need-refuse-requires-3
 refuse-requires-3 c κs = search needs
 
 returns-3 : tie.Need-returns-3
+unfolding dictionaryLength table
 returns-3 c =
     let a = c .before .before .before .before .before .before .args in
     refused-gives (c .refuse3 .ensures)
@@ -38,6 +42,7 @@ refuse-requires-4 : tie.Need-refuse-requires-4
 refuse-requires-4 c κs = search needs
 
 returns-4 : tie.Need-returns-4
+unfolding dictionaryLength table
 returns-4 c =
     let a = c .before .before .before .before .before .before .before .args in
     refused-gives (c .refuse4 .ensures)
@@ -47,6 +52,7 @@ cast-start : tie.Need-cast-start
 cast-start c = search needs
 
 start-requires : tie.Need-start-requires
+unfolding dictionaryLength table
 start-requires c κs = search needs
 
 anew-requires : tie.Need-anew-requires
@@ -61,7 +67,7 @@ same-length-2 : tie.Need-same-length-2
 same-length-2 c = search needs
 
 returns-5 : tie.Need-returns-5
-unfolding answered
+unfolding answered dictionaryLength table
 returns-5 c =
     let w = c .before .before in
     let r = w .before .before .before .before .before .before in

@@ -1,6 +1,7 @@
 -- `cendurak::cendurak_frame` meets its contract. Assumes nothing.
 use mathlib.Core.Path.{refl, sym, _∙_}
 use borrow.Author.Tests.{not-true, not-false}
+use Rattle.rules_dictionary.specs.Table.{table, dictionaryLength}
 use Rattle.rules.specs.Calls.{frameCall}
 use Rattle.cendurak.proofs.Laws.{short-dictionary, short-output, no-state, made-brief, other-length, no-form, a-form}
 use borrow.Author.Needs.{needs}
@@ -8,12 +9,15 @@ use Rattle.cendurak.proofs.cendurak_frame.Statement.{statement}
 use Rattle.cendurak.proofs.cendurak_frame.Tie as tie
 
 returns : tie.Need-returns
+unfolding dictionaryLength table
 returns c = let a = c .before .before .before .before .before .args in short-dictionary (frameCall (a .identifier) (a .bytes .now)) (a .state .now) (a .dict .now) (a .out .now) (c .if1 .taken)
 
 returns-2 : tie.Need-returns-2
+unfolding dictionaryLength table
 returns-2 c = let a = c .before .before .before .before .before .before .args in short-output (frameCall (a .identifier) (a .bytes .now)) (a .state .now) (a .dict .now) (a .out .now) (c .before .if1 .left) (c .if2 .taken)
 
 returns-3 : tie.Need-returns-3
+unfolding dictionaryLength table
 returns-3 c =
     let a = c .before .before .before .before .before .before .before .args in
     no-state (frameCall (a .identifier) (a .bytes .now)) (a .state .now) (a .dict .now) (a .out .now) (c .before .before .if1 .left) (c .before .if2 .left) refl (other-length (a .state .now) (c .if3 .taken))
@@ -25,6 +29,7 @@ same-length : tie.Need-same-length
 same-length c = search needs
 
 returns-4 : tie.Need-returns-4
+unfolding dictionaryLength table
 returns-4 c =
     let t = c .before in
     let e = t .before .before in
@@ -35,6 +40,7 @@ read-state-requires : tie.Need-read-state-requires
 read-state-requires c κs = search needs
 
 brief-frame-requires : tie.Need-brief-frame-requires
+unfolding dictionaryLength table
 brief-frame-requires c κs = search needs
 
 leave-brief-requires : tie.Need-leave-brief-requires

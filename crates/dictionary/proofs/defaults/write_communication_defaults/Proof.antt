@@ -3,16 +3,20 @@ use lib.ListN.{length-set}
 use native.Mathlib.Omega.{arith}
 use Rattle.dictionary.proofs.Filled.{communication-for-node}
 use borrow.Author.Needs.{needs}
+use Rattle.rules_dictionary.specs.Table.{table, dictionaryLength, open-table}
 use Rattle.dictionary.proofs.defaults.write_communication_defaults.Statement.{statement}
 use Rattle.dictionary.proofs.defaults.write_communication_defaults.Tie as tie
 
 slice-read-register : tie.Need-slice-read-register
+unfolding dictionaryLength table
 slice-read-register c = search needs
 
 write-first-requires : tie.Need-write-first-requires
+unfolding dictionaryLength table
 write-first-requires c κs = search needs
 
 slice-write-d : tie.Need-slice-write-d
+unfolding dictionaryLength table
 slice-write-d c = search needs
 
 write-node-identifiers-requires : tie.Need-write-node-identifiers-requires
@@ -22,6 +26,7 @@ same-length : tie.Need-same-length
 same-length c = omega (arith, simp length-set at (c .before .before .write-node-identifiers .kept .0))
 
 returns : tie.Need-returns
+unfolding open-table
 returns c =
     let node = c .before .before in
     let all = node .before .before .before .before in

@@ -1,10 +1,12 @@
 -- `dictionary::defaults::write_defaults` meets its contract. Assumes nothing.
 use Rattle.dictionary.proofs.Filled.{for-node}
 use borrow.Author.Needs.{needs}
+use Rattle.rules_dictionary.specs.Table.{table, dictionaryLength}
 use Rattle.dictionary.proofs.defaults.write_defaults.Statement.{statement}
 use Rattle.dictionary.proofs.defaults.write_defaults.Tie as tie
 
 write-first-requires : tie.Need-write-first-requires
+unfolding dictionaryLength table
 write-first-requires c κs = search needs
 
 write-node-identifiers-requires : tie.Need-write-node-identifiers-requires
@@ -14,6 +16,7 @@ same-length : tie.Need-same-length
 same-length c = search needs
 
 returns : tie.Need-returns
+unfolding dictionaryLength table
 returns c =
     let node = c .before .before in
     let all = node .before .before .before .before in

@@ -8,7 +8,7 @@ use lib.ListN.{length, length-set}
 use lib.Seq.{paste}
 use Rattle.rules_dictionary.proofs.Defaults.{packedDefaults}
 use Rattle.rules_dictionary.specs.Numbers.{bytes}
-use Rattle.rules_dictionary.specs.Table.{table}
+use Rattle.rules_dictionary.specs.Table.{table, dictionaryLength}
 use Rattle.dictionary.proofs.Filled.{copied}
 use Rattle.dictionary.proofs.defaults.write_first.Statement.{statement}
 use Rattle.dictionary.proofs.defaults.write_first.Tie as tie
@@ -23,6 +23,7 @@ loop-holds : tie.Need-loop-holds Inv-loop μ-loop
 loop-holds c = (refl, omega arith, refl)
 
 array-read-d : tie.Need-array-read-d Inv-loop μ-loop
+unfolding dictionaryLength table
 array-read-d c = search needs
 
 slice-write-d : tie.Need-slice-write-d Inv-loop μ-loop
@@ -35,6 +36,7 @@ loop-less : tie.Need-loop-less Inv-loop μ-loop
 loop-less c = search needs
 
 loop-again : tie.Need-loop-again Inv-loop μ-loop
+unfolding dictionaryLength table
 loop-again c =
     let l = c .before .loop in
     let start = c .before .before in

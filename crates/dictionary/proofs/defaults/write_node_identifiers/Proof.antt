@@ -4,11 +4,11 @@ use borrow.Author.Needs.{needs}
 use Rattle.dictionary.proofs.defaults.write_node_identifiers.Statement.{statement}
 use Rattle.dictionary.proofs.defaults.write_node_identifiers.Tie as tie
 
-add-write4 : tie.Need-add-write4
-add-write4 c = search needs
+add-set-emergency-identifier : tie.Need-add-set-emergency-identifier
+add-set-emergency-identifier c = search needs
 
-write4-requires : tie.Need-write4-requires
-write4-requires c κs = search needs
+set-emergency-identifier-requires : tie.Need-set-emergency-identifier-requires
+set-emergency-identifier-requires c κs = search needs
 
 write-identifiers-requires : tie.Need-write-identifiers-requires
 write-identifiers-requires c κs = search needs
@@ -25,15 +25,15 @@ returns c =
     let first = second .before .before .before .before in
     let emergency = first .before .before .before .before in
     let start = emergency .before .before .before in
-    rw (second .write-identifiers2 .ensures, first .write-identifiers .ensures, emergency .write4 .ensures)
+    rw (second .write-identifiers2 .ensures, first .write-identifiers .ensures, emergency .set-emergency-identifier .ensures)
     (by-direction (start .args .n) (start .args .d .now))
 
 pub write-node-identifiers-spec : {M : Type 1} → statement M
 write-node-identifiers-spec =
     tie.close
     (tie.spec
-    add-write4
-    write4-requires
+    add-set-emergency-identifier
+    set-emergency-identifier-requires
     write-identifiers-requires
     write-identifiers-requires-2
     same-length

@@ -11,24 +11,24 @@ returns-2 c = rw (c .if2 .taken)
 returns-3 : tie.Need-returns-3
 returns-3 c =
     simp (
-      ne-eqb (c .before .before .before .args .range) 7 (c .before .before .if1 .left),
-      ne-eqb (c .before .before .before .args .range) 8 (c .before .if2 .left),
+      ne-eqb (c .before .before .before .args .range) 2 (c .before .before .if1 .left),
+      ne-eqb (c .before .before .before .args .range) 3 (c .before .if2 .left),
       c .match .keys1,
     )
 
 returns-4 : tie.Need-returns-4
 returns-4 c =
     simp (
-      ne-eqb (c .before .before .before .args .range) 7 (c .before .before .if1 .left),
-      ne-eqb (c .before .before .before .args .range) 8 (c .before .if2 .left),
+      ne-eqb (c .before .before .before .args .range) 2 (c .before .before .if1 .left),
+      ne-eqb (c .before .before .before .args .range) 3 (c .before .if2 .left),
       c .match .keys2,
     )
 
 returns-5 : tie.Need-returns-5
 returns-5 c =
     simp (
-      ne-eqb (c .before .before .before .args .range) 7 (c .before .before .if1 .left),
-      ne-eqb (c .before .before .before .args .range) 8 (c .before .if2 .left),
+      ne-eqb (c .before .before .before .args .range) 2 (c .before .before .if1 .left),
+      ne-eqb (c .before .before .before .args .range) 3 (c .before .if2 .left),
       ne-eqb (c .before .before .before .args .size) 1 (c .match .rest .0 .1),
       ne-eqb (c .before .before .before .args .size) 2 (c .match .rest .1),
     )

@@ -1,12 +1,11 @@
 -- `drive::Drive::control_written` meets its contract. Assumes nothing.
 use borrow.Author.Needs.{needs}
-use Rattle.rules_dictionary.specs.Values.{read}
 use Rattle.drive.specs.SetPoints.{controlWritten}
 use Rattle.drive.proofs.Drive.control_written.Statement.{statement}
 use Rattle.drive.proofs.Drive.control_written.Tie as tie
 
-read2-requires : tie.Need-read2-requires
-read2-requires c κs = search needs
+control-word-requires : tie.Need-control-word-requires
+control-word-requires c κs = search needs
 
 command-requires : tie.Need-command-requires
 command-requires c κs = search needs
@@ -24,15 +23,15 @@ resets-requires : tie.Need-resets-requires
 resets-requires c κs = search needs
 
 returns : tie.Need-returns
-unfolding controlWritten read
+unfolding controlWritten
 returns c =
-    rw (c .resets .ensures, c .before .set-point-rule .ensures, c .before .before .enters .ensures, c .before .before .before .next .ensures, c .before .before .before .before .command .ensures, c .before .before .before .before .before .read2 .ensures)
+    rw (c .resets .ensures, c .before .set-point-rule .ensures, c .before .before .enters .ensures, c .before .before .before .next .ensures, c .before .before .before .before .command .ensures, c .before .before .before .before .before .control-word .ensures)
 
 pub control-written-spec : {M : Type 1} → statement M
 control-written-spec =
     tie.close
     (tie.spec
-    read2-requires
+    control-word-requires
     command-requires
     next-requires
     enters-requires

@@ -2,7 +2,7 @@
 use mathlib.Core.Path.{refl}
 use borrow.Author.Needs.{needs}
 use Rattle.drive.specs.DriveStates.{next}
-use Rattle.drive.proofs.Ways.{found-to-be}
+use Rattle.dictionary.proofs.Ways.{found-to-be}
 use Rattle.drive.proofs.states.next.Statement.{statement}
 use Rattle.drive.proofs.states.next.Tie as tie
 

@@ -2,7 +2,7 @@
 use mathlib.Core.Path.{refl}
 use borrow.Author.Needs.{needs}
 use Rattle.drive.specs.StatusWord.{ackInMode}
-use Rattle.drive.proofs.Ways.{found-to-be}
+use Rattle.dictionary.proofs.Ways.{found-to-be}
 use Rattle.drive.proofs.status.is_ack.Statement.{statement}
 use Rattle.drive.proofs.status.is_ack.Tie as tie
 

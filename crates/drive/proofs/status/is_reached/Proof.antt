@@ -2,7 +2,8 @@
 use mathlib.Core.Path.{_∙_, refl, sym}
 use borrow.Author.Needs.{needs}
 use Rattle.drive.specs.StatusWord.{reachedInMode}
-use Rattle.drive.proofs.Ways.{where-true, where-false, found-to-be}
+use Rattle.dictionary.proofs.Ways.{found-to-be}
+use Rattle.drive.proofs.Ways.{where-true, where-false}
 use Rattle.drive.proofs.status.is_reached.Statement.{statement}
 use Rattle.drive.proofs.status.is_reached.Tie as tie
 

@@ -8,26 +8,26 @@ use Rattle.drive.proofs.Shown.{within-same, within-zero}
 use Rattle.drive.proofs.status.is_slow.Statement.{statement}
 use Rattle.drive.proofs.status.is_slow.Tie as tie
 
-read2-requires : tie.Need-read2-requires
-read2-requires c κs = search needs
+velocity-threshold-requires : tie.Need-velocity-threshold-requires
+velocity-threshold-requires c κs = search needs
 
 wide-requires : tie.Need-wide-requires
 wide-requires c κs = search needs
 
-read4-requires : tie.Need-read4-requires
-read4-requires c κs = search needs
+velocity-requires : tie.Need-velocity-requires
+velocity-requires c κs = search needs
 
 is-within-requires : tie.Need-is-within-requires
 is-within-requires c κs = search needs
 
 returns : tie.Need-returns
-unfolding slow read
+unfolding slow
 returns c =
     let d = c .before .before .before .before .before .args .d .now in
     c .is-within .ensures
-    ∙ within-same _ _ _ _ 0 0 (c .before .before .wide .ensures ∙ c .before .before .before .read2 .ensures) (c .before .read4 .ensures) refl
+    ∙ within-same _ _ _ _ 0 0 (c .before .before .wide .ensures ∙ c .before .before .before .velocity-threshold .ensures) (c .before .velocity .ensures) refl
     ∙ within-zero (read d velocityThreshold) (read d velocity)
 
 pub is-slow-spec : {M : Type 1} → statement M
 is-slow-spec =
-    tie.close (tie.spec read2-requires wide-requires read4-requires is-within-requires returns)
+    tie.close (tie.spec velocity-threshold-requires wide-requires velocity-requires is-within-requires returns)

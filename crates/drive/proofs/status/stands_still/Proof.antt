@@ -2,17 +2,16 @@
 use mathlib.Core.Path.{ap}
 use borrow.Author.Needs.{needs}
 use lib.Dec.{eqb}
-use Rattle.rules_dictionary.specs.Values.{read}
 use Rattle.drive.specs.StatusWord.{standsStill}
 use Rattle.drive.proofs.status.stands_still.Statement.{statement}
 use Rattle.drive.proofs.status.stands_still.Tie as tie
 
-read4-requires : tie.Need-read4-requires
-read4-requires c κs = search needs
+velocity-requires : tie.Need-velocity-requires
+velocity-requires c κs = search needs
 
 returns : tie.Need-returns
-unfolding standsStill read
-returns c = ap (λ w. eqb w 0) (c .read4 .ensures)
+unfolding standsStill
+returns c = ap (λ w. eqb w 0) (c .velocity .ensures)
 
 pub stands-still-spec : {M : Type 1} → statement M
-stands-still-spec = tie.close (tie.spec read4-requires returns)
+stands-still-spec = tie.close (tie.spec velocity-requires returns)

@@ -5,8 +5,8 @@ use borrow.Author.Needs.{needs}
 use Rattle.effects.proofs.acting.fault_reset.Statement.{statement}
 use Rattle.effects.proofs.acting.fault_reset.Tie as tie
 
-write1-requires : tie.Need-write1-requires
-write1-requires c κs = search needs
+set-error-register-requires : tie.Need-set-error-register-requires
+set-error-register-requires c κs = search needs
 
 emergency-requires : tie.Need-emergency-requires
 emergency-requires c κs = search needs
@@ -21,8 +21,8 @@ returns : tie.Need-returns
 returns c =
     let w = c .before .before .before .before .before .before .before .before in
     let a = w .before .before .before .before .args in
-    (reset-left (a .parts) (a .n) _ (a .d .now) (a .output .now) _ _ (w .write1 .ensures) (c .before .before .emergency .ensures), refl)
+    (reset-left (a .parts) (a .n) _ (a .d .now) (a .output .now) _ _ (w .set-error-register .ensures) (c .before .before .emergency .ensures), refl)
 
 pub fault-reset-spec : {M : Type 1} → statement M
 fault-reset-spec =
-    tie.close (tie.spec write1-requires emergency-requires same-length same-length-2 returns)
+    tie.close (tie.spec set-error-register-requires emergency-requires same-length same-length-2 returns)

@@ -13,8 +13,8 @@ returns c =
     let a = c .before .before .before .before .args in
     silent (a .code) (a .node) (a .d .now) (a .n) (a .output .now) (sym (c .before .is-stopped .ensures) ∙ c .if1 .taken)
 
-read1-requires : tie.Need-read1-requires
-read1-requires c κs = search needs
+error-register-requires : tie.Need-error-register-requires
+error-register-requires c κs = search needs
 
 emergency-data-requires : tie.Need-emergency-data-requires
 emergency-data-requires c κs = search needs
@@ -38,7 +38,7 @@ returns-2 c =
     let b = c .before .before .before .before .before in
     let h = b .before .before .before in
     let a = h .before .before .before .args in
-    spoken (a .code) (a .node) (a .d .now) _ _ (a .n) _ (a .output .now) _ (sym (h .is-stopped .ensures) ∙ b .before .before .if1 .left) (b .before .read1 .ensures) (b .emergency-data .ensures) (c .before .before .send .ensures)
+    spoken (a .code) (a .node) (a .d .now) _ _ (a .n) _ (a .output .now) _ (sym (h .is-stopped .ensures) ∙ b .before .before .if1 .left) (b .before .error-register .ensures) (b .emergency-data .ensures) (c .before .before .send .ensures)
 
 pub emergency-spec : {M : Type 1} → statement M
 emergency-spec =
@@ -46,7 +46,7 @@ emergency-spec =
     (tie.spec
     is-stopped-requires
     returns
-    read1-requires
+    error-register-requires
     emergency-data-requires
     cast-send
     add-send

@@ -18,14 +18,17 @@ returns c =
     let e = pace-shut (a .d .now) (a .t) (a .synced) (a .changed) (a .count) (a .due) shut in
     went-unsent p _ (ap paced (sym e)) (a .d .now) (a .t) (a .content) (a .n) (a .output .now) refl
 
-type-of-requires : tie.Need-type-of-requires
-type-of-requires c κs = search needs
+add-p : tie.Need-add-p
+add-p c = search needs
+
+transmission-type-requires : tie.Need-transmission-type-requires
+transmission-type-requires c κs = search needs
 
 pace-of-requires : tie.Need-pace-of-requires
 pace-of-requires c κs =
     let start = c .before .before .before .before .before in
     let on = sym (c .before .before .is-open .ensures) ∙ not-false _ (c .before .if1 .left) in
-    rw (c .type-of .ensures) (start .pre .1 .1 .1 .1 .1 on)
+    rw (c .transmission-type .ensures) (start .pre .1 .1 .1 .1 .1 on)
 
 returns-2 : tie.Need-returns-2
 returns-2 c =
@@ -34,7 +37,7 @@ returns-2 c =
     let p = openPace (a .d .now) (a .t) (a .synced) (a .changed) (a .count) (a .due) in
     let on = sym (told .before .before .before .is-open .ensures) ∙ not-false _ (told .before .before .if1 .left) in
     let e = pace-open (a .d .now) (a .t) (a .synced) (a .changed) (a .count) (a .due) on in
-    let q : told .pace-of .result ≡ paced p = rw (e, ← (told .before .type-of .ensures)) (told .pace-of .ensures) in
+    let q : told .pace-of .result ≡ paced p = rw (e, ← (told .before .transmission-type .ensures)) (told .pace-of .ensures) in
     went-unsent p _ q (a .d .now) (a .t) (a .content) (a .n) (a .output .now) (not-true _ (c .if2 .taken))
 
 identifier-requires : tie.Need-identifier-requires
@@ -58,7 +61,7 @@ returns-3 c =
     let p = openPace (a .d .now) (a .t) (a .synced) (a .changed) (a .count) (a .due) in
     let on = sym (told .before .before .before .is-open .ensures) ∙ not-false _ (told .before .before .if1 .left) in
     let e = pace-open (a .d .now) (a .t) (a .synced) (a .changed) (a .count) (a .due) on in
-    let q : told .pace-of .result ≡ paced p = rw (e, ← (told .before .type-of .ensures)) (told .pace-of .ensures) in
+    let q : told .pace-of .result ≡ paced p = rw (e, ← (told .before .transmission-type .ensures)) (told .pace-of .ensures) in
     rw (sent .send .ensures .0)
     (went-sent p _ q (a .d .now) (a .t) (a .content) (a .n) (a .output .now) (not-false _ (test .if2 .left)) _ (sent .before .identifier .ensures) _ (sent .send .ensures .1))
 
@@ -68,7 +71,8 @@ transmit-spec =
     (tie.spec
     is-open-requires
     returns
-    type-of-requires
+    add-p
+    transmission-type-requires
     pace-of-requires
     returns-2
     identifier-requires

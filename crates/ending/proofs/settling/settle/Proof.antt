@@ -1,13 +1,11 @@
 -- `ending::settling::settle` meets its contract. Assumes nothing.
-use Prim.Native.Nat.{ℕ}
 use mathlib.Core.Path.{_≡_, refl, sym, _∙_, ap}
 use mathlib.Core.Bool.{true, true≢false}
-use mathlib.Core.List.{List}
 use native.Mathlib.Omega.{arith}
 use borrow.Author.Tests.{eqb-true}
-use lib.Seq.{sets}
-use Rattle.rules_dictionary.specs.Numbers.{bytes, areBytes}
+use Rattle.rules_dictionary.specs.Numbers.{areBytes}
 use Rattle.rules_dictionary.specs.Table.{modeDisplay}
+use Rattle.rules_dictionary.specs.Values.{store}
 use Rattle.plans.proofs.Assembly.{are-bytes}
 use Rattle.ending.proofs.Making.{word-made, both-written, both-stand}
 use borrow.Author.Needs.{needs}
@@ -23,11 +21,11 @@ status-requires c κs = search needs
 mode-number-requires : tie.Need-mode-number-requires
 mode-number-requires c κs = search needs
 
-read2-requires : tie.Need-read2-requires
-read2-requires c κs = search needs
+status-word-requires : tie.Need-status-word-requires
+status-word-requires c κs = search needs
 
-read1-requires : tie.Need-read1-requires
-read1-requires c κs = search needs
+mode-display-requires : tie.Need-mode-display-requires
+mode-display-requires c κs = search needs
 
 same-length : tie.Need-same-length
 same-length c = search needs
@@ -42,14 +40,14 @@ returns c =
     let a = entry .before .args in
     let w = word-made (a .node) (a .drive) (a .d .now) _ _ (remote .is-remote .ensures) (known .before .status .ensures) in
     let b : areBytes (a .d .now) ≡ true = are-bytes (a .d .now) (λ i h. omega (arith, entry .slice-known .given i)) in
-    let e = both-stand (a .node) (a .drive) (a .d .now) _ _ w (known .mode-number .ensures) b (entry .before .pre) (sym (first .before .read2 .ensures) ∙ first .if1 .taken) (sym (second .read1 .ensures) ∙ eqb-true _ _ (c .if2 .taken)) in
+    let e = both-stand (a .node) (a .drive) (a .d .now) _ _ w (known .mode-number .ensures) b (entry .before .pre) (sym (first .before .status-word .ensures) ∙ first .if1 .taken) (sym (second .mode-display .ensures) ∙ eqb-true _ _ (c .if2 .taken)) in
     (e, λ h. (h, refl))
 
-write2-requires : tie.Need-write2-requires
-write2-requires c κs = search needs
+set-status-word-requires : tie.Need-set-status-word-requires
+set-status-word-requires c κs = search needs
 
-write1-requires : tie.Need-write1-requires
-write1-requires c κs = search needs
+set-mode-display-requires : tie.Need-set-mode-display-requires
+set-mode-display-requires c κs = search needs
 
 same-length-2 : tie.Need-same-length-2
 same-length-2 c = search needs
@@ -62,8 +60,8 @@ returns-2 c =
     let remote = known .before .before .before in
     let a = remote .before .before .args in
     let w = word-made (a .node) (a .drive) (a .d .now) _ _ (remote .is-remote .ensures) (known .before .status .ensures) in (
-      written .write1 .ensures
-          ∙ ap (λ (l : List ℕ). sets l (modeDisplay .place) (bytes 1 (known .mode-number .result))) (word .write2 .ensures)
+      written .set-mode-display .ensures
+          ∙ ap (store modeDisplay (known .mode-number .result)) (word .set-status-word .ensures)
           ∙ both-written (a .node) (a .drive) (a .d .now) _ _ w (known .mode-number .ensures),
       λ h. absurd (true≢false h),
     )
@@ -75,11 +73,11 @@ settle-spec =
     is-remote-requires
     status-requires
     mode-number-requires
-    read2-requires
-    read1-requires
+    status-word-requires
+    mode-display-requires
     same-length
     returns
-    write2-requires
-    write1-requires
+    set-status-word-requires
+    set-mode-display-requires
     same-length-2
     returns-2)

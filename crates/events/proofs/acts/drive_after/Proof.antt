@@ -2,7 +2,7 @@
 use mathlib.Core.Path.{_∙_, ap}
 use Rattle.drive.specs.declared.Store.{Store}
 use Rattle.drive.specs.SetPoints.{withStore}
-use Rattle.drive.proofs.Ways.{found-to-be}
+use Rattle.dictionary.proofs.Ways.{found-to-be}
 use Rattle.events.specs.Telling.{driveAfter}
 use borrow.Author.Needs.{needs}
 use Rattle.events.proofs.acts.drive_after.Statement.{statement}

@@ -4,11 +4,11 @@ use borrow.Author.Needs.{needs}
 use Rattle.events.proofs.acts.fed_back.Statement.{statement}
 use Rattle.events.proofs.acts.fed_back.Tie as tie
 
-write4-requires : tie.Need-write4-requires
-write4-requires c κs = search needs
+set-position-requires : tie.Need-set-position-requires
+set-position-requires c κs = search needs
 
-write4-requires-2 : tie.Need-write4-requires-2
-write4-requires-2 c κs = search needs
+set-velocity-requires : tie.Need-set-velocity-requires
+set-velocity-requires c κs = search needs
 
 parts-of-requires : tie.Need-parts-of-requires
 parts-of-requires c κs = search needs
@@ -21,8 +21,8 @@ returns c =
     let second = c .before .before .before in
     let first = second .before .before .before .before in
     let a = first .before .before .before .args in
-    (fed-parts (a .s) _ (c .parts-of .ensures), fed (a .at) (a .speed) (a .d .now) _ _ (first .write4 .ensures) (second .write42 .ensures))
+    (fed-parts (a .s) _ (c .parts-of .ensures), fed (a .at) (a .speed) (a .d .now) _ _ (first .set-position .ensures) (second .set-velocity .ensures))
 
 pub fed-back-spec : {M : Type 1} → statement M
 fed-back-spec =
-    tie.close (tie.spec write4-requires write4-requires-2 parts-of-requires same-length returns)
+    tie.close (tie.spec set-position-requires set-velocity-requires parts-of-requires same-length returns)

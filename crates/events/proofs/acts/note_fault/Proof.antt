@@ -4,14 +4,14 @@ use borrow.Author.Needs.{needs}
 use Rattle.events.proofs.acts.note_fault.Statement.{statement}
 use Rattle.events.proofs.acts.note_fault.Tie as tie
 
-read1-requires : tie.Need-read1-requires
-read1-requires c κs = search needs
+error-register-requires : tie.Need-error-register-requires
+error-register-requires c κs = search needs
 
-write2-requires : tie.Need-write2-requires
-write2-requires c κs = search needs
+set-error-code-requires : tie.Need-set-error-code-requires
+set-error-code-requires c κs = search needs
 
-write1-requires : tie.Need-write1-requires
-write1-requires c κs = search needs
+set-error-register-requires : tie.Need-set-error-register-requires
+set-error-register-requires c κs = search needs
 
 same-length : tie.Need-same-length
 same-length c = search needs
@@ -22,8 +22,8 @@ returns c =
     let coded = gained .before .before .before .before in
     let was = coded .before .before in
     let a = was .before .before .before .args in
-    noted (a .code) (a .register) _ (a .d .now) _ _ (was .read1 .ensures) (coded .write2 .ensures) (gained .write1 .ensures)
+    noted (a .code) (a .register) _ (a .d .now) _ _ (was .error-register .ensures) (coded .set-error-code .ensures) (gained .set-error-register .ensures)
 
 pub note-fault-spec : {M : Type 1} → statement M
 note-fault-spec =
-    tie.close (tie.spec read1-requires write2-requires write1-requires same-length returns)
+    tie.close (tie.spec error-register-requires set-error-code-requires set-error-register-requires same-length returns)

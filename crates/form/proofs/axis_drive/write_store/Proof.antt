@@ -1,8 +1,9 @@
+use Prim.Native.Nat.{_+_}
 use mathlib.Core.Path.{_≡_, _∙_}
 use denote.Ref.{now}
 use lib.ListN.{set, length-set}
 use lib.Seq.{sets}
-use Rattle.form.specs.Form.{storeKind, firstOf, secondOf, setPointForm}
+use Rattle.form.specs.Form.{storeKind, firstOf, secondOf, setPointLength, setPointForm, storePlace}
 use Rattle.form.specs.Typed.{SetPointTyped}
 use Rattle.form.proofs.Rows.{store-written}
 use native.Mathlib.Omega.{arith}
@@ -37,10 +38,10 @@ returns c =
     let p = c .before .before .write-set-point2 in
     let q = c .before .before .before .before .before .before .write-set-point in
     let k = c .before .before .before .before .before .before .before .before in
-    let all : p .last .0 ≡ sets (sets (set (now (a .bytes)) 10 (storeKind (a .store))) 11 (setPointForm (firstOf (a .store)))) 27 (setPointForm (secondOf (a .store))) = cc in
+    let all : p .last .0 ≡ sets (sets (set (now (a .bytes)) storePlace (storeKind (a .store))) (storePlace + 1) (setPointForm (firstOf (a .store)))) (storePlace + 1 + setPointLength) (setPointForm (secondOf (a .store))) = cc in
     let first : SetPointTyped (firstOf (a .store)) = rw (k .before .before .first-of .ensures) at (q .ensures .1) in
     let second : SetPointTyped (secondOf (a .store)) = rw (k .before .second-of .ensures) at (p .ensures .1) in
-    (all ∙ store-written _ 10 (a .store), record { first = first; second = second })
+    (all ∙ store-written _ storePlace (a .store), record { first = first; second = second })
 
 pub write-store-spec : {M : Type 1} → statement M
 write-store-spec =

@@ -1,6 +1,5 @@
 use native.Mathlib.Omega.{arith}
 use mathlib.Core.Path.{sym, _∙_}
-use Rattle.rules_dictionary.specs.Values.{read}
 use Rattle.rules_dictionary.proofs.Tests.{here, there}
 use Rattle.legality.specs.Keys.{keyIn}
 use Rattle.legality.proofs.RowTests.{are-bytes}
@@ -9,51 +8,51 @@ use borrow.Author.Needs.{needs}
 use Rattle.legality.proofs.identifiers.identifiers_apart.Statement.{statement}
 use Rattle.legality.proofs.identifiers.identifiers_apart.Tie as tie
 
-key-at-requires : tie.Need-key-at-requires
-key-at-requires c κs = search needs
+key-of-requires : tie.Need-key-of-requires
+key-of-requires c κs = search needs
 
 returns : tie.Need-returns
-unfolding keyIn read
+unfolding keyIn
 returns c =
     let s = c .before .before .before in
     let d = s .args .d .now in
-    receive-illegal d (s .pre) (are-bytes d (λ i h. omega (arith, c .before .before .shared-slice-known .given i))) {k = keyIn d 0} here (sym (c .before .key-at .ensures) ∙ c .if1 .taken)
+    receive-illegal d (s .pre) (are-bytes d (λ i h. omega (arith, c .before .before .shared-slice-known .given i))) {k = keyIn d 0} here (sym (c .before .key-of .ensures) ∙ c .if1 .taken)
 
-key-at-requires-2 : tie.Need-key-at-requires-2
-key-at-requires-2 c κs = search needs
+key-of-requires-2 : tie.Need-key-of-requires-2
+key-of-requires-2 c κs = search needs
 
 returns-2 : tie.Need-returns-2
-unfolding keyIn read
+unfolding keyIn
 returns-2 c =
     let s = c .before .before .before .before .before in
     let d = s .args .d .now in
-    receive-illegal d (s .pre) (are-bytes d (λ i h. omega (arith, c .before .before .before .before .shared-slice-known .given i))) {k = keyIn d 1} (there here) (sym (c .before .key-at2 .ensures) ∙ c .if2 .taken)
+    receive-illegal d (s .pre) (are-bytes d (λ i h. omega (arith, c .before .before .before .before .shared-slice-known .given i))) {k = keyIn d 1} (there here) (sym (c .before .key-of2 .ensures) ∙ c .if2 .taken)
 
-key-at-requires-3 : tie.Need-key-at-requires-3
-key-at-requires-3 c κs = search needs
+key-of-requires-3 : tie.Need-key-of-requires-3
+key-of-requires-3 c κs = search needs
 
 returns-3 : tie.Need-returns-3
-unfolding keyIn read
+unfolding keyIn
 returns-3 c =
     let s = c .before .before .before .before .before .before .before in
     let d = s .args .d .now in
-    receive-illegal d (s .pre) (are-bytes d (λ i h. omega (arith, c .before .before .before .before .before .before .shared-slice-known .given i))) {k = keyIn d 2} (there (there here)) (sym (c .before .key-at3 .ensures) ∙ c .if3 .taken)
+    receive-illegal d (s .pre) (are-bytes d (λ i h. omega (arith, c .before .before .before .before .before .before .shared-slice-known .given i))) {k = keyIn d 2} (there (there here)) (sym (c .before .key-of3 .ensures) ∙ c .if3 .taken)
 
-key-at-requires-4 : tie.Need-key-at-requires-4
-key-at-requires-4 c κs = search needs
+key-of-requires-4 : tie.Need-key-of-requires-4
+key-of-requires-4 c κs = search needs
 
 returns-4 : tie.Need-returns-4
-unfolding keyIn read
+unfolding keyIn
 returns-4 c =
     let s = c .before .before .before .before .before .before .before .before .before in
     let d = s .args .d .now in
-    receive-illegal d (s .pre) (are-bytes d (λ i h. omega (arith, c .before .before .before .before .before .before .before .before .shared-slice-known .given i))) {k = keyIn d 3} (there (there (there here))) (sym (c .before .key-at4 .ensures) ∙ c .if4 .taken)
+    receive-illegal d (s .pre) (are-bytes d (λ i h. omega (arith, c .before .before .before .before .before .before .before .before .shared-slice-known .given i))) {k = keyIn d 3} (there (there (there here))) (sym (c .before .key-of4 .ensures) ∙ c .if4 .taken)
 
 transmit-legal-requires : tie.Need-transmit-legal-requires
 transmit-legal-requires c κs = search needs
 
 returns-5 : tie.Need-returns-5
-unfolding keyIn read
+unfolding keyIn
 returns-5 c =
     let fourth = c .before .before in
     let third = fourth .before .before in
@@ -63,21 +62,21 @@ returns-5 c =
     let d = s .args .d .now in
     c .transmit-legal .ensures
     ∙ receive-legal d (s .pre) (are-bytes d (λ i h. omega (arith, first .before .shared-slice-known .given i)))
-    (first .key-at .result) (second .key-at2 .result) (third .key-at3 .result) (fourth .key-at4 .result)
-    (cc (first .key-at .ensures, second .key-at2 .ensures, third .key-at3 .ensures, fourth .key-at4 .ensures))
+    (first .key-of .result) (second .key-of2 .result) (third .key-of3 .result) (fourth .key-of4 .result)
+    (cc (first .key-of .ensures, second .key-of2 .ensures, third .key-of3 .ensures, fourth .key-of4 .ensures))
     (second .before .if1 .left) (third .before .if2 .left) (fourth .before .if3 .left) (c .before .if4 .left)
 
 pub identifiers-apart-spec : {M : Type 1} → statement M
 identifiers-apart-spec =
     tie.close
     (tie.spec
-    key-at-requires
+    key-of-requires
     returns
-    key-at-requires-2
+    key-of-requires-2
     returns-2
-    key-at-requires-3
+    key-of-requires-3
     returns-3
-    key-at-requires-4
+    key-of-requires-4
     returns-4
     transmit-legal-requires
     returns-5)

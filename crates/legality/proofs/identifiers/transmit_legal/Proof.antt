@@ -1,5 +1,4 @@
 use mathlib.Core.Path.{sym, _∙_}
-use Rattle.rules_dictionary.specs.Values.{read}
 use Rattle.rules_dictionary.proofs.Tests.{here, there}
 use Rattle.legality.specs.Keys.{keyIn}
 use Rattle.legality.proofs.KeysLegal.{transmit-illegal, transmit-legal}
@@ -7,41 +6,41 @@ use borrow.Author.Needs.{needs}
 use Rattle.legality.proofs.identifiers.transmit_legal.Statement.{statement}
 use Rattle.legality.proofs.identifiers.transmit_legal.Tie as tie
 
-key-at-requires : tie.Need-key-at-requires
-key-at-requires c κs = search needs
+key-of-requires : tie.Need-key-of-requires
+key-of-requires c κs = search needs
 
 returns : tie.Need-returns
-unfolding keyIn read
+unfolding keyIn
 returns c =
     let a = c .before .before .before .args in
-    transmit-illegal (a .d .now) (a .r .a) (a .r .b) (a .r .c) (a .r .d) {k = keyIn (a .d .now) 4} here (sym (c .before .key-at .ensures) ∙ c .if1 .taken)
+    transmit-illegal (a .d .now) (a .r .a) (a .r .b) (a .r .c) (a .r .d) {k = keyIn (a .d .now) 4} here (sym (c .before .key-of .ensures) ∙ c .if1 .taken)
 
-key-at-requires-2 : tie.Need-key-at-requires-2
-key-at-requires-2 c κs = search needs
+key-of-requires-2 : tie.Need-key-of-requires-2
+key-of-requires-2 c κs = search needs
 
 returns-2 : tie.Need-returns-2
-unfolding keyIn read
+unfolding keyIn
 returns-2 c =
     let a = c .before .before .before .before .before .args in
-    transmit-illegal (a .d .now) (a .r .a) (a .r .b) (a .r .c) (a .r .d) {k = keyIn (a .d .now) 5} (there here) (sym (c .before .key-at2 .ensures) ∙ c .if2 .taken)
+    transmit-illegal (a .d .now) (a .r .a) (a .r .b) (a .r .c) (a .r .d) {k = keyIn (a .d .now) 5} (there here) (sym (c .before .key-of2 .ensures) ∙ c .if2 .taken)
 
-key-at-requires-3 : tie.Need-key-at-requires-3
-key-at-requires-3 c κs = search needs
+key-of-requires-3 : tie.Need-key-of-requires-3
+key-of-requires-3 c κs = search needs
 
 returns-3 : tie.Need-returns-3
-unfolding keyIn read
+unfolding keyIn
 returns-3 c =
     let a = c .before .before .before .before .before .before .before .args in
-    transmit-illegal (a .d .now) (a .r .a) (a .r .b) (a .r .c) (a .r .d) {k = keyIn (a .d .now) 6} (there (there here)) (sym (c .before .key-at3 .ensures) ∙ c .if3 .taken)
+    transmit-illegal (a .d .now) (a .r .a) (a .r .b) (a .r .c) (a .r .d) {k = keyIn (a .d .now) 6} (there (there here)) (sym (c .before .key-of3 .ensures) ∙ c .if3 .taken)
 
-key-at-requires-4 : tie.Need-key-at-requires-4
-key-at-requires-4 c κs = search needs
+key-of-requires-4 : tie.Need-key-of-requires-4
+key-of-requires-4 c κs = search needs
 
 returns-4 : tie.Need-returns-4
-unfolding keyIn read
+unfolding keyIn
 returns-4 c =
     let a = c .before .before .before .before .before .before .before .before .before .args in
-    transmit-illegal (a .d .now) (a .r .a) (a .r .b) (a .r .c) (a .r .d) {k = keyIn (a .d .now) 7} (there (there (there here))) (sym (c .before .key-at4 .ensures) ∙ c .if4 .taken)
+    transmit-illegal (a .d .now) (a .r .a) (a .r .b) (a .r .c) (a .r .d) {k = keyIn (a .d .now) 7} (there (there (there here))) (sym (c .before .key-of4 .ensures) ∙ c .if4 .taken)
 
 differ-requires : tie.Need-differ-requires
 differ-requires c κs = search needs
@@ -53,31 +52,31 @@ apart-requires : tie.Need-apart-requires
 apart-requires c κs = search needs
 
 returns-5 : tie.Need-returns-5
-unfolding keyIn read
+unfolding keyIn
 returns-5 c =
     let fourth = c .before .before .before .before in
     let third = fourth .before .before in
     let second = third .before .before in
     let first = second .before .before in
     let a = first .before .before .args in
-    rw (c .before .before .differ .ensures, c .before .differ2 .ensures, c .apart .ensures, first .key-at .ensures, second .key-at2 .ensures, third .key-at3 .ensures, fourth .key-at4 .ensures)
+    rw (c .before .before .differ .ensures, c .before .differ2 .ensures, c .apart .ensures, first .key-of .ensures, second .key-of2 .ensures, third .key-of3 .ensures, fourth .key-of4 .ensures)
     (transmit-legal (a .d .now) (a .r .a) (a .r .b) (a .r .c) (a .r .d)
-    (λ h. second .before .if1 .left (first .key-at .ensures ∙ h))
-    (λ h. third .before .if2 .left (second .key-at2 .ensures ∙ h))
-    (λ h. fourth .before .if3 .left (third .key-at3 .ensures ∙ h))
-    (λ h. c .before .before .before .if4 .left (fourth .key-at4 .ensures ∙ h)))
+    (λ h. second .before .if1 .left (first .key-of .ensures ∙ h))
+    (λ h. third .before .if2 .left (second .key-of2 .ensures ∙ h))
+    (λ h. fourth .before .if3 .left (third .key-of3 .ensures ∙ h))
+    (λ h. c .before .before .before .if4 .left (fourth .key-of4 .ensures ∙ h)))
 
 pub transmit-legal-spec : {M : Type 1} → statement M
 transmit-legal-spec =
     tie.close
     (tie.spec
-    key-at-requires
+    key-of-requires
     returns
-    key-at-requires-2
+    key-of-requires-2
     returns-2
-    key-at-requires-3
+    key-of-requires-3
     returns-3
-    key-at-requires-4
+    key-of-requires-4
     returns-4
     differ-requires
     differ-requires-2

@@ -11,17 +11,11 @@ add-communication-legal c = search needs
 communication-legal-requires-2 : tie.Need-communication-legal-requires-2
 communication-legal-requires-2 c κs = search needs
 
-mul-communication-legal : tie.Need-mul-communication-legal
-mul-communication-legal c = search needs
-
 add-communication-legal-2 : tie.Need-add-communication-legal-2
 add-communication-legal-2 c = search needs
 
 communication-legal-requires-3 : tie.Need-communication-legal-requires-3
 communication-legal-requires-3 c κs = search needs
-
-mul-communication-legal-2 : tie.Need-mul-communication-legal-2
-mul-communication-legal-2 c = search needs
 
 add-communication-legal-3 : tie.Need-add-communication-legal-3
 add-communication-legal-3 c = search needs
@@ -39,10 +33,8 @@ communications-legal-spec =
     communication-legal-requires
     add-communication-legal
     communication-legal-requires-2
-    mul-communication-legal
     add-communication-legal-2
     communication-legal-requires-3
-    mul-communication-legal-2
     add-communication-legal-3
     communication-legal-requires-4
     returns)

@@ -1,5 +1,4 @@
 use mathlib.Core.Bool.{and-true}
-use Rattle.rules_dictionary.specs.Values.{read}
 use Rattle.legality.specs.Rows.{tests}
 use borrow.Author.Needs.{needs}
 use Rattle.legality.proofs.rows.node_legal.Statement.{statement}
@@ -8,23 +7,23 @@ use Rattle.legality.proofs.rows.node_legal.Tie as tie
 add-emergency : tie.Need-add-emergency
 add-emergency c = search needs
 
-read4-requires : tie.Need-read4-requires
-read4-requires c κs = search needs
+device-type-requires : tie.Need-device-type-requires
+device-type-requires c κs = search needs
 
-read4-requires-2 : tie.Need-read4-requires-2
-read4-requires-2 c κs = search needs
+sync-identifier-requires : tie.Need-sync-identifier-requires
+sync-identifier-requires c κs = search needs
 
-read4-requires-3 : tie.Need-read4-requires-3
-read4-requires-3 c κs = search needs
+emergency-identifier-requires : tie.Need-emergency-identifier-requires
+emergency-identifier-requires c κs = search needs
 
-read1-requires : tie.Need-read1-requires
-read1-requires c κs = search needs
+identity-count-requires : tie.Need-identity-count-requires
+identity-count-requires c κs = search needs
 
-read4-requires-4 : tie.Need-read4-requires-4
-read4-requires-4 c κs = search needs
+vendor-requires : tie.Need-vendor-requires
+vendor-requires c κs = search needs
 
 returns : tie.Need-returns
-unfolding tests read
+unfolding tests
 returns c = rw and-true (cc)
 
 pub node-legal-spec : {M : Type 1} → statement M
@@ -32,9 +31,9 @@ node-legal-spec =
     tie.close
     (tie.spec
     add-emergency
-    read4-requires
-    read4-requires-2
-    read4-requires-3
-    read1-requires
-    read4-requires-4
+    device-type-requires
+    sync-identifier-requires
+    emergency-identifier-requires
+    identity-count-requires
+    vendor-requires
     returns)

@@ -4,8 +4,8 @@ use borrow.Author.Needs.{needs}
 use Rattle.nmt.proofs.heartbeats.tick.Statement.{statement}
 use Rattle.nmt.proofs.heartbeats.tick.Tie as tie
 
-read2-requires : tie.Need-read2-requires
-read2-requires c κs = search needs
+heartbeat-time-requires : tie.Need-heartbeat-time-requires
+heartbeat-time-requires c κs = search needs
 
 parts-of-requires : tie.Need-parts-of-requires
 parts-of-requires c κs = search needs
@@ -14,7 +14,7 @@ returns : tie.Need-returns
 returns c =
     let period = c .before .before .before in
     let a = period .before .before .before .args in
-    no-heartbeat (a .s) (a .d .now) (a .output .now) _ (period .read2 .ensures) _ (c .before .if1 .taken) (c .parts-of .ensures)
+    no-heartbeat (a .s) (a .d .now) (a .output .now) _ (period .heartbeat-time .ensures) _ (c .before .if1 .taken) (c .parts-of .ensures)
 
 sub-if2 : tie.Need-sub-if2
 sub-if2 c = search needs
@@ -31,7 +31,7 @@ returns-2 c =
     let p = b .before .before in
     let period = p .before .before in
     let a = period .before .before .before .args in
-    counts-on (a .s) (a .d .now) (a .output .now) _ (period .read2 .ensures) _ (p .if1 .left) (b .if2 .taken) (c .counted .ensures)
+    counts-on (a .s) (a .d .now) (a .output .now) _ (period .heartbeat-time .ensures) _ (p .if1 .left) (b .if2 .taken) (c .counted .ensures)
 
 state-byte-requires : tie.Need-state-byte-requires
 state-byte-requires c κs = search needs
@@ -52,13 +52,13 @@ returns-3 c =
     let p = b .before .before in
     let period = p .before .before in
     let a = period .before .before .before .args in
-    beats (a .s) (a .d .now) (a .output .now) _ (period .read2 .ensures) _ _ _ _ (p .if1 .left) (b .if2 .left) (sent .before .state-byte .ensures) (sent .send-byte .ensures) (c .counted2 .ensures)
+    beats (a .s) (a .d .now) (a .output .now) _ (period .heartbeat-time .ensures) _ _ _ _ (p .if1 .left) (b .if2 .left) (sent .before .state-byte .ensures) (sent .send-byte .ensures) (c .counted2 .ensures)
 
 pub tick-spec : {M : Type 1} → statement M
 tick-spec =
     tie.close
     (tie.spec
-    read2-requires
+    heartbeat-time-requires
     parts-of-requires
     returns
     sub-if2

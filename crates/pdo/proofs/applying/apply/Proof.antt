@@ -1,20 +1,24 @@
--- `pdo::applying::apply` meets its contract. Assumes nothing.
+-- `pdo::applying::apply` meets its contract: the places that it names are the rows', by computation. Assumes nothing.
+use Rattle.rules_dictionary.specs.Table.{open-table}
 use Rattle.pdo.proofs.Values.{applied-by}
 use borrow.Author.Needs.{needs}
 use Rattle.pdo.proofs.applying.apply.Statement.{statement}
 use Rattle.pdo.proofs.applying.apply.Tie as tie
 
-cast-read2 : tie.Need-cast-read2
-cast-read2 c = search needs
-
-read2-requires : tie.Need-read2-requires
-read2-requires c κs = search needs
+control-word-requires : tie.Need-control-word-requires
+control-word-requires c κs = search needs
 
 store-values-requires : tie.Need-store-values-requires
 store-values-requires c κs = search needs
 
+cast-maps : tie.Need-cast-maps
+cast-maps c = search needs
+
 maps-requires : tie.Need-maps-requires
 maps-requires c κs = search needs
+
+cast-maps-2 : tie.Need-cast-maps-2
+cast-maps-2 c = search needs
 
 maps-requires-2 : tie.Need-maps-requires-2
 maps-requires-2 c κs = search needs
@@ -29,19 +33,27 @@ same-length-2 : tie.Need-same-length-2
 same-length-2 c = search needs
 
 returns : tie.Need-returns
+unfolding open-table
 returns c =
-    let a = c .before .before .before .before .before .before .before .before .before .before .before .before .before .before .before .before .before .args in
-    let f = c .before .before .before .before .acted .ensures in
-    ((λ xs r. applied-by r (a .content) _ (a .d .now) _ _ _ (c .before .before .before .before .before .before .before .before .before .before .before .before .before .read2 .ensures) (c .before .before .before .before .before .before .before .before .before .before .before .store-values .ensures) (c .before .before .before .before .before .before .before .before .maps .ensures) (c .before .before .before .before .before .before .before .maps2 .ensures) (f .0)), f .1)
+    let g = c .before .before .before .before in
+    let m = g .before .before .before in
+    let t = m .before .before .before .before in
+    let k = t .before .before in
+    let a = k .before .before .before .before .args in (
+      (λ xs r. applied-by r (a .content) _ (a .d .now) _ _ _
+          (k .control-word .ensures) (t .store-values .ensures) (m .before .maps .ensures) (m .maps2 .ensures) (g .acted .ensures .0)),
+      g .acted .ensures .1,
+    )
 
 pub apply-spec : {M : Type 1} → statement M
 apply-spec =
     tie.close
     (tie.spec
-    cast-read2
-    read2-requires
+    control-word-requires
     store-values-requires
+    cast-maps
     maps-requires
+    cast-maps-2
     maps-requires-2
     acted-requires
     same-length

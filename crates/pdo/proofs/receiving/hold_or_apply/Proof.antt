@@ -10,14 +10,8 @@ use borrow.Author.Needs.{needs}
 use Rattle.pdo.proofs.receiving.hold_or_apply.Statement.{statement}
 use Rattle.pdo.proofs.receiving.hold_or_apply.Tie as tie
 
-mul-read1 : tie.Need-mul-read1
-mul-read1 c = search needs
-
-add-read1 : tie.Need-add-read1
-add-read1 c = search needs
-
-read1-requires : tie.Need-read1-requires
-read1-requires c κs = search needs
+transmission-type-requires : tie.Need-transmission-type-requires
+transmission-type-requires c κs = search needs
 
 cast-leading : tie.Need-cast-leading
 cast-leading c = search needs
@@ -40,9 +34,10 @@ returns : tie.Need-returns
 returns c =
     let s = c .before .before .before .before .before .before .before .before .before .before .before in
     let a = s .args in
-    let r = c .before .before .before .before .before .before .read1 in
+    let r = c .before .before .before .before .before .before .transmission-type in
     let l = c .leading in
-    let is = held-now (a .p) (bare (a .parts)) (a .d .now) (a .content) (s .pre .0 .number) (r .result) (r .ensures) (c .before .before .before .before .before .if1 .taken) (l .result) (l .ensures .0) (omega (arith, l .ensures .1, short (s .pre .0) (s .pre .1 .1))) in
+    let is = held-now (a .p) (bare (a .parts)) (a .d .now) (a .content) (r .result) (r .ensures) (c .before .before .before .before .before .if1 .taken) (l .result) (l .ensures .0)
+    (omega (arith, l .ensures .1, short (s .pre .0) (s .pre .1 .1))) in
     (as-effect is (left-as _ _ true (a .n) (a .d .now) (a .output .now) refl), (λ q. as-calm is (record { writes = refl; synced = refl; nmt = refl; voltage = refl; drive = refl })))
 
 apply-requires : tie.Need-apply-requires
@@ -58,18 +53,16 @@ returns-2 : tie.Need-returns-2
 returns-2 c =
     let s = c .before .before .before .before .before .before .before .before .before .before .before .before .before in
     let a = s .args in
-    let r = c .before .before .before .before .before .before .before .before .read1 in
+    let r = c .before .before .before .before .before .before .before .before .transmission-type in
     let f = c .before .before .before .before .apply .ensures in
-    let is = applied-now (a .p) (bare (a .parts)) (a .d .now) (a .content) (s .pre .0 .number) (r .result) (r .ensures) (c .before .before .before .before .before .before .before .if1 .left) (s .pre .1 .1) in
+    let is = applied-now (a .p) (bare (a .parts)) (a .d .now) (a .content) (r .result) (r .ensures) (c .before .before .before .before .before .before .before .if1 .left) (s .pre .1 .1) in
     (as-effect is (f .0 _ (s .pre .0 .receives)), loud (bare (a .parts)) _ (c .before .before .before .before .apply .result) (f .1))
 
 pub hold-or-apply-spec : {M : Type 1} → statement M
 hold-or-apply-spec =
     tie.close
     (tie.spec
-    mul-read1
-    add-read1
-    read1-requires
+    transmission-type-requires
     cast-leading
     leading-requires
     mul-held

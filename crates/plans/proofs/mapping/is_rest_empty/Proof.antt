@@ -1,7 +1,5 @@
 -- `plans::mapping::is_rest_empty` meets its contract. Assumes nothing.
-use Prim.Native.Nat.{_+_}
 use mathlib.Core.Path.{_≡_}
-use native.Mathlib.Omega.{arith}
 use lib.ListN.{length}
 use Rattle.plans.proofs.Emptied.{rest-empty}
 use borrow.Author.Needs.{needs}
@@ -76,7 +74,7 @@ returns c =
         fifth .is-spare4 .ensures,
         sixth .is-spare5 .ensures,
         c .is-spare6 .ensures,
-      ) (rest-empty (a .d .now) (a .t3) n (a .first + 8) (a .first + 20) (omega arith)),
+      ) (rest-empty (a .d .now) (a .t3) n (a .first)),
       n,
     )
 

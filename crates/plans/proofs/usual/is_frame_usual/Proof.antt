@@ -9,8 +9,8 @@ use Rattle.plans.proofs.usual.is_frame_usual.Tie as tie
 array-copy-out-second : tie.Need-array-copy-out-second
 array-copy-out-second c = search needs
 
-read2-requires : tie.Need-read2-requires
-read2-requires c κs = search needs
+status-word-requires : tie.Need-status-word-requires
+status-word-requires c κs = search needs
 
 cast-value : tie.Need-cast-value
 cast-value c = search needs
@@ -44,14 +44,14 @@ returns c =
     let d = s .args .d .now in
     λ e. frame-ready (s .args .plan) (s .pre .1 .0) (s .pre .1 .1) d (s .pre .0) (are-bytes d (λ i h. omega (arith, k .shared-slice-known .given i)))
     (s .args .frame) (c .word-of .ensures .1 .0) (c .word-of .ensures .1 .1)
-    (rw (c .word-of .ensures .0, r .read2 .ensures, v .second-value .ensures .0) at e)
+    (rw (c .word-of .ensures .0, r .status-word .ensures, v .second-value .ensures .0) at e)
 
 pub is-frame-usual-spec : {M : Type 1} → statement M
 is-frame-usual-spec =
     tie.close
     (tie.spec
     array-copy-out-second
-    read2-requires
+    status-word-requires
     cast-value
     second-value-requires
     mul-value

@@ -1,30 +1,27 @@
 -- `plans::usual::is_pair_usual` meets its contract. Assumes nothing.
 use mathlib.Core.Path.{sym, _∙_}
+use native.Mathlib.Omega.{arith}
 use borrow.Author.Tests.{eq-eqb, ne-eqb, not-true, not-false}
 use Rattle.plans.specs.Usual.{pairUsual}
-use Rattle.plans.proofs.Legality.{counted-at}
+use Rattle.plans.proofs.Legality.{first-word, second-word, words-room}
 use borrow.Author.Needs.{needs}
 use Rattle.plans.proofs.usual.is_pair_usual.Statement.{statement}
 use Rattle.plans.proofs.usual.is_pair_usual.Tie as tie
 
-mapping-place-requires : tie.Need-mapping-place-requires
-mapping-place-requires c κs = search needs
-
-read1-requires : tie.Need-read1-requires
-read1-requires c κs = search needs
+map-count-requires : tie.Need-map-count-requires
+map-count-requires c κs = search needs
 
 returns : tie.Need-returns
 unfolding pairUsual
-returns c =
-    let r = c .before .before in
-    let a = r .before .before .before .args in
-    rw (← counted-at (a .d .now) (a .p) _ _ (r .before .mapping-place .ensures .0) (r .read1 .ensures), ne-eqb _ _ (c .if1 .taken))
+returns c = rw (← c .before .before .map-count .ensures, ne-eqb _ _ (c .if1 .taken))
 
-add-read4 : tie.Need-add-read4
-add-read4 c = search needs
+words-place-requires : tie.Need-words-place-requires
+words-place-requires c κs = search needs
 
 read4-requires : tie.Need-read4-requires
-read4-requires c κs = search needs
+read4-requires c κs =
+    let s = c .before .before .before .before .before .before in
+    omega (arith, words-room (s .args .p) (s .pre .1), c .words-place .ensures .0)
 
 array-copy-out-begins-usually : tie.Need-array-copy-out-begins-usually
 array-copy-out-begins-usually c = search needs
@@ -37,22 +34,25 @@ unfolding pairUsual
 returns-2 c =
     let b = c .before in
     let f = b .before .before in
-    let e = f .before .before in
-    let r = e .before .before in
-    let a = r .before .before .before .args in
+    let w = f .before in
+    let e = w .before .before in
+    let n = e .before .before in
+    let a = n .before .before .args in
     rw (
-      ← counted-at (a .d .now) (a .p) _ _ (r .before .mapping-place .ensures .0) (r .read1 .ensures),
+      ← n .map-count .ensures,
       eq-eqb _ _ (e .if1 .left),
-      ← r .before .mapping-place .ensures .0,
-      ← f .read4 .ensures,
+      ← first-word (a .d .now) (a .p) _ _ (w .words-place .ensures .0) (f .read4 .ensures),
       sym (b .begins-usually .ensures) ∙ not-true _ (c .if2 .taken),
     )
 
-add-read4-2 : tie.Need-add-read4-2
-add-read4-2 c = search needs
+add-read4 : tie.Need-add-read4
+add-read4 c = search needs
 
 read4-requires-2 : tie.Need-read4-requires-2
-read4-requires-2 c κs = search needs
+read4-requires-2 c κs =
+    let w = c .before .before .before .before in
+    let s = w .before .before .before .before .before .before in
+    omega (arith, words-room (s .args .p) (s .pre .1), w .words-place .ensures .0)
 
 array-copy-out-goes-on-usually : tie.Need-array-copy-out-goes-on-usually
 array-copy-out-goes-on-usually c = search needs
@@ -66,16 +66,16 @@ returns-3 c =
     let s = c .before .before in
     let b = s .before .before in
     let f = b .before .before in
-    let e = f .before .before in
-    let r = e .before .before in
-    let a = r .before .before .before .args in
+    let w = f .before in
+    let e = w .before .before in
+    let n = e .before .before in
+    let a = n .before .before .args in
     rw (
-      ← counted-at (a .d .now) (a .p) _ _ (r .before .mapping-place .ensures .0) (r .read1 .ensures),
+      ← n .map-count .ensures,
       eq-eqb _ _ (e .if1 .left),
-      ← r .before .mapping-place .ensures .0,
-      ← f .read4 .ensures,
+      ← first-word (a .d .now) (a .p) _ _ (w .words-place .ensures .0) (f .read4 .ensures),
       sym (b .begins-usually .ensures) ∙ not-false _ (s .before .if2 .left),
-      ← s .read42 .ensures,
+      ← second-word (a .d .now) (a .p) _ _ (w .words-place .ensures .0) (s .read42 .ensures),
     )
     (c .goes-on-usually .ensures)
 
@@ -83,15 +83,14 @@ pub is-pair-usual-spec : {M : Type 1} → statement M
 is-pair-usual-spec =
     tie.close
     (tie.spec
-    mapping-place-requires
-    read1-requires
+    map-count-requires
     returns
-    add-read4
+    words-place-requires
     read4-requires
     array-copy-out-begins-usually
     begins-usually-requires
     returns-2
-    add-read4-2
+    add-read4
     read4-requires-2
     array-copy-out-goes-on-usually
     goes-on-usually-requires

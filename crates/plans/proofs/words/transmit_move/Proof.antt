@@ -1,37 +1,58 @@
+-- `plans::words::transmit_move` meets its contract: its places are the rows', by computation. Assumes nothing.
 use Prim.Native.Nat.{_%_, _^_}
 use mathlib.Core.Path.{_≡_}
 use native.Mathlib.Omega.{arith}
+use borrow.Author.Needs.{needs}
 use borrow.Author.Tests.{ne-eqb}
+use Rattle.rules_dictionary.specs.Table.{open-table}
 use Rattle.plans.specs.Words.{named, wordMove}
 use Rattle.plans.proofs.words.transmit_move.Statement.{statement}
 use Rattle.plans.proofs.words.transmit_move.Tie as tie
 
+cast-t3 : tie.Need-cast-t3
+cast-t3 c = search needs
+
+cast-t4 : tie.Need-cast-t4
+cast-t4 c = search needs
+
+cast-t5 : tie.Need-cast-t5
+cast-t5 c = search needs
+
+cast-t6 : tie.Need-cast-t6
+cast-t6 c = search needs
+
+cast-t7 : tie.Need-cast-t7
+cast-t7 c = search needs
+
+cast-t8 : tie.Need-cast-t8
+cast-t8 c = search needs
+
 returns : tie.Need-returns
-unfolding named wordMove
+unfolding named wordMove open-table
 returns c = rw (c .match .keys1)
 
 returns-2 : tie.Need-returns-2
-unfolding named wordMove
+unfolding named wordMove open-table
 returns-2 c = rw (c .match .keys2)
 
 returns-3 : tie.Need-returns-3
-unfolding named wordMove
+unfolding named wordMove open-table
 returns-3 c = rw (c .match .keys3)
 
 returns-4 : tie.Need-returns-4
-unfolding named wordMove
+unfolding named wordMove open-table
 returns-4 c = rw (c .match .keys4)
 
 returns-5 : tie.Need-returns-5
-unfolding named wordMove
+unfolding named wordMove open-table
 returns-5 c = rw (c .match .keys5)
 
 returns-6 : tie.Need-returns-6
-unfolding named wordMove
+unfolding named wordMove open-table
 returns-6 c = rw (c .match .keys6)
 
 returns-7 : tie.Need-returns-7
-unfolding named wordMove
+unfolding named wordMove open-table
 returns-7 c =
     let w = c .before .args .word in
     let e : w % 2 ^ 32 ≡ w = omega arith in
@@ -46,4 +67,19 @@ returns-7 c =
     ))
 
 pub transmit-move-spec : {M : Type 1} → statement M
-transmit-move-spec = tie.close (tie.spec returns returns-2 returns-3 returns-4 returns-5 returns-6 returns-7)
+transmit-move-spec =
+    tie.close
+    (tie.spec
+    cast-t3
+    cast-t4
+    cast-t5
+    cast-t6
+    cast-t7
+    cast-t8
+    returns
+    returns-2
+    returns-3
+    returns-4
+    returns-5
+    returns-6
+    returns-7)

@@ -5,7 +5,7 @@ use Rattle.state.specs.declared.State.{State}
 use Rattle.effects.specs.Leaves.{bare}
 use Rattle.effects.specs.Acts.{acts}
 use Rattle.effects.proofs.Laws.{as-effect}
-use Rattle.rules_dictionary.specs.Table.{controlWord, mode}
+use Rattle.rules_dictionary.specs.Table.{controlWord, mode, placeOf, open-table}
 use lib.Dec.{eqb}
 use Rattle.sdo.proofs.Acting.{restarted-id}
 use Rattle.sdo.proofs.downloads.act.Statement.{statement}
@@ -27,12 +27,13 @@ same-length-2 : tie.Need-same-length-2
 same-length-2 c = search needs
 
 returns : tie.Need-returns
+unfolding open-table
 returns c =
     let k = c .before .before .before .before in
     let r = k .before .before .before in
     let a = r .before .before .before .args in
     let f = k .acted .ensures in
-    (as-effect (ap (λ (s : State). acts (a .old) (eqb (a .place) (mode .place)) (eqb (a .place) (controlWord .place)) s (a .d .now)) (sym (r .restarted .ensures))) (f .0), f .1)
+    (as-effect (ap (λ (s : State). acts (a .old) (eqb (a .place) (placeOf mode)) (eqb (a .place) (placeOf controlWord)) s (a .d .now)) (sym (r .restarted .ensures))) (f .0), f .1)
 
 pub act-spec : {M : Type 1} → statement M
 act-spec = tie.close (tie.spec restarted-requires acted-requires same-length same-length-2 returns)

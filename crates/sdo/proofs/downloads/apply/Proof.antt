@@ -19,8 +19,8 @@ read-requires c κs =
     let s = c .before .before .before .before in
     (omega (arith, four-at-most (s .args .e .size) (s .pre .1 .0 .sized), s .good .0 .1 .0 .1), s .pre .1 .0 .sized)
 
-read2-requires : tie.Need-read2-requires
-read2-requires c κs = search needs
+control-word-requires : tie.Need-control-word-requires
+control-word-requires c κs = search needs
 
 reply-requires : tie.Need-reply-requires
 reply-requires c κs = search needs
@@ -68,7 +68,7 @@ returns-2 c =
     let v = q .before .before in
     let s = v .before .before .before .before .before in
     let a = s .args in
-    act-served (a .t1) (bare (a .parts)) (a .d .now) (a .output .now) (a .e) (s .pre .1 .0) (s .pre .1 .1) _ (v .read .ensures) _ _ (w .write .ensures) (y .reply .ensures .1) _ (m .is-mapping .ensures) (i .if1 .left) _ (q .read2 .ensures) _ _ _ (k .act .ensures)
+    act-served (a .t1) (bare (a .parts)) (a .d .now) (a .output .now) (a .e) (s .pre .1 .0) (s .pre .1 .1) _ (v .read .ensures) _ _ (w .write .ensures) (y .reply .ensures .1) _ (m .is-mapping .ensures) (i .if1 .left) _ (q .control-word .ensures) _ _ _ (k .act .ensures)
 
 pub apply-spec : {M : Type 1} → statement M
 apply-spec =
@@ -77,7 +77,7 @@ apply-spec =
     cast-place
     slice-aggregate-read
     read-requires
-    read2-requires
+    control-word-requires
     reply-requires
     write-requires
     is-mapping-requires

@@ -1,5 +1,4 @@
 -- `sdo::tests::is_mapping_shut` meets its contract. Assumes nothing.
-use Rattle.rules_dictionary.specs.Values.{read}
 use borrow.Author.Needs.{needs}
 use Rattle.sdo.proofs.tests.is_mapping_shut.Statement.{statement}
 use Rattle.sdo.proofs.tests.is_mapping_shut.Tie as tie
@@ -10,28 +9,18 @@ is-pre-operational-requires c κs = search needs
 returns : tie.Need-returns
 returns c = search needs
 
-identifier-place-requires : tie.Need-identifier-place-requires
-identifier-place-requires c κs = search needs
-
-read4-requires : tie.Need-read4-requires
-read4-requires c κs = search needs
+identifier-requires : tie.Need-identifier-requires
+identifier-requires c κs = search needs
 
 is-valid-requires : tie.Need-is-valid-requires
 is-valid-requires c κs = search needs
 
 returns-2 : tie.Need-returns-2
-unfolding read
 returns-2 c =
-    let p = c .before .before in
-    rw (← p .before .before .is-pre-operational .ensures, p .before .if1 .left, ← p .identifier-place .ensures .0, ← c .before .read4 .ensures) (c .is-valid .ensures)
+    let p = c .before in
+    rw (← p .before .before .is-pre-operational .ensures, p .before .if1 .left, ← p .identifier .ensures) (c .is-valid .ensures)
 
 pub is-mapping-shut-spec : {M : Type 1} → statement M
 is-mapping-shut-spec =
     tie.close
-    (tie.spec
-    is-pre-operational-requires
-    returns
-    identifier-place-requires
-    read4-requires
-    is-valid-requires
-    returns-2)
+    (tie.spec is-pre-operational-requires returns identifier-requires is-valid-requires returns-2)

@@ -1,19 +1,18 @@
 -- `soundness::axis::is_taken_in_place` meets its contract. Assumes nothing.
-use Rattle.rules_dictionary.specs.Values.{read}
 use Rattle.rules.specs.Sound.{takenInPlace}
 use borrow.Author.Needs.{needs}
 use Rattle.soundness.proofs.axis.is_taken_in_place.Statement.{statement}
 use Rattle.soundness.proofs.axis.is_taken_in_place.Tie as tie
 
-read2-requires : tie.Need-read2-requires
-read2-requires c κs = search needs
+control-word-requires : tie.Need-control-word-requires
+control-word-requires c κs = search needs
 
 has-requires : tie.Need-has-requires
 has-requires c κs = search needs
 
 returns : tie.Need-returns
-unfolding takenInPlace read
-returns c = rw (← c .before .read2 .ensures, c .has .ensures)
+unfolding takenInPlace
+returns c = rw (← c .before .control-word .ensures, c .has .ensures)
 
 pub is-taken-in-place-spec : {M : Type 1} → statement M
-is-taken-in-place-spec = tie.close (tie.spec read2-requires has-requires returns)
+is-taken-in-place-spec = tie.close (tie.spec control-word-requires has-requires returns)

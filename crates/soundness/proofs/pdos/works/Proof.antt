@@ -1,7 +1,6 @@
 -- `soundness::pdos::works` meets its contract. Assumes nothing.
 use mathlib.Core.Path.{sym, _∙_}
 use borrow.Author.Tests.{not-true, not-false}
-use Rattle.rules_dictionary.specs.Values.{read}
 use Rattle.rules_services.specs.PdoTraffic.{works}
 use borrow.Author.Needs.{needs}
 use Rattle.soundness.proofs.pdos.works.Statement.{statement}
@@ -23,17 +22,18 @@ returns-2 c =
     let b = c .before .before in
     rw (sym (b .before .is-operational .ensures) ∙ not-false _ (b .if1 .left), sym (c .before .is-valid .ensures) ∙ not-true _ (c .if2 .taken))
 
-mapping-place-requires : tie.Need-mapping-place-requires
-mapping-place-requires c κs = search needs
-
-read1-requires : tie.Need-read1-requires
-read1-requires c κs = search needs
+map-count-requires : tie.Need-map-count-requires
+map-count-requires c κs = search needs
 
 returns-3 : tie.Need-returns-3
-unfolding works read
+unfolding works
 returns-3 c =
-    let b = c .before .before .before .before in
-    rw (sym (b .before .is-operational .ensures) ∙ not-false _ (b .if1 .left), sym (c .before .before .before .is-valid .ensures) ∙ not-false _ (c .before .before .if2 .left), c .read1 .ensures, c .before .mapping-place .ensures .0)
+    let b = c .before .before .before in
+    rw (
+      sym (b .before .is-operational .ensures) ∙ not-false _ (b .if1 .left),
+      sym (c .before .before .is-valid .ensures) ∙ not-false _ (c .before .if2 .left),
+      c .map-count .ensures,
+    )
 
 pub works-spec : {M : Type 1} → statement M
 works-spec =
@@ -43,6 +43,5 @@ works-spec =
     returns
     is-valid-requires
     returns-2
-    mapping-place-requires
-    read1-requires
+    map-count-requires
     returns-3)

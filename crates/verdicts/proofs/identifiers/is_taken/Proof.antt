@@ -1,11 +1,11 @@
 -- What the PDOs from here on tell is what all eight tell.
 -- Assumes nothing.
-use Prim.Native.Nat.{_-_, _≤_}
+use Prim.Native.Nat.{_-_, _*_, _≤_}
 use mathlib.Core.Path.{_≡_, refl, sym, _∙_}
 use native.Mathlib.Omega.{arith}
 use lib.ListN.{drop}
 use Rattle.rules_dictionary.specs.Numbers.{any}
-use Rattle.rules_dictionary.specs.Table.{pdos}
+use Rattle.rules_dictionary.specs.Table.{eachWay, pdos}
 use Rattle.rules_dictionary.specs.Legal.{identifiers, clashes}
 use Rattle.verdicts.proofs.Names.{next-pdo}
 use borrow.Author.Needs.{needs}
@@ -13,29 +13,26 @@ use Rattle.verdicts.proofs.identifiers.is_taken.Statement.{statement}
 use Rattle.verdicts.proofs.identifiers.is_taken.Tie as tie
 
 abbrev Inv-loop : tie.InvT-loop
-Inv-loop d p w q₀ q = (any (clashes (identifiers d) p w) (drop q pdos) ≡ any (clashes (identifiers d) p w) pdos) × (q ≤ 8)
+Inv-loop d p w q₀ q = (any (clashes (identifiers d) p w) (drop q pdos) ≡ any (clashes (identifiers d) p w) pdos) × (q ≤ 2 * eachWay)
 
 abbrev μ-loop : tie.MeasureT-loop
-μ-loop d p w q₀ q = 8 - q
+μ-loop d p w q₀ q = 2 * eachWay - q
 
 loop-holds : tie.Need-loop-holds Inv-loop μ-loop
 loop-holds c = (refl, search needs)
 
-identifier-place-requires : tie.Need-identifier-place-requires Inv-loop μ-loop
-identifier-place-requires c κs = search needs
-
-read4-requires : tie.Need-read4-requires Inv-loop μ-loop
-read4-requires c κs = search needs
+identifier-requires : tie.Need-identifier-requires Inv-loop μ-loop
+identifier-requires c κs = search needs
 
 takes-requires : tie.Need-takes-requires Inv-loop μ-loop
 takes-requires c κs = search needs
 
 returns : tie.Need-returns Inv-loop μ-loop
 returns c =
-    let l = c .before .before .before .before .before .loop in
-    let a = c .before .before .before .before .before .before .before .args in
-    let e = next-pdo (a .d .now) (a .p) (a .w) (l .q) _ (c .before .before .before .before .loop-test .taken) (c .before .before .before .identifier-place .ensures .0) in
-    sym (sym (l .inv .0) ∙ e ∙ rw (← c .before .before .read4 .ensures, ← c .before .takes .ensures, c .if1 .taken))
+    let l = c .before .before .before .before .loop in
+    let a = c .before .before .before .before .before .before .args in
+    let e = next-pdo (a .d .now) (a .p) (a .w) (l .q) (c .before .before .before .loop-test .taken) in
+    sym (sym (l .inv .0) ∙ e ∙ rw (← c .before .before .identifier .ensures, ← c .before .takes .ensures, c .if1 .taken))
 
 add-q : tie.Need-add-q Inv-loop μ-loop
 add-q c = search needs
@@ -45,15 +42,15 @@ loop-less c = search needs
 
 loop-again : tie.Need-loop-again Inv-loop μ-loop
 loop-again c =
-    let l = c .before .before .before .before .before .loop in
-    let a = c .before .before .before .before .before .before .before .args in
-    let e = next-pdo (a .d .now) (a .p) (a .w) (l .q) _ (c .before .before .before .before .loop-test .taken) (c .before .before .before .identifier-place .ensures .0) in
-    (sym (e ∙ rw (← c .before .before .read4 .ensures, ← c .before .takes .ensures, c .if1 .left)) ∙ l .inv .0, search needs)
+    let l = c .before .before .before .before .loop in
+    let a = c .before .before .before .before .before .before .args in
+    let e = next-pdo (a .d .now) (a .p) (a .w) (l .q) (c .before .before .before .loop-test .taken) in
+    (sym (e ∙ rw (← c .before .before .identifier .ensures, ← c .before .takes .ensures, c .if1 .left)) ∙ l .inv .0, search needs)
 
 returns-2 : tie.Need-returns-2 Inv-loop μ-loop
 returns-2 c =
     let l = c .before .loop in
-    let z : l .q ≡ 8 = omega arith in
+    let z : l .q ≡ 2 * eachWay = omega arith in
     rw z at (l .inv .0)
 
 pub is-taken-spec : {M : Type 1} → statement M
@@ -63,8 +60,7 @@ is-taken-spec =
     Inv-loop
     μ-loop
     loop-holds
-    identifier-place-requires
-    read4-requires
+    identifier-requires
     takes-requires
     returns
     add-q

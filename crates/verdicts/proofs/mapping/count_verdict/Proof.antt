@@ -1,6 +1,7 @@
--- The words stand behind the count.
+-- The words stand one after another.
 -- Assumes nothing.
-use Rattle.plans.proofs.Legality.{words-behind}
+use native.Mathlib.Omega.{arith}
+use Rattle.plans.proofs.Legality.{words-behind, words-room}
 use borrow.Author.Needs.{needs}
 use Rattle.verdicts.proofs.mapping.count_verdict.Statement.{statement}
 use Rattle.verdicts.proofs.mapping.count_verdict.Tie as tie
@@ -9,7 +10,10 @@ words-place-requires : tie.Need-words-place-requires
 words-place-requires c κs = search needs
 
 words-verdict-requires : tie.Need-words-verdict-requires
-words-verdict-requires c κs = search needs
+words-verdict-requires c κs =
+    let s = c .before .before in
+    let at = c .words-place .ensures in
+    (omega (arith, words-room (s .args .p) (s .pre .1), s .pre .0, at .0), at .1)
 
 returns : tie.Need-returns
 returns c =

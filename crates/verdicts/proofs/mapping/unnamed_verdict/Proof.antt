@@ -4,17 +4,14 @@ use borrow.Author.Needs.{needs}
 use Rattle.verdicts.proofs.mapping.unnamed_verdict.Statement.{statement}
 use Rattle.verdicts.proofs.mapping.unnamed_verdict.Tie as tie
 
-cast-find : tie.Need-cast-find
-cast-find c = search needs
+cast-seek : tie.Need-cast-seek
+cast-seek c = search needs
 
-cast-find-2 : tie.Need-cast-find-2
-cast-find-2 c = search needs
+cast-seek-2 : tie.Need-cast-seek-2
+cast-seek-2 c = search needs
 
-find-requires : tie.Need-find-requires
-find-requires c κs = search needs
-
-enum-known-e : tie.Need-enum-known-e
-enum-known-e c = search needs
+seek-requires : tie.Need-seek-requires
+seek-requires c κs = search needs
 
 enum-told : tie.Need-enum-told
 enum-told c = search needs
@@ -22,25 +19,28 @@ enum-told c = search needs
 enum-told-2 : tie.Need-enum-told-2
 enum-told-2 c = search needs
 
+enum-told-3 : tie.Need-enum-told-3
+enum-told-3 c = search needs
+
 returns : tie.Need-returns
-returns c = rw (← c .before .before .before .find .ensures, c .before .e .given .1)
+returns c = rw (← c .before .before .seek .ensures, c .enum-told .given .1)
 
 returns-2 : tie.Need-returns-2
-returns-2 c = rw (← c .before .before .find .ensures, c .enum-told .given .1)
+returns-2 c = rw (← c .before .before .seek .ensures, c .enum-told2 .given .1)
 
 returns-3 : tie.Need-returns-3
-returns-3 c = rw (← c .before .before .find .ensures, c .enum-told2 .given .1)
+returns-3 c = rw (← c .before .before .seek .ensures, c .enum-told3 .given .1)
 
 pub unnamed-verdict-spec : {M : Type 1} → statement M
 unnamed-verdict-spec =
     tie.close
     (tie.spec
-    cast-find
-    cast-find-2
-    find-requires
-    enum-known-e
+    cast-seek
+    cast-seek-2
+    seek-requires
     enum-told
     enum-told-2
+    enum-told-3
     returns
     returns-2
     returns-3)

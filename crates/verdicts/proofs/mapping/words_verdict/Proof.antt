@@ -4,6 +4,7 @@ use Prim.Native.Nat.{_+_, _-_, _*_, _≤_}
 use mathlib.Core.Path.{_≡_, sym, _∙_, ap}
 use native.Mathlib.Omega.{arith}
 use mathlib.Core.Logic.{_⊎_, inl, inr, ⊎-elim}
+use Rattle.rules_dictionary.specs.Table.{mostMoves}
 use Rattle.rules_dictionary.specs.Legal.{countVerdict}
 use Rattle.plans.specs.Slots.{wordsFrom}
 use Rattle.verdicts.specs.Verdicts.{verdictCode, wordsVerdict}
@@ -14,8 +15,8 @@ use Rattle.verdicts.proofs.mapping.words_verdict.Tie as tie
 
 abbrev Inv-loop : tie.InvT-loop
 Inv-loop d first n count at₀ bits₀ k₀ at bits k =
-    (wordsVerdict bits (left n k at d) ≡ countVerdict (wordsFrom 8 first d) n)
-    × ((k ≤ count) × ((at ≡ first + 4 * k) × ((bits ≤ 255 * k) × ((count ≤ 8) × ((count ≤ n) × ((n ≤ count) ⊎ (8 ≤ count)))))))
+    (wordsVerdict bits (left n k at d) ≡ countVerdict (wordsFrom mostMoves first d) n)
+    × ((k ≤ count) × ((at ≡ first + 4 * k) × ((bits ≤ 255 * k) × ((count ≤ mostMoves) × ((count ≤ n) × ((n ≤ count) ⊎ (mostMoves ≤ count)))))))
 
 abbrev μ-loop : tie.MeasureT-loop
 μ-loop d first n count at₀ bits₀ k₀ at bits k = count - k

@@ -1,0 +1,52 @@
+-- `dictionary::table::place_at` meets its contract. Assumes nothing.
+use mathlib.Core.Path.{_≡_, _∙_, ap}
+use native.Mathlib.Omega.{arith}
+use borrow.Author.Needs.{needs}
+use lib.ListN.{getD}
+use Rattle.rules_dictionary.specs.Table.{table, entries, rowAt, placeOf, deviceType}
+use Rattle.rules_dictionary.proofs.Tests.{getD-in}
+use Rattle.dictionary.specs.Lines.{subindexIn, placeIn}
+use Rattle.dictionary.proofs.Order.{lines-length, few, place-of-rank}
+use Rattle.dictionary.proofs.Regular.{small}
+use Rattle.dictionary.proofs.table.place_at.Statement.{statement}
+use Rattle.dictionary.proofs.table.place_at.Tie as tie
+
+mul-line : tie.Need-mul-line
+mul-line c = search (needs, few)
+
+shared-slice-read-line : tie.Need-shared-slice-read-line
+shared-slice-read-line c = omega (arith, lines-length (c .before .before .args .rows .now) (c .before .before .pre .0))
+
+cast-room-of : tie.Need-cast-room-of
+cast-room-of c = search needs
+
+room-of-requires : tie.Need-room-of-requires
+room-of-requires c κs = search needs
+
+cast-place-in : tie.Need-cast-place-in
+cast-place-in c = search needs
+
+place-in-requires : tie.Need-place-in-requires
+place-in-requires c κs = (c .before .before .before .pre .0, (c .before .before .before .pre .1, c .room-of .ensures .1))
+
+returns : tie.Need-returns
+unfolding entries
+returns c =
+    let start = c .before .before .before .before in
+    let lines = start .args .rows .now in
+    let n = start .args .rank in
+    let at : c .place-in .result ≡ placeOf (rowAt n) =
+    c .place-in .ensures ∙ ap (λ r. placeIn lines r n (subindexIn (getD lines n 0))) (c .before .room-of .ensures .0) ∙ place-of-rank lines n (start .pre .0) (start .pre .1) in
+    (at, omega (arith, at, small (getD-in table n deviceType (start .pre .1))))
+
+pub place-at-spec : {M : Type 1} → statement M
+place-at-spec =
+    tie.close
+    (tie.spec
+    mul-line
+    shared-slice-read-line
+    cast-room-of
+    room-of-requires
+    cast-place-in
+    place-in-requires
+    returns)

@@ -1,0 +1,69 @@
+-- The sum so far, and what is left of it. Assumes nothing.
+use Prim.Native.Nat.{_≤_, _<_, _+_, _-_, _*_, _^_}
+use mathlib.Core.Path.{_≡_, refl}
+use native.Mathlib.Omega.{arith}
+use borrow.Author.Needs.{needs}
+use Rattle.dictionary.specs.Lines.{sizesFrom}
+use Rattle.rules_dictionary.specs.Table.{entries}
+use Rattle.dictionary.proofs.Order.{lines-length, few, size-step, nothing-left}
+use Rattle.dictionary.proofs.table.sizes_from.Statement.{statement}
+use Rattle.dictionary.proofs.table.sizes_from.Tie as tie
+
+abbrev Inv-loop : tie.InvT-loop
+Inv-loop rows first last bytes₀ k₀ bytes k =
+    (bytes + sizesFrom rows k (last - k) ≡ sizesFrom rows first (last - first)) × (bytes + 7 * (last - k) ≤ 7 * entries)
+
+abbrev μ-loop : tie.MeasureT-loop
+μ-loop rows first last bytes₀ k₀ bytes k = last - k
+
+loop-holds : tie.Need-loop-holds Inv-loop μ-loop
+loop-holds c = (omega arith, omega arith)
+
+mul-bytes : tie.Need-mul-bytes Inv-loop μ-loop
+mul-bytes c = search (needs, few)
+
+shared-slice-read-bytes : tie.Need-shared-slice-read-bytes Inv-loop μ-loop
+shared-slice-read-bytes c = omega (arith, lines-length (c .before .before .before .args .rows .now) (c .before .before .before .pre .0))
+
+cast-bytes : tie.Need-cast-bytes Inv-loop μ-loop
+cast-bytes c = search needs
+
+add-bytes : tie.Need-add-bytes Inv-loop μ-loop
+add-bytes c = search (needs, few)
+
+add-k : tie.Need-add-k Inv-loop μ-loop
+add-k c = search needs
+
+loop-less : tie.Need-loop-less Inv-loop μ-loop
+loop-less c = search needs
+
+loop-again : tie.Need-loop-again Inv-loop μ-loop
+loop-again c =
+    let l = c .before .before .loop in
+    let a = c .before .before .before .args in
+    let left = size-step (a .rows .now) (l .k) (a .last - l .k) (omega arith) in
+    let same : a .last - l .k - 1 ≡ a .last - (l .k + 1) = omega arith in
+    (omega (arith, l .inv .0, rw same at left), omega arith)
+
+returns : tie.Need-returns Inv-loop μ-loop
+returns c =
+    let l = c .before .loop in
+    let a = c .before .before .args in
+    let none : a .last - l .k ≡ 0 = omega arith in
+    (omega (arith, rw none at (l .inv .0), nothing-left (a .rows .now) (l .k)), omega (arith, few))
+
+pub sizes-from-spec : {M : Type 1} → statement M
+sizes-from-spec =
+    tie.close
+    (tie.spec
+    Inv-loop
+    μ-loop
+    loop-holds
+    mul-bytes
+    shared-slice-read-bytes
+    cast-bytes
+    add-bytes
+    add-k
+    loop-less
+    loop-again
+    returns)
