@@ -1,6 +1,6 @@
 /*
- * One kind of call, made so many times: `count KIND TIMES`. The instructions of a call are the difference between two runs, divided by
- * the difference of the times.
+ * One kind of call, made so many times: `count KIND TIMES [BELOW]`, on a stack that starts BELOW bytes, a multiple of 16, under a boundary of
+ * 4096. The instructions of a call are the difference between two runs, divided by the difference of the times.
  */
 #include <stdio.h>
 
@@ -17,14 +17,22 @@ static void make_calls(void)
         call(kind, i);
 }
 
+static uint32_t number_of(const char *digits)
+{
+    uint32_t number = 0;
+
+    for (const char *p = digits; *p; p++)
+        number = 10 * number + (uint32_t)(*p - '0');
+    return number;
+}
+
 int main(int argc, char **argv)
 {
     if (argc < 3)
         return 1;
     kind = argv[1][0];
-    for (const char *p = argv[2]; *p; p++)
-        times = 10 * times + (uint32_t)(*p - '0');
-    on_own_stack(make_calls);
+    times = number_of(argv[2]);
+    on_own_stack(make_calls, argc > 3 ? number_of(argv[3]) / 16 * 16 % 4096 : 0);
     printf("%u frames, refusal %u\n", cendurak_frames(answer), cendurak_refusal(answer));
     return 0;
 }

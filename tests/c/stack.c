@@ -61,7 +61,7 @@ static void make_other(void)
 static uint32_t depth_of(void (*make)(void), uint8_t paint)
 {
     memset(own_stack, paint, sizeof own_stack);
-    on_own_stack(make);
+    on_own_stack(make, 0);
     return depth_under(paint);
 }
 
