@@ -13,17 +13,11 @@ use borrow.Author.Needs.{needs}
 use Rattle.calls.proofs.brief_event.Statement.{statement}
 use Rattle.calls.proofs.brief_event.Tie as tie
 
-refuse-requires : tie.Need-refuse-requires
-refuse-requires c κs = search needs
-
 returns : tie.Need-returns
 unfolding dictionaryLength table
 returns c =
     let a = c .before .before .before .before .before .args in
     refused-gives (c .refuse .ensures) (no-dictionary (eventCall (a .number) (a .arguments .now)) (a .s) (a .d .now) (a .output .now) (c .before .if1 .taken))
-
-refuse-requires-2 : tie.Need-refuse-requires-2
-refuse-requires-2 c κs = search needs
 
 returns-2 : tie.Need-returns-2
 unfolding dictionaryLength table
@@ -35,12 +29,6 @@ is-sound-requires : tie.Need-is-sound-requires
 unfolding dictionaryLength table
 is-sound-requires c κs = search needs
 
-refuse-requires-3 : tie.Need-refuse-requires-3
-refuse-requires-3 c κs = search needs
-
-same-length : tie.Need-same-length
-same-length c = search needs
-
 returns-3 : tie.Need-returns-3
 unfolding dictionaryLength table
 returns-3 c =
@@ -50,18 +38,6 @@ returns-3 c =
     refused-gives (c .refuse3 .ensures)
     (decides-not (eventCall (a .number) (a .arguments .now)) (a .s) (a .d .now) (a .output .now) (e .before .if1 .left) (e .if2 .left) _
     (unsound-event (a .number) (a .arguments .now) (a .s) (a .d .now) (sym (t .is-sound .ensures) ∙ not-true _ (c .before .if3 .taken))))
-
-event-of-requires : tie.Need-event-of-requires
-event-of-requires c κs = search needs
-
-is-bad-requires : tie.Need-is-bad-requires
-is-bad-requires c κs = search needs
-
-refuse-requires-4 : tie.Need-refuse-requires-4
-refuse-requires-4 c κs = search needs
-
-same-length-2 : tie.Need-same-length-2
-same-length-2 c = search needs
 
 returns-4 : tie.Need-returns-4
 unfolding dictionaryLength table
@@ -75,15 +51,6 @@ returns-4 c =
     (decides-not (eventCall (a .number) (a .arguments .now)) (a .s) (a .d .now) (a .output .now) (e .before .if1 .left) (e .if2 .left) _
     (told-event (a .number) (a .arguments .now) (a .s) (a .d .now) (sym (t .is-sound .ensures) ∙ not-false _ (v .before .if3 .left)) _ (v .event-of .ensures)
     ∙ refused-bad (a .s) (a .d .now) (v .event-of .result) (sym (b .is-bad .ensures) ∙ c .before .if4 .taken)))
-
-is-in-place-requires : tie.Need-is-in-place-requires
-is-in-place-requires c κs = search needs
-
-refuse-requires-5 : tie.Need-refuse-requires-5
-refuse-requires-5 c κs = search needs
-
-same-length-3 : tie.Need-same-length-3
-same-length-3 c = search needs
 
 returns-5 : tie.Need-returns-5
 unfolding dictionaryLength table
@@ -116,12 +83,6 @@ happen-requires c κs =
       ),
     )
 
-same-length-4 : tie.Need-same-length-4
-same-length-4 c = search needs
-
-same-length-5 : tie.Need-same-length-5
-same-length-5 c = search needs
-
 returns-6 : tie.Need-returns-6
 unfolding answered dictionaryLength table
 returns-6 c =
@@ -138,26 +99,6 @@ returns-6 c =
 
 pub brief-event-spec : {M : Type 1} → statement M
 brief-event-spec =
-    tie.close
-    (tie.spec
-    refuse-requires
-    returns
-    refuse-requires-2
-    returns-2
-    is-sound-requires
-    refuse-requires-3
-    same-length
-    returns-3
-    event-of-requires
-    is-bad-requires
-    refuse-requires-4
-    same-length-2
-    returns-4
-    is-in-place-requires
-    refuse-requires-5
-    same-length-3
-    returns-5
-    happen-requires
-    same-length-4
-    same-length-5
-    returns-6)
+    tie.close (tie.spec (λ c κs. search needs) returns (λ c κs. search needs) returns-2 is-sound-requires (λ c κs. search needs) (λ c. search needs)
+    returns-3 (λ c κs. search needs) (λ c κs. search needs) (λ c κs. search needs) (λ c. search needs) returns-4 (λ c κs. search needs)
+    (λ c κs. search needs) (λ c. search needs) returns-5 happen-requires (λ c. search needs) (λ c. search needs) returns-6)

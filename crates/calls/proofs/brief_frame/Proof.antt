@@ -16,17 +16,11 @@ use borrow.Author.Needs.{needs}
 use Rattle.calls.proofs.brief_frame.Statement.{statement}
 use Rattle.calls.proofs.brief_frame.Tie as tie
 
-refuse-requires : tie.Need-refuse-requires
-refuse-requires c κs = search needs
-
 returns : tie.Need-returns
 unfolding dictionaryLength table
 returns c =
     let a = c .before .before .before .before .before .args in
     refused-gives (c .refuse .ensures) (no-dictionary (frameCall (a .identifier) (a .bytes .now)) (a .s) (a .d .now) (a .output .now) (c .before .if1 .taken))
-
-refuse-requires-2 : tie.Need-refuse-requires-2
-refuse-requires-2 c κs = search needs
 
 returns-2 : tie.Need-returns-2
 unfolding dictionaryLength table
@@ -38,12 +32,6 @@ is-sound-requires : tie.Need-is-sound-requires
 unfolding dictionaryLength table
 is-sound-requires c κs = search needs
 
-refuse-requires-3 : tie.Need-refuse-requires-3
-refuse-requires-3 c κs = search needs
-
-same-length : tie.Need-same-length
-same-length c = search needs
-
 returns-3 : tie.Need-returns-3
 unfolding dictionaryLength table
 returns-3 c =
@@ -52,12 +40,6 @@ returns-3 c =
     let a = e .before .before .before .before .before .args in
     refused-gives (c .refuse3 .ensures)
     (decides-not (frameCall (a .identifier) (a .bytes .now)) (a .s) (a .d .now) (a .output .now) (e .before .if1 .left) (e .if2 .left) _ (unsound-frame (a .identifier) (a .bytes .now) (a .s) (a .d .now) (sym (t .is-sound .ensures) ∙ not-true _ (c .before .if3 .taken))))
-
-refuse-requires-4 : tie.Need-refuse-requires-4
-refuse-requires-4 c κs = search needs
-
-same-length-2 : tie.Need-same-length-2
-same-length-2 c = search needs
 
 returns-4 : tie.Need-returns-4
 unfolding dictionaryLength table
@@ -68,12 +50,6 @@ returns-4 c =
     refused-gives (c .refuse4 .ensures)
     (decides-not (frameCall (a .identifier) (a .bytes .now)) (a .s) (a .d .now) (a .output .now) (e .before .if1 .left) (e .if2 .left) _ (no-identifier (a .identifier) (a .bytes .now) (a .s) (a .d .now) (sym (t .is-sound .ensures) ∙ not-false _ (c .before .before .if3 .left)) (c .before .if4 .taken)))
 
-refuse-requires-5 : tie.Need-refuse-requires-5
-refuse-requires-5 c κs = search needs
-
-same-length-3 : tie.Need-same-length-3
-same-length-3 c = search needs
-
 returns-5 : tie.Need-returns-5
 unfolding dictionaryLength table
 returns-5 c =
@@ -82,12 +58,6 @@ returns-5 c =
     let a = e .before .before .before .before .before .args in
     refused-gives (c .refuse5 .ensures)
     (decides-not (frameCall (a .identifier) (a .bytes .now)) (a .s) (a .d .now) (a .output .now) (e .before .if1 .left) (e .if2 .left) _ (too-long (a .identifier) (a .bytes .now) (a .s) (a .d .now) (sym (t .is-sound .ensures) ∙ not-false _ (c .before .before .before .if3 .left)) (c .before .if5 .taken)))
-
-cast-take-frame : tie.Need-cast-take-frame
-cast-take-frame c = search needs
-
-content-of-requires : tie.Need-content-of-requires
-content-of-requires c κs = search needs
 
 take-frame-requires : tie.Need-take-frame-requires
 unfolding dictionaryLength table
@@ -100,12 +70,6 @@ take-frame-requires c κs =
       record { long = e .before .if1 .left; room = e .if2 .left; sound = sym (t .is-sound .ensures) ∙ not-false _ (v .before .before .before .if3 .left) },
       subst OnBus (sym (v .content-of .ensures)) (on-bus (a .bytes .now) (v .before .if5 .left) (are-bytes (a .bytes .now) (λ i l. omega (arith, k .shared-slice-known .given i)))),
     )
-
-same-length-4 : tie.Need-same-length-4
-same-length-4 c = search needs
-
-same-length-5 : tie.Need-same-length-5
-same-length-5 c = search needs
 
 returns-6 : tie.Need-returns-6
 unfolding answered dictionaryLength table
@@ -122,25 +86,6 @@ returns-6 c =
 
 pub brief-frame-spec : {M : Type 1} → statement M
 brief-frame-spec =
-    tie.close
-    (tie.spec
-    refuse-requires
-    returns
-    refuse-requires-2
-    returns-2
-    is-sound-requires
-    refuse-requires-3
-    same-length
-    returns-3
-    refuse-requires-4
-    same-length-2
-    returns-4
-    refuse-requires-5
-    same-length-3
-    returns-5
-    cast-take-frame
-    content-of-requires
-    take-frame-requires
-    same-length-4
-    same-length-5
-    returns-6)
+    tie.close (tie.spec (λ c κs. search needs) returns (λ c κs. search needs) returns-2 is-sound-requires (λ c κs. search needs) (λ c. search needs)
+    returns-3 (λ c κs. search needs) (λ c. search needs) returns-4 (λ c κs. search needs) (λ c. search needs) returns-5 (λ c. search needs)
+    (λ c κs. search needs) take-frame-requires (λ c. search needs) (λ c. search needs) returns-6)

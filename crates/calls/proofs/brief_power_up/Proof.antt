@@ -10,26 +10,17 @@ use borrow.Author.Needs.{needs}
 use Rattle.calls.proofs.brief_power_up.Statement.{statement}
 use Rattle.calls.proofs.brief_power_up.Tie as tie
 
-refuse-requires : tie.Need-refuse-requires
-refuse-requires c κs = search needs
-
 returns : tie.Need-returns
 unfolding dictionaryLength table
 returns c =
     let a = c .before .before .before .before .args in
     refused-gives (c .refuse .ensures) (no-dictionary (powerUpCall (a .n)) (a .s) (a .d .now) (a .output .now) (c .before .if1 .taken))
 
-refuse-requires-2 : tie.Need-refuse-requires-2
-refuse-requires-2 c κs = search needs
-
 returns-2 : tie.Need-returns-2
 unfolding dictionaryLength table
 returns-2 c =
     let a = c .before .before .before .before .before .args in
     refused-gives (c .refuse2 .ensures) (no-room (powerUpCall (a .n)) (a .s) (a .d .now) (a .output .now) (c .before .before .if1 .left) (c .before .if2 .taken))
-
-refuse-requires-3 : tie.Need-refuse-requires-3
-refuse-requires-3 c κs = search needs
 
 returns-3 : tie.Need-returns-3
 unfolding dictionaryLength table
@@ -38,18 +29,12 @@ returns-3 c =
     refused-gives (c .refuse3 .ensures)
     (decides-not (powerUpCall (a .n)) (a .s) (a .d .now) (a .output .now) (c .before .before .before .if1 .left) (c .before .before .if2 .left) _ (too-low (a .n) (a .s) (a .d .now) (c .before .if3 .taken)))
 
-refuse-requires-4 : tie.Need-refuse-requires-4
-refuse-requires-4 c κs = search needs
-
 returns-4 : tie.Need-returns-4
 unfolding dictionaryLength table
 returns-4 c =
     let a = c .before .before .before .before .before .before .before .args in
     refused-gives (c .refuse4 .ensures)
     (decides-not (powerUpCall (a .n)) (a .s) (a .d .now) (a .output .now) (c .before .before .before .before .if1 .left) (c .before .before .before .if2 .left) _ (too-high (a .n) (a .s) (a .d .now) (c .before .if4 .taken)))
-
-cast-start : tie.Need-cast-start
-cast-start c = search needs
 
 start-requires : tie.Need-start-requires
 unfolding dictionaryLength table
@@ -59,12 +44,6 @@ anew-requires : tie.Need-anew-requires
 anew-requires c κs =
     let r = c .before .before .before .before .before in
     may-renew (r .start .ensures .0 (r .before .before .before .before .before .before .before .before .before .args .s) .ends) (r .start .ensures .1)
-
-same-length : tie.Need-same-length
-same-length c = search needs
-
-same-length-2 : tie.Need-same-length-2
-same-length-2 c = search needs
 
 returns-5 : tie.Need-returns-5
 unfolding answered dictionaryLength table
@@ -78,19 +57,5 @@ returns-5 c =
 
 pub brief-power-up-spec : {M : Type 1} → statement M
 brief-power-up-spec =
-    tie.close
-    (tie.spec
-    refuse-requires
-    returns
-    refuse-requires-2
-    returns-2
-    refuse-requires-3
-    returns-3
-    refuse-requires-4
-    returns-4
-    cast-start
-    start-requires
-    anew-requires
-    same-length
-    same-length-2
-    returns-5)
+    tie.close (tie.spec (λ c κs. search needs) returns (λ c κs. search needs) returns-2 (λ c κs. search needs) returns-3 (λ c κs. search needs)
+    returns-4 (λ c. search needs) start-requires anew-requires (λ c. search needs) (λ c. search needs) returns-5)

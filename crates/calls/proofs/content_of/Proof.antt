@@ -18,26 +18,11 @@ abbrev μ-loop : tie.MeasureT-loop
 loop-holds : tie.Need-loop-holds Inv-loop μ-loop
 loop-holds c = (none-taken (c .args .bytes .now), search needs)
 
-shared-slice-read-content : tie.Need-shared-slice-read-content Inv-loop μ-loop
-shared-slice-read-content c = search needs
-
-array-write-content : tie.Need-array-write-content Inv-loop μ-loop
-array-write-content c = search needs
-
-add-i : tie.Need-add-i Inv-loop μ-loop
-add-i c = search needs
-
-loop-less : tie.Need-loop-less Inv-loop μ-loop
-loop-less c = search needs
-
 loop-again : tie.Need-loop-again Inv-loop μ-loop
 loop-again c =
     let l = c .before .before .loop in
     let a = c .before .before .before .args in
     (rw (l .inv .0) (next-taken (a .bytes .now) (l .i) (search needs) (search needs)), (search needs, search needs))
-
-cast-t10 : tie.Need-cast-t10 Inv-loop μ-loop
-cast-t10 c = search needs
 
 returns : tie.Need-returns Inv-loop μ-loop
 returns c =
@@ -46,15 +31,5 @@ returns c =
 
 pub content-of-spec : {M : Type 1} → statement M
 content-of-spec =
-    tie.close
-    (tie.spec
-    Inv-loop
-    μ-loop
-    loop-holds
-    shared-slice-read-content
-    array-write-content
-    add-i
-    loop-less
-    loop-again
-    cast-t10
-    returns)
+    tie.close (tie.spec Inv-loop μ-loop loop-holds (λ c. search needs) (λ c. search needs) (λ c. search needs) (λ c. search needs) loop-again
+    (λ c. search needs) returns)

@@ -22,12 +22,6 @@ returns-3 c =
     let a = c .before .before .before .before .before .before .before .args in
     no-state (eventCall (a .number) (a .arguments .now)) (a .state .now) (a .dict .now) (a .out .now) (c .before .before .if1 .left) (c .before .if2 .left) refl (other-length (a .state .now) (c .if3 .taken))
 
-is-form-requires : tie.Need-is-form-requires
-is-form-requires c κs = search needs
-
-same-length : tie.Need-same-length
-same-length c = search needs
-
 returns-4 : tie.Need-returns-4
 unfolding dictionaryLength table
 returns-4 c =
@@ -35,9 +29,6 @@ returns-4 c =
     let e = t .before .before in
     let a = e .before .before .before .before .before .before .before .args in
     no-state (eventCall (a .number) (a .arguments .now)) (a .state .now) (a .dict .now) (a .out .now) (e .before .before .if1 .left) (e .before .if2 .left) refl (no-form (a .state .now) (e .if3 .left) (sym (t .is-form .ensures) ∙ not-true _ (c .if4 .taken)))
-
-read-state-requires : tie.Need-read-state-requires
-read-state-requires c κs = search needs
 
 brief-event-requires : tie.Need-brief-event-requires
 unfolding dictionaryLength table
@@ -49,15 +40,6 @@ leave-brief-requires c κs =
     let g = b .before .before .before .before .before in
     let t = g .before in
     (t .before .before .if3 .left, (sym (t .is-form .ensures) ∙ not-false _ (g .if4 .left), b .brief-event .ensures .1))
-
-same-length-2 : tie.Need-same-length-2
-same-length-2 c = search needs
-
-same-length-3 : tie.Need-same-length-3
-same-length-3 c = search needs
-
-same-length-4 : tie.Need-same-length-4
-same-length-4 c = search needs
 
 returns-5 : tie.Need-returns-5
 returns-5 c =
@@ -72,18 +54,5 @@ returns-5 c =
 
 pub cendurak-event-spec : {M : Type 1} → statement M
 cendurak-event-spec =
-    tie.close
-    (tie.spec
-    returns
-    returns-2
-    returns-3
-    is-form-requires
-    same-length
-    returns-4
-    read-state-requires
-    brief-event-requires
-    leave-brief-requires
-    same-length-2
-    same-length-3
-    same-length-4
-    returns-5)
+    tie.close (tie.spec returns returns-2 returns-3 (λ c κs. search needs) (λ c. search needs) returns-4 (λ c κs. search needs) brief-event-requires
+    leave-brief-requires (λ c. search needs) (λ c. search needs) (λ c. search needs) returns-5)

@@ -39,9 +39,6 @@ returns-5 c =
     let a = c .before .before .before .before .before .before .before .before .args in
     no-state (powerUpCall (a .n)) (a .state .now) (a .dict .now) (a .out .now) (c .before .before .before .before .if1 .left) (c .before .before .before .if2 .left) (a-node-id (a .n) (c .before .before .if3 .left) (c .before .if4 .left)) (ne-eqb _ stateLength (c .if5 .taken))
 
-read-state-requires : tie.Need-read-state-requires
-read-state-requires c κs = search needs
-
 power-up-requires : tie.Need-power-up-requires
 unfolding dictionaryLength table
 power-up-requires c κs = search needs
@@ -49,15 +46,6 @@ power-up-requires c κs = search needs
 leave-requires : tie.Need-leave-requires
 unfolding dictionaryLength table
 leave-requires c κs = search needs
-
-same-length : tie.Need-same-length
-same-length c = search needs
-
-same-length-2 : tie.Need-same-length-2
-same-length-2 c = search needs
-
-same-length-3 : tie.Need-same-length-3
-same-length-3 c = search needs
 
 returns-6 : tie.Need-returns-6
 returns-6 c =
@@ -69,17 +57,5 @@ returns-6 c =
 
 pub cendurak-power-up-spec : {M : Type 1} → statement M
 cendurak-power-up-spec =
-    tie.close
-    (tie.spec
-    returns
-    returns-2
-    returns-3
-    returns-4
-    returns-5
-    read-state-requires
-    power-up-requires
-    leave-requires
-    same-length
-    same-length-2
-    same-length-3
-    returns-6)
+    tie.close (tie.spec returns returns-2 returns-3 returns-4 returns-5 (λ c κs. search needs) power-up-requires leave-requires (λ c. search needs)
+    (λ c. search needs) (λ c. search needs) returns-6)

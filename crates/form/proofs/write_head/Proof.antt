@@ -7,24 +7,6 @@ use borrow.Author.Needs.{needs}
 use Rattle.form.proofs.write_head.Statement.{statement}
 use Rattle.form.proofs.write_head.Tie as tie
 
-write-node-requires : tie.Need-write-node-requires
-write-node-requires c κs = search needs
-
-write-drive-requires : tie.Need-write-drive-requires
-write-drive-requires c κs = search needs
-
-write-frames-requires : tie.Need-write-frames-requires
-write-frames-requires c κs = search needs
-
-write-frames-requires-2 : tie.Need-write-frames-requires-2
-write-frames-requires-2 c κs = search needs
-
-write-counts-requires : tie.Need-write-counts-requires
-write-counts-requires c κs = search needs
-
-same-length : tie.Need-same-length
-same-length c = search needs
-
 returns : tie.Need-returns
 returns c =
     let w = c .before .before in
@@ -48,12 +30,5 @@ returns c =
 
 pub write-head-spec : {M : Type 1} → statement M
 write-head-spec =
-    tie.close
-    (tie.spec
-    write-node-requires
-    write-drive-requires
-    write-frames-requires
-    write-frames-requires-2
-    write-counts-requires
-    same-length
-    returns)
+    tie.close (tie.spec (λ c κs. search needs) (λ c κs. search needs) (λ c κs. search needs) (λ c κs. search needs) (λ c κs. search needs)
+    (λ c. search needs) returns)

@@ -6,15 +6,6 @@ use borrow.Author.Needs.{needs}
 use Rattle.form.proofs.write_state.Statement.{statement}
 use Rattle.form.proofs.write_state.Tie as tie
 
-write-plans-requires : tie.Need-write-plans-requires
-write-plans-requires c κs = search needs
-
-write-head-requires : tie.Need-write-head-requires
-write-head-requires c κs = search needs
-
-same-length : tie.Need-same-length
-same-length c = search needs
-
 returns : tie.Need-returns
 returns c =
     let h = c .before .before .write-head .ensures in
@@ -30,4 +21,4 @@ returns c =
 
 pub write-state-spec : {M : Type 1} → statement M
 write-state-spec =
-    tie.close (tie.spec write-plans-requires write-head-requires same-length returns)
+    tie.close (tie.spec (λ c κs. search needs) (λ c κs. search needs) (λ c. search needs) returns)

@@ -6,9 +6,6 @@ use borrow.Author.Needs.{needs}
 use Rattle.legality.proofs.dictionary_legal.Statement.{statement}
 use Rattle.legality.proofs.dictionary_legal.Tie as tie
 
-rows-legal-requires : tie.Need-rows-legal-requires
-rows-legal-requires c κs = search needs
-
 -- a test behind two others, whose joint result is known
 behind : (a b c : Bool) {r : Bool} → (a && b) ≡ r → (r && c) ≡ (a && (b && c))
 behind a b c h = ap (λ (x : Bool). x && c) (sym h) ∙ and-assoc a b c
@@ -18,9 +15,6 @@ returns c =
     let a = c .before .before .before .args in
     behind (constantsAsListed (a .n) (a .d .now)) (valuesInRange (a .d .now)) (identifiersLegal (a .d .now)) (sym (c .before .rows-legal .ensures) ∙ not-true _ (c .if1 .taken))
 
-identifiers-legal-requires : tie.Need-identifiers-legal-requires
-identifiers-legal-requires c κs = search needs
-
 returns-2 : tie.Need-returns-2
 returns-2 c =
     let a = c .before .before .before .before .args in
@@ -29,4 +23,4 @@ returns-2 c =
 
 pub dictionary-legal-spec : {M : Type 1} → statement M
 dictionary-legal-spec =
-    tie.close (tie.spec rows-legal-requires returns identifiers-legal-requires returns-2)
+    tie.close (tie.spec (λ c κs. search needs) returns (λ c κs. search needs) returns-2)

@@ -19,15 +19,6 @@ Inv-loop output₀ identifier content i₀ output i =
 abbrev μ-loop : tie.MeasureT-loop
 μ-loop output₀ identifier content i₀ output i = mostData - i
 
-cast-output : tie.Need-cast-output Inv-loop μ-loop
-cast-output c = search needs
-
-slice-write-output : tie.Need-slice-write-output Inv-loop μ-loop
-slice-write-output c = search needs
-
-cast-output-2 : tie.Need-cast-output-2 Inv-loop μ-loop
-cast-output-2 c = search needs
-
 slice-write-output-2 : tie.Need-slice-write-output-2 Inv-loop μ-loop
 slice-write-output-2 c = simp length-set (omega arith)
 
@@ -37,24 +28,12 @@ slice-write-output-3 c = simp length-set (omega arith)
 loop-holds : tie.Need-loop-holds Inv-loop μ-loop
 loop-holds c = (paste-zero _ headSize (c .args .t3 .bytes), omega arith, refl)
 
-add-place : tie.Need-add-place Inv-loop μ-loop
-add-place c = search needs
-
-element-copy-out-output : tie.Need-element-copy-out-output Inv-loop μ-loop
-element-copy-out-output c = search needs
-
 slice-write-output-4 : tie.Need-slice-write-output-4 Inv-loop μ-loop
 slice-write-output-4 c =
     let l = c .before .before .loop in
     let a = c .before .before .before .args in
     let h : length (l .output) ≡ length (a .output .now) = l .inv .2 ∙ simp length-set in
     omega arith
-
-add-i : tie.Need-add-i Inv-loop μ-loop
-add-i c = search needs
-
-loop-less : tie.Need-loop-less Inv-loop μ-loop
-loop-less c = search needs
 
 loop-again : tie.Need-loop-again Inv-loop μ-loop
 loop-again c =
@@ -78,21 +57,5 @@ returns c =
 
 pub lay-spec : {M : Type 1} → statement M
 lay-spec =
-    tie.close
-    (tie.spec
-    Inv-loop
-    μ-loop
-    cast-output
-    slice-write-output
-    cast-output-2
-    slice-write-output-2
-    slice-write-output-3
-    loop-holds
-    add-place
-    element-copy-out-output
-    slice-write-output-4
-    add-i
-    loop-less
-    loop-again
-    same-length
-    returns)
+    tie.close (tie.spec Inv-loop μ-loop (λ c. search needs) (λ c. search needs) (λ c. search needs) slice-write-output-2 slice-write-output-3
+    loop-holds (λ c. search needs) (λ c. search needs) slice-write-output-4 (λ c. search needs) (λ c. search needs) loop-again same-length returns)

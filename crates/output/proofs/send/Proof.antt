@@ -9,27 +9,6 @@ use Rattle.output.proofs.Laws.{part-back, laid-is-emitted}
 use Rattle.output.proofs.send.Statement.{statement}
 use Rattle.output.proofs.send.Tie as tie
 
-mul-place : tie.Need-mul-place
-mul-place c = search needs
-
-sub-lay : tie.Need-sub-lay
-sub-lay c = search needs
-
-part-lay-start : tie.Need-part-lay-start
-part-lay-start c = search needs
-
-part-lay-end : tie.Need-part-lay-end
-part-lay-end c = search needs
-
-lay-requires : tie.Need-lay-requires
-lay-requires c κs = search needs
-
-add-result : tie.Need-add-result
-add-result c = search needs
-
-same-length : tie.Need-same-length
-same-length c = search needs
-
 returns : tie.Need-returns
 returns c =
     let a = c .before .before .before .before .before .args in
@@ -37,4 +16,6 @@ returns c =
     (refl, b ∙ laid-is-emitted (a .n) (a .identifier) (a .content) (a .output .now) (c .before .before .before .before .before .pre .1 .1))
 
 pub send-spec : {M : Type 1} → statement M
-send-spec = tie.close (tie.spec mul-place sub-lay part-lay-start part-lay-end lay-requires add-result same-length returns)
+send-spec =
+    tie.close (tie.spec (λ c. search needs) (λ c. search needs) (λ c. search needs) (λ c. search needs) (λ c κs. search needs) (λ c. search needs)
+    (λ c. search needs) returns)

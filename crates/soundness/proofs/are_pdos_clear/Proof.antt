@@ -8,9 +8,6 @@ use borrow.Author.Needs.{needs}
 use Rattle.soundness.proofs.are_pdos_clear.Statement.{statement}
 use Rattle.soundness.proofs.are_pdos_clear.Tie as tie
 
-are-plans-kept-requires : tie.Need-are-plans-kept-requires
-are-plans-kept-requires c κs = search needs
-
 returns : tie.Need-returns
 unfolding pdoClauses
 returns c = rw (sym (c .before .are-plans-kept .ensures) ∙ not-true _ (c .if1 .taken))
@@ -39,12 +36,4 @@ returns-3 c =
     (c .is-waiting-sound .ensures)
 
 pub are-pdos-clear-spec : {M : Type 1} → statement M
-are-pdos-clear-spec =
-    tie.close
-    (tie.spec
-    are-plans-kept-requires
-    returns
-    are-frames-kept-requires
-    returns-2
-    is-waiting-sound-requires
-    returns-3)
+are-pdos-clear-spec = tie.close (tie.spec (λ c κs. search needs) returns are-frames-kept-requires returns-2 is-waiting-sound-requires returns-3)

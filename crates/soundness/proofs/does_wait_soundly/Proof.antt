@@ -7,17 +7,11 @@ use borrow.Author.Needs.{needs}
 use Rattle.soundness.proofs.does_wait_soundly.Statement.{statement}
 use Rattle.soundness.proofs.does_wait_soundly.Tie as tie
 
-does-nothing-wait-requires : tie.Need-does-nothing-wait-requires
-does-nothing-wait-requires c κs = search needs
-
 returns : tie.Need-returns
 unfolding waitingSound waitSound
 returns c =
     let w = c .before .does-nothing-wait .ensures in
     none-waits _ _ _ _ _ (w .1 .0) (w .1 .1 .0) (w .1 .1 .1) (sym (w .0) ∙ c .if1 .taken)
-
-is-waiting-sound-requires : tie.Need-is-waiting-sound-requires
-is-waiting-sound-requires c κs = search needs
 
 returns-2 : tie.Need-returns-2
 unfolding waitingSound waitSound
@@ -25,4 +19,4 @@ returns-2 c = c .is-waiting-sound .ensures
 
 pub does-wait-soundly-spec : {M : Type 1} → statement M
 does-wait-soundly-spec =
-    tie.close (tie.spec does-nothing-wait-requires returns is-waiting-sound-requires returns-2)
+    tie.close (tie.spec (λ c κs. search needs) returns (λ c κs. search needs) returns-2)

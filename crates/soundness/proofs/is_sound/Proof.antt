@@ -7,25 +7,16 @@ use borrow.Author.Needs.{needs}
 use Rattle.soundness.proofs.is_sound.Statement.{statement}
 use Rattle.soundness.proofs.is_sound.Tie as tie
 
-is-node-id-requires : tie.Need-is-node-id-requires
-is-node-id-requires c κs = search needs
-
 returns : tie.Need-returns
 returns c =
     let a = c .before .before .before .before .args in
     sym (sound-parts (a .s) (a .d .now) ∙ rw (sym (c .before .is-node-id .ensures) ∙ not-true _ (c .if1 .taken)))
-
-dictionary-legal-requires : tie.Need-dictionary-legal-requires
-dictionary-legal-requires c κs = search needs
 
 returns-2 : tie.Need-returns-2
 returns-2 c =
     let i = c .before .before in
     let a = i .before .before .before .before .args in
     sym (sound-parts (a .s) (a .d .now) ∙ rw (sym (i .before .is-node-id .ensures) ∙ not-false _ (i .if1 .left), sym (c .before .dictionary-legal .ensures) ∙ not-true _ (c .if2 .taken)))
-
-is-drive-clear-requires : tie.Need-is-drive-clear-requires
-is-drive-clear-requires c κs = search needs
 
 returns-3 : tie.Need-returns-3
 returns-3 c =
@@ -34,12 +25,6 @@ returns-3 c =
     let a = i .before .before .before .before .args in
     sym (sound-parts (a .s) (a .d .now)
     ∙ rw (sym (i .before .is-node-id .ensures) ∙ not-false _ (i .if1 .left), sym (l .before .dictionary-legal .ensures) ∙ not-false _ (l .if2 .left), sym (c .before .is-drive-clear .ensures) ∙ not-true _ (c .if3 .taken)))
-
-has-usual-plans-requires : tie.Need-has-usual-plans-requires
-has-usual-plans-requires c κs = search needs
-
-are-pdos-clear-requires : tie.Need-are-pdos-clear-requires
-are-pdos-clear-requires c κs = search needs
 
 returns-4 : tie.Need-returns-4
 returns-4 c =
@@ -54,9 +39,6 @@ has-usual-frames-requires : tie.Need-has-usual-frames-requires
 has-usual-frames-requires c κs =
     let i = c .before .before .before .before .before .before in
     (i .before .before .before .before .pre, c .before .has-usual-plans .ensures (not-false _ (c .if4 .left)))
-
-are-pdos-clear-requires-2 : tie.Need-are-pdos-clear-requires-2
-are-pdos-clear-requires-2 c κs = search needs
 
 returns-5 : tie.Need-returns-5
 returns-5 c =
@@ -88,19 +70,5 @@ returns-6 c =
 
 pub is-sound-spec : {M : Type 1} → statement M
 is-sound-spec =
-    tie.close
-    (tie.spec
-    is-node-id-requires
-    returns
-    dictionary-legal-requires
-    returns-2
-    is-drive-clear-requires
-    returns-3
-    has-usual-plans-requires
-    are-pdos-clear-requires
-    returns-4
-    has-usual-frames-requires
-    are-pdos-clear-requires-2
-    returns-5
-    does-wait-soundly-requires
-    returns-6)
+    tie.close (tie.spec (λ c κs. search needs) returns (λ c κs. search needs) returns-2 (λ c κs. search needs) returns-3 (λ c κs. search needs)
+    (λ c κs. search needs) returns-4 has-usual-frames-requires (λ c κs. search needs) returns-5 does-wait-soundly-requires returns-6)

@@ -21,18 +21,6 @@ Inv-loop content moves count at₀ k₀ at k =
 abbrev μ-loop : tie.MeasureT-loop
 μ-loop content moves count at₀ k₀ at k = count - k
 
-cast-count : tie.Need-cast-count Inv-loop μ-loop
-cast-count c = search needs
-
-loop-holds : tie.Need-loop-holds Inv-loop μ-loop
-loop-holds c = search needs
-
-mul-m : tie.Need-mul-m Inv-loop μ-loop
-mul-m c = search needs
-
-array-copy-out-m : tie.Need-array-copy-out-m Inv-loop μ-loop
-array-copy-out-m c = search needs
-
 slice-aggregate-read : tie.Need-slice-aggregate-read Inv-loop μ-loop
 slice-aggregate-read c = sym (c .before .before .before .before .before .before .good .1 .0 .1 .0 .1)
 
@@ -44,9 +32,6 @@ read-requires c κs =
     let z = size-step (s .args .plan .moves) (s .args .plan .count) (l .k) (l .inv .0) h in
     (omega (arith, z, s .good .1 .0 .1 .0 .1), fits (s .args .plan .moves) (s .args .plan .count) (l .k) (l .inv .0) h .size)
 
-is-legal-requires : tie.Need-is-legal-requires Inv-loop μ-loop
-is-legal-requires c κs = search needs
-
 returns : tie.Need-returns Inv-loop μ-loop
 returns c =
     let i = c .before .before .before .before .before .before in
@@ -55,18 +40,6 @@ returns c =
     let e = legal-step (s .args .plan .moves) (s .args .plan .count) (l .k) (l .inv .0) (c .before .before .before .before .before .loop-test .taken) (l .at) (s .args .t2) in
     let f = sym (c .before .is-legal .ensures) ∙ not-true _ (c .if1 .taken) in
     (sym (sym (l .inv .1 .1) ∙ e ∙ rw (← c .before .before .read .ensures, f)), array-bytes 8 (s .args .t2) _ (s .good .1 .0), s .good .1 .0 .1 .0 .1)
-
-cast-at : tie.Need-cast-at Inv-loop μ-loop
-cast-at c = search needs
-
-add-at : tie.Need-add-at Inv-loop μ-loop
-add-at c = search needs
-
-add-k : tie.Need-add-k Inv-loop μ-loop
-add-k c = search needs
-
-loop-less : tie.Need-loop-less Inv-loop μ-loop
-loop-less c = search needs
 
 loop-again : tie.Need-loop-again Inv-loop μ-loop
 loop-again c =
@@ -88,21 +61,6 @@ returns-2 c =
 
 pub are-legal-spec : {M : Type 1} → statement M
 are-legal-spec =
-    tie.close
-    (tie.spec
-    Inv-loop
-    μ-loop
-    cast-count
-    loop-holds
-    mul-m
-    array-copy-out-m
-    slice-aggregate-read
-    read-requires
-    is-legal-requires
-    returns
-    cast-at
-    add-at
-    add-k
-    loop-less
-    loop-again
+    tie.close (tie.spec Inv-loop μ-loop (λ c. search needs) (λ c. search needs) (λ c. search needs) (λ c. search needs) slice-aggregate-read
+    read-requires (λ c κs. search needs) returns (λ c. search needs) (λ c. search needs) (λ c. search needs) (λ c. search needs) loop-again
     returns-2)

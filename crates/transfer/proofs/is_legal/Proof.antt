@@ -5,9 +5,6 @@ use Rattle.rules_dictionary.specs.Table.{open-table}
 use Rattle.transfer.proofs.is_legal.Statement.{statement}
 use Rattle.transfer.proofs.is_legal.Tie as tie
 
-is-mode-requires : tie.Need-is-mode-requires
-is-mode-requires c κs = search needs
-
 returns : tie.Need-returns
 unfolding open-table
 returns c = rw (c .before .match .keys1) (c .is-mode .ensures)
@@ -25,4 +22,4 @@ unfolding open-table
 returns-4 c = simp (ne-eqb _ _ (c .match .rest .0 .0 .1), ne-eqb _ _ (c .match .rest .0 .1), ne-eqb _ _ (c .match .rest .1))
 
 pub is-legal-spec : {M : Type 1} → statement M
-is-legal-spec = tie.close (tie.spec is-mode-requires returns returns-2 returns-3 returns-4)
+is-legal-spec = tie.close (tie.spec (λ c κs. search needs) returns returns-2 returns-3 returns-4)

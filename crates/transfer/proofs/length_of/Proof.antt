@@ -17,29 +17,11 @@ Inv-loop moves count total₀ k₀ total k =
 abbrev μ-loop : tie.MeasureT-loop
 μ-loop moves count total₀ k₀ total k = count - k
 
-cast-count : tie.Need-cast-count Inv-loop μ-loop
-cast-count c = search needs
-
-loop-holds : tie.Need-loop-holds Inv-loop μ-loop
-loop-holds c = search needs
-
-mul-total : tie.Need-mul-total Inv-loop μ-loop
-mul-total c = search needs
-
-element-copy-out-total : tie.Need-element-copy-out-total Inv-loop μ-loop
-element-copy-out-total c = search needs
-
 add-total : tie.Need-add-total Inv-loop μ-loop
 add-total c =
     let l = c .before .loop in
     let a = c .before .before .before .before .args .plan in
     omega (arith, size-step (a .moves) (a .count) (l .k) (l .inv .0) (c .loop-test .taken), l .inv .0 .room)
-
-add-k : tie.Need-add-k Inv-loop μ-loop
-add-k c = search needs
-
-loop-less : tie.Need-loop-less Inv-loop μ-loop
-loop-less c = search needs
 
 loop-again : tie.Need-loop-again Inv-loop μ-loop
 loop-again c =
@@ -56,16 +38,5 @@ returns c =
 
 pub length-of-spec : {M : Type 1} → statement M
 length-of-spec =
-    tie.close
-    (tie.spec
-    Inv-loop
-    μ-loop
-    cast-count
-    loop-holds
-    mul-total
-    element-copy-out-total
-    add-total
-    add-k
-    loop-less
-    loop-again
-    returns)
+    tie.close (tie.spec Inv-loop μ-loop (λ c. search needs) (λ c. search needs) (λ c. search needs) (λ c. search needs) add-total (λ c. search needs)
+    (λ c. search needs) loop-again returns)

@@ -18,29 +18,11 @@ Inv-loop place moves count k₀ k =
 abbrev μ-loop : tie.MeasureT-loop
 μ-loop place moves count k₀ k = count - k
 
-cast-count : tie.Need-cast-count Inv-loop μ-loop
-cast-count c = search needs
-
-loop-holds : tie.Need-loop-holds Inv-loop μ-loop
-loop-holds c = search needs
-
-mul-if1 : tie.Need-mul-if1 Inv-loop μ-loop
-mul-if1 c = search needs
-
-element-copy-out-if1 : tie.Need-element-copy-out-if1 Inv-loop μ-loop
-element-copy-out-if1 c = search needs
-
 returns : tie.Need-returns Inv-loop μ-loop
 returns c =
     let l = c .before .before .loop in
     let a = c .before .before .before .before .before .args in
     sym (sym (l .inv .1) ∙ place-step (a .plan .moves) (a .plan .count) (l .k) (l .inv .0) (c .before .loop-test .taken) (a .place) ∙ rw (eq-eqb _ _ (c .if1 .taken)))
-
-add-k : tie.Need-add-k Inv-loop μ-loop
-add-k c = search needs
-
-loop-less : tie.Need-loop-less Inv-loop μ-loop
-loop-less c = search needs
 
 loop-again : tie.Need-loop-again Inv-loop μ-loop
 loop-again c =
@@ -57,16 +39,5 @@ returns-2 c =
 
 pub maps-spec : {M : Type 1} → statement M
 maps-spec =
-    tie.close
-    (tie.spec
-    Inv-loop
-    μ-loop
-    cast-count
-    loop-holds
-    mul-if1
-    element-copy-out-if1
-    returns
-    add-k
-    loop-less
-    loop-again
-    returns-2)
+    tie.close (tie.spec Inv-loop μ-loop (λ c. search needs) (λ c. search needs) (λ c. search needs) (λ c. search needs) returns (λ c. search needs)
+    (λ c. search needs) loop-again returns-2)

@@ -21,21 +21,6 @@ Inv-loop d₀ content moves count at₀ k₀ d at k =
 abbrev μ-loop : tie.MeasureT-loop
 μ-loop d₀ content moves count at₀ k₀ d at k = count - k
 
-cast-count : tie.Need-cast-count Inv-loop μ-loop
-cast-count c = search needs
-
-loop-holds : tie.Need-loop-holds Inv-loop μ-loop
-loop-holds c = search needs
-
-mul-m : tie.Need-mul-m Inv-loop μ-loop
-mul-m c = search needs
-
-array-copy-out-m : tie.Need-array-copy-out-m Inv-loop μ-loop
-array-copy-out-m c = search needs
-
-cast-write : tie.Need-cast-write Inv-loop μ-loop
-cast-write c = search needs
-
 slice-aggregate-read : tie.Need-slice-aggregate-read Inv-loop μ-loop
 slice-aggregate-read c = sym (c .before .before .before .before .before .before .before .before .before .good .1 .1 .0 .1 .0 .1)
 
@@ -56,18 +41,6 @@ write-requires c κs =
     let f = fits (s .args .plan .moves) (s .args .plan .count) (l .k) (l .inv .0 .0) (c .before .before .before .before .before .loop-test .taken) in
     (rw (l .inv .0 .1) (f .inside), f .size)
 
-cast-at : tie.Need-cast-at Inv-loop μ-loop
-cast-at c = search needs
-
-add-at : tie.Need-add-at Inv-loop μ-loop
-add-at c = search needs
-
-add-k : tie.Need-add-k Inv-loop μ-loop
-add-k c = search needs
-
-loop-less : tie.Need-loop-less Inv-loop μ-loop
-loop-less c = search needs
-
 loop-again : tie.Need-loop-again Inv-loop μ-loop
 loop-again c =
     let i = c .before .before .before .before .before .before .before .before .before .before in
@@ -83,9 +56,6 @@ loop-again c =
       ),
     )
 
-same-length : tie.Need-same-length Inv-loop μ-loop
-same-length c = search needs
-
 returns : tie.Need-returns Inv-loop μ-loop
 returns c =
     let l = c .before .loop in
@@ -94,22 +64,6 @@ returns c =
 
 pub store-values-spec : {M : Type 1} → statement M
 store-values-spec =
-    tie.close
-    (tie.spec
-    Inv-loop
-    μ-loop
-    cast-count
-    loop-holds
-    mul-m
-    array-copy-out-m
-    cast-write
-    slice-aggregate-read
-    read-requires
-    write-requires
-    cast-at
-    add-at
-    add-k
-    loop-less
-    loop-again
-    same-length
-    returns)
+    tie.close (tie.spec Inv-loop μ-loop (λ c. search needs) (λ c. search needs) (λ c. search needs) (λ c. search needs) (λ c. search needs)
+    slice-aggregate-read read-requires write-requires (λ c. search needs) (λ c. search needs) (λ c. search needs) (λ c. search needs) loop-again
+    (λ c. search needs) returns)

@@ -4,19 +4,10 @@ use borrow.Author.Needs.{needs}
 use Rattle.answers.proofs.finishing.anew.Statement.{statement}
 use Rattle.answers.proofs.finishing.anew.Tie as tie
 
-settle-requires : tie.Need-settle-requires
-settle-requires c κs = search needs
-
 ready-anew-requires : tie.Need-ready-anew-requires
 ready-anew-requires c κs =
     let t = c .before .before .before in
     may-plan (t .before .before .before .before .before .before .pre) (t .settle .ensures .0)
-
-cast-t13 : tie.Need-cast-t13
-cast-t13 c = search needs
-
-same-length : tie.Need-same-length
-same-length c = search needs
 
 returns : tie.Need-returns
 returns c s o =
@@ -26,4 +17,4 @@ returns c s o =
     renewed s _ _ _ (t .settle .ensures .0) (p .idle) (p .remapped) _ (w .ready-anew .ensures) o
 
 pub anew-spec : {M : Type 1} → statement M
-anew-spec = tie.close (tie.spec settle-requires ready-anew-requires cast-t13 same-length returns)
+anew-spec = tie.close (tie.spec (λ c κs. search needs) ready-anew-requires (λ c. search needs) (λ c. search needs) returns)

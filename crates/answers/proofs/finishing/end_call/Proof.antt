@@ -4,17 +4,11 @@ use borrow.Author.Needs.{needs}
 use Rattle.answers.proofs.finishing.end_call.Statement.{statement}
 use Rattle.answers.proofs.finishing.end_call.Tie as tie
 
-settle-requires : tie.Need-settle-requires
-settle-requires c κs = search needs
-
 ready-at-end-requires : tie.Need-ready-at-end-requires
 ready-at-end-requires c κs =
     let t = c .before .before .before in
     let p = t .before .before .before .before .before .before .before .pre in
     may-ready (p .0) (p .1) _ (t .settle .ensures .0) _ (t .settle .ensures .1)
-
-is-operational-requires : tie.Need-is-operational-requires
-is-operational-requires c κs = search needs
 
 transmit-all-requires : tie.Need-transmit-all-requires
 transmit-all-requires c κs =
@@ -22,12 +16,6 @@ transmit-all-requires c κs =
     let t = w .before .before .before .before in
     let p = t .before .before .before .before .before .before .before .pre in
     (may-transmit (p .0) (p .1) _ (t .settle .ensures .0) _ (w .ready-at-end .ensures), (p .0 .room, p .0 .few))
-
-same-length : tie.Need-same-length
-same-length c = search needs
-
-same-length-2 : tie.Need-same-length-2
-same-length-2 c = search needs
 
 returns : tie.Need-returns
 returns c =
@@ -40,12 +28,5 @@ returns c =
 
 pub end-call-spec : {M : Type 1} → statement M
 end-call-spec =
-    tie.close
-    (tie.spec
-    settle-requires
-    ready-at-end-requires
-    is-operational-requires
-    transmit-all-requires
-    same-length
-    same-length-2
-    returns)
+    tie.close (tie.spec (λ c κs. search needs) ready-at-end-requires (λ c κs. search needs) transmit-all-requires (λ c. search needs)
+    (λ c. search needs) returns)

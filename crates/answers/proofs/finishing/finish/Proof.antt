@@ -7,9 +7,6 @@ use borrow.Author.Needs.{needs}
 use Rattle.answers.proofs.finishing.finish.Statement.{statement}
 use Rattle.answers.proofs.finishing.finish.Tie as tie
 
-rest-requires : tie.Need-rest-requires
-rest-requires c κs = search needs
-
 returns : tie.Need-returns
 returns c =
     let h = c .before .before .before .before in
@@ -18,34 +15,10 @@ returns c =
 anew-requires : tie.Need-anew-requires
 anew-requires c κs = may-renew (c .before .before .before .before .before .pre) (c .before .if2 .taken)
 
-same-length : tie.Need-same-length
-same-length c = search needs
-
 returns-2 : tie.Need-returns-2
 returns-2 c = c .before .before .anew .ensures _ _
 
-end-call-requires : tie.Need-end-call-requires
-end-call-requires c κs = search needs
-
-same-length-2 : tie.Need-same-length-2
-same-length-2 c = search needs
-
-same-length-3 : tie.Need-same-length-3
-same-length-3 c = search needs
-
-returns-3 : tie.Need-returns-3
-returns-3 c = search needs
-
 pub finish-spec : {M : Type 1} → statement M
 finish-spec =
-    tie.close
-    (tie.spec
-    rest-requires
-    returns
-    anew-requires
-    same-length
-    returns-2
-    end-call-requires
-    same-length-2
-    same-length-3
-    returns-3)
+    tie.close (tie.spec (λ c κs. search needs) returns anew-requires (λ c. search needs) returns-2 (λ c κs. search needs) (λ c. search needs)
+    (λ c. search needs) (λ c. search needs))

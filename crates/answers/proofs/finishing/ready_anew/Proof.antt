@@ -33,16 +33,6 @@ ready-again-requires c κs =
       fourth = c .plan-of4 .ensures;
     }
 
-returns : tie.Need-returns
-returns c = search needs
-
 pub ready-anew-spec : {M : Type 1} → statement M
 ready-anew-spec =
-    tie.close
-    (tie.spec
-    plan-of-requires
-    plan-of-requires-2
-    plan-of-requires-3
-    plan-of-requires-4
-    ready-again-requires
-    returns)
+    tie.close (tie.spec plan-of-requires plan-of-requires-2 plan-of-requires-3 plan-of-requires-4 ready-again-requires (λ c. search needs))

@@ -9,8 +9,5 @@ all-plans-requires c κs = c .before .before .pre (c .if1 .taken)
 returns : tie.Need-returns
 returns c = rw (c .before .if1 .taken) (c .all-plans .ensures)
 
-returns-2 : tie.Need-returns-2
-returns-2 c = search needs
-
 pub plans-after-spec : {M : Type 1} → statement M
-plans-after-spec = tie.close (tie.spec all-plans-requires returns returns-2)
+plans-after-spec = tie.close (tie.spec all-plans-requires returns (λ c. search needs))

@@ -3,11 +3,8 @@ use borrow.Author.Needs.{needs}
 use Rattle.answers.proofs.whole.with_plans.Statement.{statement}
 use Rattle.answers.proofs.whole.with_plans.Tie as tie
 
-plans-after-requires : tie.Need-plans-after-requires
-plans-after-requires c κs = search needs
-
 returns : tie.Need-returns
 returns c = rw (c .before .before .before .before .before .before .before .plans-after .ensures)
 
 pub with-plans-spec : {M : Type 1} → statement M
-with-plans-spec = tie.close (tie.spec plans-after-requires returns)
+with-plans-spec = tie.close (tie.spec (λ c κs. search needs) returns)

@@ -11,12 +11,6 @@ start-requires c κs =
     let h = c .before .before .before .before .before .pre in
     (search needs, (search needs, (first-node h, last-node h)))
 
-same-length : tie.Need-same-length
-same-length c = search needs
-
-same-length-2 : tie.Need-same-length-2
-same-length-2 c = search needs
-
 returns : tie.Need-returns
 returns c =
     let k = c .before .before .before .before .before .before .before .before .before in
@@ -28,23 +22,11 @@ reset-communication-requires c κs =
     let h = c .before .before .before .before .before .before .pre in
     (h .long, (h .room, (first-node h, last-node h)))
 
-same-length-3 : tie.Need-same-length-3
-same-length-3 c = search needs
-
-same-length-4 : tie.Need-same-length-4
-same-length-4 c = search needs
-
 returns-2 : tie.Need-returns-2
 returns-2 c =
     let k = c .before .before .before .before .before .before .before .before .before .before in
     let s = k .before in
     resets (s .pre) (are-bytes (s .args .d .now) (λ i l. omega (arith, k .slice-known .given i))) (s .args .c) (c .before .before .before .before .before .before .before .if2 .taken) _ _ _ (c .before .before .before .before .reset-communication .ensures)
-
-commanded-requires : tie.Need-commanded-requires
-commanded-requires c κs = search needs
-
-changed-requires : tie.Need-changed-requires
-changed-requires c κs = search needs
 
 returns-3 : tie.Need-returns-3
 returns-3 c =
@@ -54,16 +36,5 @@ returns-3 c =
 
 pub command-spec : {M : Type 1} → statement M
 command-spec =
-    tie.close
-    (tie.spec
-    start-requires
-    same-length
-    same-length-2
-    returns
-    reset-communication-requires
-    same-length-3
-    same-length-4
-    returns-2
-    commanded-requires
-    changed-requires
-    returns-3)
+    tie.close (tie.spec start-requires (λ c. search needs) (λ c. search needs) returns reset-communication-requires (λ c. search needs)
+    (λ c. search needs) returns-2 (λ c κs. search needs) (λ c κs. search needs) returns-3)

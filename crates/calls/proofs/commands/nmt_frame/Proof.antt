@@ -9,29 +9,11 @@ use borrow.Author.Needs.{needs}
 use Rattle.calls.proofs.commands.nmt_frame.Statement.{statement}
 use Rattle.calls.proofs.commands.nmt_frame.Tie as tie
 
-is-for-node-requires : tie.Need-is-for-node-requires
-is-for-node-requires c κs = search needs
-
-element-copy-out-command : tie.Need-element-copy-out-command
-element-copy-out-command c = search needs
-
-command-requires : tie.Need-command-requires
-command-requires c κs = search needs
-
-same-length : tie.Need-same-length
-same-length c = search needs
-
-same-length-2 : tie.Need-same-length-2
-same-length-2 c = search needs
-
 returns : tie.Need-returns
 returns c =
     let f = c .before .before .before .before .before .before .before .before .before in
     let s = f .before .before .before in
     as-finished (for-this (s .args .t1) (s .pre .1 .shape) (s .args .s) (sym (f .is-for-node .ensures) ∙ c .before .before .before .before .before .before .before .before .if1 .taken)) (c .before .before .before .before .command .ensures)
-
-changed-requires : tie.Need-changed-requires
-changed-requires c κs = search needs
 
 returns-2 : tie.Need-returns-2
 returns-2 c =
@@ -43,13 +25,5 @@ returns-2 c =
 
 pub nmt-frame-spec : {M : Type 1} → statement M
 nmt-frame-spec =
-    tie.close
-    (tie.spec
-    is-for-node-requires
-    element-copy-out-command
-    command-requires
-    same-length
-    same-length-2
-    returns
-    changed-requires
-    returns-2)
+    tie.close (tie.spec (λ c κs. search needs) (λ c. search needs) (λ c κs. search needs) (λ c. search needs) (λ c. search needs) returns
+    (λ c κs. search needs) returns-2)

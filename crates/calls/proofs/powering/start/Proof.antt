@@ -4,21 +4,6 @@ use borrow.Author.Needs.{needs}
 use Rattle.calls.proofs.powering.start.Statement.{statement}
 use Rattle.calls.proofs.powering.start.Tie as tie
 
-write-defaults-requires : tie.Need-write-defaults-requires
-write-defaults-requires c κs = search needs
-
-boot-up-requires : tie.Need-boot-up-requires
-boot-up-requires c κs = search needs
-
-fresh-parts-requires : tie.Need-fresh-parts-requires
-fresh-parts-requires c κs = search needs
-
-same-length : tie.Need-same-length
-same-length c = search needs
-
-same-length-2 : tie.Need-same-length-2
-same-length-2 c = search needs
-
 returns : tie.Need-returns
 returns c =
     let w = c .before .before .before .before .before .before .before in
@@ -28,6 +13,4 @@ returns c =
     (c .before .before .before .boot-up .ensures)
 
 pub start-spec : {M : Type 1} → statement M
-start-spec =
-    tie.close
-    (tie.spec write-defaults-requires boot-up-requires fresh-parts-requires same-length same-length-2 returns)
+start-spec = tie.close (tie.spec (λ c κs. search needs) (λ c κs. search needs) (λ c κs. search needs) (λ c. search needs) (λ c. search needs) returns)

@@ -7,12 +7,6 @@ use borrow.Author.Needs.{needs}
 use Rattle.calls.proofs.served.request.Statement.{statement}
 use Rattle.calls.proofs.served.request.Tie as tie
 
-is-stopped-requires : tie.Need-is-stopped-requires
-is-stopped-requires c κs = search needs
-
-changed-requires : tie.Need-changed-requires
-changed-requires c κs = search needs
-
 returns : tie.Need-returns
 returns c =
     let t = c .before .before in
@@ -20,9 +14,6 @@ returns c =
     let s = k .before in
     rw (c .changed .ensures)
     (request-stopped (s .pre .0) (are-bytes (s .args .d .now) (λ i l. omega (arith, k .slice-known .given i))) (s .args .content) (s .pre .1) (sym (t .is-stopped .ensures) ∙ c .before .if1 .taken))
-
-changed-requires-2 : tie.Need-changed-requires-2
-changed-requires-2 c κs = search needs
 
 returns-2 : tie.Need-returns-2
 returns-2 c =
@@ -33,12 +24,6 @@ returns-2 c =
 
 serve-requires : tie.Need-serve-requires
 serve-requires c κs = servable (c .before .before .before .before .before .before .before .before .before .before .pre .0)
-
-same-length : tie.Need-same-length
-same-length c = search needs
-
-same-length-2 : tie.Need-same-length-2
-same-length-2 c = search needs
 
 returns-3 : tie.Need-returns-3
 returns-3 c =
@@ -51,14 +36,5 @@ returns-3 c =
 
 pub request-spec : {M : Type 1} → statement M
 request-spec =
-    tie.close
-    (tie.spec
-    is-stopped-requires
-    changed-requires
-    returns
-    changed-requires-2
-    returns-2
-    serve-requires
-    same-length
-    same-length-2
-    returns-3)
+    tie.close (tie.spec (λ c κs. search needs) (λ c κs. search needs) returns (λ c κs. search needs) returns-2 serve-requires (λ c. search needs)
+    (λ c. search needs) returns-3)

@@ -12,12 +12,6 @@ use Rattle.calls.proofs.served.service.Tie as tie
 sync-requires : tie.Need-sync-requires
 sync-requires c κs = kept (c .before .before .before .before .before .pre .0)
 
-same-length : tie.Need-same-length
-same-length c = search needs
-
-same-length-2 : tie.Need-same-length-2
-same-length-2 c = search needs
-
 returns : tie.Need-returns
 returns c =
     let k = c .before .before .before .before .before .before .before .before .before in
@@ -25,21 +19,6 @@ returns c =
     let a = s .args in
     as-finished (ap (λ i. serviced i (dataOf (a .content)) (a .s) (a .d .now)) (c .before .before .before .before .before .before .before .if1 .taken))
     (sync-finishes (s .pre .0) (are-bytes (a .d .now) (λ i l. omega (arith, k .slice-known .given i))) (a .content) (s .pre .1 .0) _ _ _ (c .before .before .before .before .sync .ensures .0) (c .before .before .before .before .sync .ensures .1))
-
-cast-if2 : tie.Need-cast-if2
-cast-if2 c = search needs
-
-add-if2 : tie.Need-add-if2
-add-if2 c = search needs
-
-request-requires : tie.Need-request-requires
-request-requires c κs = search needs
-
-same-length-3 : tie.Need-same-length-3
-same-length-3 c = search needs
-
-same-length-4 : tie.Need-same-length-4
-same-length-4 c = search needs
 
 returns-2 : tie.Need-returns-2
 returns-2 c =
@@ -49,12 +28,6 @@ returns-2 c =
 
 receive-requires : tie.Need-receive-requires
 receive-requires c κs = let s = c .before .before .before .before .before .before .before in (kept (s .pre .0), s .pre .1 .0 .shape .short)
-
-same-length-5 : tie.Need-same-length-5
-same-length-5 c = search needs
-
-same-length-6 : tie.Need-same-length-6
-same-length-6 c = search needs
 
 returns-3 : tie.Need-returns-3
 returns-3 c =
@@ -66,19 +39,5 @@ returns-3 c =
 
 pub service-spec : {M : Type 1} → statement M
 service-spec =
-    tie.close
-    (tie.spec
-    sync-requires
-    same-length
-    same-length-2
-    returns
-    cast-if2
-    add-if2
-    request-requires
-    same-length-3
-    same-length-4
-    returns-2
-    receive-requires
-    same-length-5
-    same-length-6
-    returns-3)
+    tie.close (tie.spec sync-requires (λ c. search needs) (λ c. search needs) returns (λ c. search needs) (λ c. search needs) (λ c κs. search needs)
+    (λ c. search needs) (λ c. search needs) returns-2 receive-requires (λ c. search needs) (λ c. search needs) returns-3)

@@ -19,12 +19,6 @@ finish-requires c κs =
     let a = s .args in
     told-finishes (s .pre .0) (are-bytes (a .d .now) (λ i l. omega (arith, k .slice-known .given i))) (toldOf (a .e)) (s .pre .1 .0) (s .pre .1 .1) _ _ _ (r .happens .ensures .0) (r .happens .ensures .1) .ends
 
-same-length : tie.Need-same-length
-same-length c = search needs
-
-same-length-2 : tie.Need-same-length-2
-same-length-2 c = search needs
-
 returns : tie.Need-returns
 returns c =
     let r = c .before .before .before .before .before .before .before .before .before .before .before in
@@ -35,4 +29,4 @@ returns c =
 
 pub happen-spec : {M : Type 1} → statement M
 happen-spec =
-    tie.close (tie.spec happens-requires finish-requires same-length same-length-2 returns)
+    tie.close (tie.spec happens-requires finish-requires (λ c. search needs) (λ c. search needs) returns)

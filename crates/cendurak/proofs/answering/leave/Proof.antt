@@ -7,18 +7,6 @@ use borrow.Author.Needs.{needs}
 use Rattle.cendurak.proofs.answering.leave.Statement.{statement}
 use Rattle.cendurak.proofs.answering.leave.Tie as tie
 
-refusal-number-requires : tie.Need-refusal-number-requires
-refusal-number-requires c κs = search needs
-
-write-state-requires : tie.Need-write-state-requires
-write-state-requires c κs = search needs
-
-number-of-requires : tie.Need-number-of-requires
-number-of-requires c κs = search needs
-
-same-length : tie.Need-same-length
-same-length c = search needs
-
 returns : tie.Need-returns
 returns c =
     let r = c .before .before .before .before .before .before .before in
@@ -26,9 +14,6 @@ returns c =
       c .number-of .ensures ∙ ap (λ (k : ℕ). 256 * k + a .answer .frames) (r .refusal-number .ensures .0),
       c .before .before .before .write-state .ensures .0 ∙ writes-state (a .answer .refusal) (form (a .answer .state)) (a .state .now) (sym (r .refusal-number .ensures .0) ∙ c .before .before .before .before .before .if1 .taken),
     )
-
-number-of-requires-2 : tie.Need-number-of-requires-2
-number-of-requires-2 c κs = search needs
 
 returns-2 : tie.Need-returns-2
 returns-2 c =
@@ -40,12 +25,5 @@ returns-2 c =
 
 pub leave-spec : {M : Type 1} → statement M
 leave-spec =
-    tie.close
-    (tie.spec
-    refusal-number-requires
-    write-state-requires
-    number-of-requires
-    same-length
-    returns
-    number-of-requires-2
+    tie.close (tie.spec (λ c κs. search needs) (λ c κs. search needs) (λ c κs. search needs) (λ c. search needs) returns (λ c κs. search needs)
     returns-2)

@@ -9,21 +9,6 @@ use borrow.Author.Needs.{needs}
 use Rattle.cendurak.proofs.answering.leave_brief.Statement.{statement}
 use Rattle.cendurak.proofs.answering.leave_brief.Tie as tie
 
-refusal-number-requires : tie.Need-refusal-number-requires
-refusal-number-requires c κs = search needs
-
-write-new-plans-requires : tie.Need-write-new-plans-requires
-write-new-plans-requires c κs = search needs
-
-write-head-requires : tie.Need-write-head-requires
-write-head-requires c κs = search needs
-
-number-of-requires : tie.Need-number-of-requires
-number-of-requires c κs = search needs
-
-same-length : tie.Need-same-length
-same-length c = search needs
-
 returns : tie.Need-returns
 returns c =
     let h = c .before .before .before in
@@ -38,9 +23,6 @@ returns c =
           ∙ writes-state (a .b .refusal) (form x) (a .state .now) (sym (r .refusal-number .ensures .0) ∙ i .if1 .taken),
     )
 
-number-of-requires-2 : tie.Need-number-of-requires-2
-number-of-requires-2 c κs = search needs
-
 returns-2 : tie.Need-returns-2
 returns-2 c =
     let r = c .before .before in
@@ -51,13 +33,5 @@ returns-2 c =
 
 pub leave-brief-spec : {M : Type 1} → statement M
 leave-brief-spec =
-    tie.close
-    (tie.spec
-    refusal-number-requires
-    write-new-plans-requires
-    write-head-requires
-    number-of-requires
-    same-length
-    returns
-    number-of-requires-2
-    returns-2)
+    tie.close (tie.spec (λ c κs. search needs) (λ c κs. search needs) (λ c κs. search needs) (λ c κs. search needs) (λ c. search needs) returns
+    (λ c κs. search needs) returns-2)

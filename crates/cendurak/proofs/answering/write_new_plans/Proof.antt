@@ -7,12 +7,6 @@ use Rattle.cendurak.proofs.answering.write_new_plans.Tie as tie
 all-plans-requires : tie.Need-all-plans-requires
 all-plans-requires c κs = c .before .before .before .before .pre .1 .1 (c .before .if1 .taken)
 
-write-plans-requires : tie.Need-write-plans-requires
-write-plans-requires c κs = search needs
-
-same-length : tie.Need-same-length
-same-length c = search needs
-
 returns : tie.Need-returns
 returns c =
     let start = c .before .before .before .before .before .before .before .before in
@@ -27,4 +21,4 @@ returns-2 c =
 
 pub write-new-plans-spec : {M : Type 1} → statement M
 write-new-plans-spec =
-    tie.close (tie.spec all-plans-requires write-plans-requires same-length returns returns-2)
+    tie.close (tie.spec all-plans-requires (λ c κs. search needs) (λ c. search needs) returns returns-2)

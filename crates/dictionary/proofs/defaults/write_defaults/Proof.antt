@@ -9,12 +9,6 @@ write-first-requires : tie.Need-write-first-requires
 unfolding dictionaryLength table
 write-first-requires c κs = search needs
 
-write-node-identifiers-requires : tie.Need-write-node-identifiers-requires
-write-node-identifiers-requires c κs = search needs
-
-same-length : tie.Need-same-length
-same-length c = search needs
-
 returns : tie.Need-returns
 unfolding dictionaryLength table
 returns c =
@@ -26,4 +20,4 @@ returns c =
 
 pub write-defaults-spec : {M : Type 1} → statement M
 write-defaults-spec =
-    tie.close (tie.spec write-first-requires write-node-identifiers-requires same-length returns)
+    tie.close (tie.spec write-first-requires (λ c κs. search needs) (λ c. search needs) returns)

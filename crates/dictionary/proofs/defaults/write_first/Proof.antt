@@ -26,24 +26,12 @@ array-read-d : tie.Need-array-read-d Inv-loop μ-loop
 unfolding dictionaryLength table
 array-read-d c = search needs
 
-slice-write-d : tie.Need-slice-write-d Inv-loop μ-loop
-slice-write-d c = search needs
-
-add-i : tie.Need-add-i Inv-loop μ-loop
-add-i c = search needs
-
-loop-less : tie.Need-loop-less Inv-loop μ-loop
-loop-less c = search needs
-
 loop-again : tie.Need-loop-again Inv-loop μ-loop
 unfolding dictionaryLength table
 loop-again c =
     let l = c .before .loop in
     let start = c .before .before in
     (copied (start .args .d .now) (l .d) _ (l .i) (l .inv .0) (omega arith) (omega arith), omega arith, length-set (l .d) _ _ ∙ l .inv .2)
-
-same-length : tie.Need-same-length Inv-loop μ-loop
-same-length c = search needs
 
 returns : tie.Need-returns Inv-loop μ-loop
 unfolding packedDefaults table bytes
@@ -55,15 +43,5 @@ returns c =
 
 pub write-first-spec : {M : Type 1} → statement M
 write-first-spec =
-    tie.close
-    (tie.spec
-    Inv-loop
-    μ-loop
-    loop-holds
-    array-read-d
-    slice-write-d
-    add-i
-    loop-less
-    loop-again
-    same-length
-    returns)
+    tie.close (tie.spec Inv-loop μ-loop loop-holds array-read-d (λ c. search needs) (λ c. search needs) (λ c. search needs) loop-again
+    (λ c. search needs) returns)

@@ -4,21 +4,6 @@ use borrow.Author.Needs.{needs}
 use Rattle.dictionary.proofs.defaults.write_node_identifiers.Statement.{statement}
 use Rattle.dictionary.proofs.defaults.write_node_identifiers.Tie as tie
 
-add-set-emergency-identifier : tie.Need-add-set-emergency-identifier
-add-set-emergency-identifier c = search needs
-
-set-emergency-identifier-requires : tie.Need-set-emergency-identifier-requires
-set-emergency-identifier-requires c κs = search needs
-
-write-identifiers-requires : tie.Need-write-identifiers-requires
-write-identifiers-requires c κs = search needs
-
-write-identifiers-requires-2 : tie.Need-write-identifiers-requires-2
-write-identifiers-requires-2 c κs = search needs
-
-same-length : tie.Need-same-length
-same-length c = search needs
-
 returns : tie.Need-returns
 returns c =
     let second = c .before .before in
@@ -30,11 +15,4 @@ returns c =
 
 pub write-node-identifiers-spec : {M : Type 1} → statement M
 write-node-identifiers-spec =
-    tie.close
-    (tie.spec
-    add-set-emergency-identifier
-    set-emergency-identifier-requires
-    write-identifiers-requires
-    write-identifiers-requires-2
-    same-length
-    returns)
+    tie.close (tie.spec (λ c. search needs) (λ c κs. search needs) (λ c κs. search needs) (λ c κs. search needs) (λ c. search needs) returns)

@@ -10,12 +10,9 @@ write2-requires : tie.Need-write2-requires
 unfolding open-table
 write2-requires c κs = omega arith
 
-same-length : tie.Need-same-length
-same-length c = search needs
-
 returns : tie.Need-returns
 unfolding open-table store
 returns c = c .before .before .write2 .ensures
 
 pub set-error-code-spec : {M : Type 1} → statement M
-set-error-code-spec = tie.close (tie.spec write2-requires same-length returns)
+set-error-code-spec = tie.close (tie.spec write2-requires (λ c. search needs) returns)

@@ -10,12 +10,9 @@ write1-requires : tie.Need-write1-requires
 unfolding open-table
 write1-requires c κs = omega arith
 
-same-length : tie.Need-same-length
-same-length c = search needs
-
 returns : tie.Need-returns
 unfolding open-table store
 returns c = c .before .before .write1 .ensures
 
 pub set-mode-display-spec : {M : Type 1} → statement M
-set-mode-display-spec = tie.close (tie.spec write1-requires same-length returns)
+set-mode-display-spec = tie.close (tie.spec write1-requires (λ c. search needs) returns)

@@ -10,12 +10,9 @@ write4-requires : tie.Need-write4-requires
 unfolding open-table
 write4-requires c κs = omega arith
 
-same-length : tie.Need-same-length
-same-length c = search needs
-
 returns : tie.Need-returns
 unfolding open-table store
 returns c = c .before .before .write4 .ensures
 
 pub set-position-spec : {M : Type 1} → statement M
-set-position-spec = tie.close (tie.spec write4-requires same-length returns)
+set-position-spec = tie.close (tie.spec write4-requires (λ c. search needs) returns)

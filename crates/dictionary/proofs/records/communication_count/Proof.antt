@@ -10,9 +10,6 @@ use Rattle.rules_dictionary.proofs.Members.{pdo-in, communication-in}
 use Rattle.dictionary.proofs.records.communication_count.Statement.{statement}
 use Rattle.dictionary.proofs.records.communication_count.Tie as tie
 
-communication-place-requires : tie.Need-communication-place-requires
-communication-place-requires c κs = search needs
-
 read1-requires : tie.Need-read1-requires
 read1-requires c κs = omega (arith, within (communication-in (pdo-in (c .before .before .args .p) (c .before .before .pre .1))))
 
@@ -21,4 +18,4 @@ unfolding read
 returns c = c .read1 .ensures ∙ ap (λ (k : ℕ). value (part k 1 (c .before .before .before .args .d .now))) (c .before .communication-place .ensures .0)
 
 pub communication-count-spec : {M : Type 1} → statement M
-communication-count-spec = tie.close (tie.spec communication-place-requires read1-requires returns)
+communication-count-spec = tie.close (tie.spec (λ c κs. search needs) read1-requires returns)

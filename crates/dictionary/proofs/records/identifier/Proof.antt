@@ -12,12 +12,6 @@ use Rattle.rules_dictionary.proofs.Members.{pdo-in, identifier-in}
 use Rattle.dictionary.proofs.records.identifier.Statement.{statement}
 use Rattle.dictionary.proofs.records.identifier.Tie as tie
 
-communication-place-requires : tie.Need-communication-place-requires
-communication-place-requires c κs = search needs
-
-add-read4 : tie.Need-add-read4
-add-read4 c = search needs
-
 read4-requires : tie.Need-read4-requires
 read4-requires c κs =
     let i = pdo-in (c .before .before .args .p) (c .before .before .pre .1) in
@@ -33,4 +27,4 @@ returns c =
     c .read4 .ensures ∙ ap (λ (k : ℕ). value (part k 4 (a .d .now))) e
 
 pub identifier-spec : {M : Type 1} → statement M
-identifier-spec = tie.close (tie.spec communication-place-requires add-read4 read4-requires returns)
+identifier-spec = tie.close (tie.spec (λ c κs. search needs) (λ c. search needs) read4-requires returns)

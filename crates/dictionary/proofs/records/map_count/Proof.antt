@@ -10,9 +10,6 @@ use Rattle.rules_dictionary.proofs.Members.{pdo-in, count-in}
 use Rattle.dictionary.proofs.records.map_count.Statement.{statement}
 use Rattle.dictionary.proofs.records.map_count.Tie as tie
 
-mapping-place-requires : tie.Need-mapping-place-requires
-mapping-place-requires c κs = search needs
-
 read1-requires : tie.Need-read1-requires
 read1-requires c κs = omega (arith, within (count-in (pdo-in (c .before .before .args .p) (c .before .before .pre .1))))
 
@@ -21,4 +18,4 @@ unfolding read
 returns c = c .read1 .ensures ∙ ap (λ (k : ℕ). value (part k 1 (c .before .before .before .args .d .now))) (c .before .mapping-place .ensures .0)
 
 pub map-count-spec : {M : Type 1} → statement M
-map-count-spec = tie.close (tie.spec mapping-place-requires read1-requires returns)
+map-count-spec = tie.close (tie.spec (λ c κs. search needs) read1-requires returns)

@@ -9,22 +9,10 @@ use Rattle.dictionary.proofs.Regular.{receive-mapping, transmit-mapping
 use Rattle.dictionary.proofs.records.mapping_place.Statement.{statement}
 use Rattle.dictionary.proofs.records.mapping_place.Tie as tie
 
-mul-result : tie.Need-mul-result
-mul-result c = search needs
-
-add-result : tie.Need-add-result
-add-result c = search needs
-
 returns : tie.Need-returns
 unfolding open-table
 returns c =
     (receive-mapping (c .before .args .p) (c .before .pre) _ _ refl refl (c .if1 .taken), omega arith)
-
-mul-result-2 : tie.Need-mul-result-2
-mul-result-2 c = search needs
-
-add-result-2 : tie.Need-add-result-2
-add-result-2 c = search needs
 
 returns-2 : tie.Need-returns-2
 unfolding open-table
@@ -33,4 +21,4 @@ returns-2 c =
 
 pub mapping-place-spec : {M : Type 1} → statement M
 mapping-place-spec =
-    tie.close (tie.spec mul-result add-result returns mul-result-2 add-result-2 returns-2)
+    tie.close (tie.spec (λ c. search needs) (λ c. search needs) returns (λ c. search needs) (λ c. search needs) returns-2)

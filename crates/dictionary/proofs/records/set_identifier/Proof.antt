@@ -12,19 +12,10 @@ use Rattle.rules_dictionary.proofs.Members.{pdo-in, identifier-in}
 use Rattle.dictionary.proofs.records.set_identifier.Statement.{statement}
 use Rattle.dictionary.proofs.records.set_identifier.Tie as tie
 
-communication-place-requires : tie.Need-communication-place-requires
-communication-place-requires c κs = search needs
-
-add-place : tie.Need-add-place
-add-place c = search needs
-
 write4-requires : tie.Need-write4-requires
 write4-requires c κs =
     let i = pdo-in (c .before .before .before .args .p) (c .before .before .before .pre .1) in
     omega (arith, within (identifier-in i), regular i .identifies, c .before .communication-place .ensures .0)
-
-same-length : tie.Need-same-length
-same-length c = search needs
 
 returns : tie.Need-returns
 unfolding store
@@ -38,6 +29,4 @@ returns c =
     c .before .before .write4 .ensures ∙ ap (λ (k : ℕ). sets (a .d .now) k (bytes 4 (a .v))) e
 
 pub set-identifier-spec : {M : Type 1} → statement M
-set-identifier-spec =
-    tie.close
-    (tie.spec communication-place-requires add-place write4-requires same-length returns)
+set-identifier-spec = tie.close (tie.spec (λ c κs. search needs) (λ c. search needs) write4-requires (λ c. search needs) returns)

@@ -12,12 +12,6 @@ use Rattle.rules_dictionary.proofs.Members.{pdo-in, type-in}
 use Rattle.dictionary.proofs.records.transmission_type.Statement.{statement}
 use Rattle.dictionary.proofs.records.transmission_type.Tie as tie
 
-communication-place-requires : tie.Need-communication-place-requires
-communication-place-requires c κs = search needs
-
-add-read1 : tie.Need-add-read1
-add-read1 c = search needs
-
 read1-requires : tie.Need-read1-requires
 read1-requires c κs =
     let i = pdo-in (c .before .before .args .p) (c .before .before .pre .1) in
@@ -33,4 +27,4 @@ returns c =
     c .read1 .ensures ∙ ap (λ (k : ℕ). value (part k 1 (a .d .now))) e
 
 pub transmission-type-spec : {M : Type 1} → statement M
-transmission-type-spec = tie.close (tie.spec communication-place-requires add-read1 read1-requires returns)
+transmission-type-spec = tie.close (tie.spec (λ c κs. search needs) (λ c. search needs) read1-requires returns)

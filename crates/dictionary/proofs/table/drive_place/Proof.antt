@@ -10,12 +10,6 @@ use borrow.Author.Needs.{needs}
 use Rattle.dictionary.proofs.table.drive_place.Statement.{statement}
 use Rattle.dictionary.proofs.table.drive_place.Tie as tie
 
-sizes-from-requires : tie.Need-sizes-from-requires
-sizes-from-requires c κs = search needs
-
-add-result : tie.Need-add-result
-add-result c = search needs
-
 returns : tie.Need-returns
 unfolding drivePlace driveRank middleRank open-table
 returns c =
@@ -38,6 +32,4 @@ returns-2 c =
     simp (le-ltb (c .before .before .before .args .rank) middleRank (omega arith)) (ap₂ _-_ refl (c .sizes-from2 .ensures .0))
 
 pub drive-place-spec : {M : Type 1} → statement M
-drive-place-spec =
-    tie.close
-    (tie.spec sizes-from-requires add-result returns sizes-from-requires-2 sub-result returns-2)
+drive-place-spec = tie.close (tie.spec (λ c κs. search needs) (λ c. search needs) returns sizes-from-requires-2 sub-result returns-2)

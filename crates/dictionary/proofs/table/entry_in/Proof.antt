@@ -5,30 +5,6 @@ use borrow.Author.Needs.{needs}
 use Rattle.dictionary.proofs.table.entry_in.Statement.{statement}
 use Rattle.dictionary.proofs.table.entry_in.Tie as tie
 
-cast-index : tie.Need-cast-index
-cast-index c = search needs
-
-cast-size : tie.Need-cast-size
-cast-size c = search needs
-
-access-in-requires : tie.Need-access-in-requires
-access-in-requires c κs = search needs
-
-least-in-requires : tie.Need-least-in-requires
-least-in-requires c κs = search needs
-
-greatest-in-requires : tie.Need-greatest-in-requires
-greatest-in-requires c κs = search needs
-
-room-of-requires : tie.Need-room-of-requires
-room-of-requires c κs = search needs
-
-cast-role-in : tie.Need-cast-role-in
-cast-role-in c = search needs
-
-role-in-requires : tie.Need-role-in-requires
-role-in-requires c κs = search needs
-
 returns : tie.Need-returns
 unfolding entryIn
 returns c =
@@ -36,14 +12,5 @@ returns c =
 
 pub entry-in-spec : {M : Type 1} → statement M
 entry-in-spec =
-    tie.close
-    (tie.spec
-    cast-index
-    cast-size
-    access-in-requires
-    least-in-requires
-    greatest-in-requires
-    room-of-requires
-    cast-role-in
-    role-in-requires
-    returns)
+    tie.close (tie.spec (λ c. search needs) (λ c. search needs) (λ c κs. search needs) (λ c κs. search needs) (λ c κs. search needs)
+    (λ c κs. search needs) (λ c. search needs) (λ c κs. search needs) returns)

@@ -9,18 +9,6 @@ use Rattle.dictionary.proofs.Spots.{tells-entry, tells-no-object, tells
 use Rattle.dictionary.proofs.table.find.Statement.{statement}
 use Rattle.dictionary.proofs.table.find.Tie as tie
 
-spot-of-requires : tie.Need-spot-of-requires
-spot-of-requires c κs = search needs
-
-cast-entry-in : tie.Need-cast-entry-in
-cast-entry-in c = search needs
-
-cast-entry-in-2 : tie.Need-cast-entry-in-2
-cast-entry-in-2 c = search needs
-
-entry-in-requires : tie.Need-entry-in-requires
-entry-in-requires c κs = search needs
-
 returns : tie.Need-returns
 returns c =
     let a = c .before .before .before .args in
@@ -41,13 +29,4 @@ returns-3 c =
     tells-no-subindex (lookup (a .index) (a .subindex)) (λ x e. found-in (a .index) (a .subindex) e) (spot .result) (spot .ensures) (λ h. absurd (omega (arith, h, c .before .if1 .left))) (c .if2 .left)
 
 pub find-spec : {M : Type 1} → statement M
-find-spec =
-    tie.close
-    (tie.spec
-    spot-of-requires
-    cast-entry-in
-    cast-entry-in-2
-    entry-in-requires
-    returns
-    returns-2
-    returns-3)
+find-spec = tie.close (tie.spec (λ c κs. search needs) (λ c. search needs) (λ c. search needs) (λ c κs. search needs) returns returns-2 returns-3)

@@ -17,15 +17,6 @@ Inv-loop rows k last-line rank₀ width₀ rank width =
 abbrev μ-loop : tie.MeasureT-loop
 μ-loop rows k last-line rank₀ width₀ rank width = width
 
-mul-last-line : tie.Need-mul-last-line Inv-loop μ-loop
-mul-last-line c = search needs
-
-sub-last-line : tie.Need-sub-last-line Inv-loop μ-loop
-sub-last-line c = search needs
-
-add-last-line : tie.Need-add-last-line Inv-loop μ-loop
-add-last-line c = search needs
-
 loop-holds : tie.Need-loop-holds Inv-loop μ-loop
 unfolding entries table
 loop-holds c = (lit< tt, (λ h. absurd (omega arith), (λ h. absurd (omega arith), (record { n = 7; is = refl }, omega arith))))
@@ -40,9 +31,6 @@ shared-slice-read-if2 : tie.Need-shared-slice-read-if2 Inv-loop μ-loop
 unfolding entries table
 shared-slice-read-if2 c = omega (arith, lines-length (c .before .before .before .before .args .rows .now) (c .before .before .before .before .pre .0))
 
-loop-less : tie.Need-loop-less Inv-loop μ-loop
-loop-less c = search needs
-
 loop-again : tie.Need-loop-again Inv-loop μ-loop
 unfolding entries table
 loop-again c =
@@ -55,9 +43,6 @@ loop-again c =
     let on : next + l .width / 2 ≡ l .rank + l .width = omega (arith, half .0) in
     (h, (λ z. omega (arith, e), (λ z. rw on (l .inv .1 .1 .0 (omega arith)), (half .1, omega arith))))
 
-loop-less-2 : tie.Need-loop-less-2 Inv-loop μ-loop
-loop-less-2 c = search needs
-
 loop-again-2 : tie.Need-loop-again-2 Inv-loop μ-loop
 unfolding entries table
 loop-again-2 c =
@@ -67,9 +52,6 @@ loop-again-2 c =
     let e = key-at (start .args .rows .now) next (start .pre .0) (omega arith) in
     let half = halved (l .width) (l .inv .1 .1 .1 .0) (omega arith) in
     (l .inv .0, (l .inv .1 .0, (λ z. omega (arith, e), (half .1, omega arith))))
-
-loop-less-3 : tie.Need-loop-less-3 Inv-loop μ-loop
-loop-less-3 c = search needs
 
 loop-again-3 : tie.Need-loop-again-3 Inv-loop μ-loop
 unfolding entries table
@@ -87,21 +69,5 @@ returns c =
 
 pub last-up-to-spec : {M : Type 1} → statement M
 last-up-to-spec =
-    tie.close
-    (tie.spec
-    Inv-loop
-    μ-loop
-    mul-last-line
-    sub-last-line
-    add-last-line
-    loop-holds
-    add-next
-    mul-if2
-    shared-slice-read-if2
-    loop-less
-    loop-again
-    loop-less-2
-    loop-again-2
-    loop-less-3
-    loop-again-3
-    returns)
+    tie.close (tie.spec Inv-loop μ-loop (λ c. search needs) (λ c. search needs) (λ c. search needs) loop-holds add-next mul-if2 shared-slice-read-if2
+    (λ c. search needs) loop-again (λ c. search needs) loop-again-2 (λ c. search needs) loop-again-3 returns)

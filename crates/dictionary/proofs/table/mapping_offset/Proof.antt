@@ -11,18 +11,9 @@ returns : tie.Need-returns
 unfolding mappingOffset
 returns c = (rw (c .if1 .taken), lit< tt)
 
-sub-result : tie.Need-sub-result
-sub-result c = search needs
-
-mul-result : tie.Need-mul-result
-mul-result c = search needs
-
-add-result : tie.Need-add-result
-add-result c = search needs
-
 returns-2 : tie.Need-returns-2
 unfolding mappingOffset
 returns-2 c = (simp (ne-eqb (c .before .args .subindex) 0 (c .if1 .left)), omega arith)
 
 pub mapping-offset-spec : {M : Type 1} → statement M
-mapping-offset-spec = tie.close (tie.spec returns sub-result mul-result add-result returns-2)
+mapping-offset-spec = tie.close (tie.spec returns (λ c. search needs) (λ c. search needs) (λ c. search needs) returns-2)

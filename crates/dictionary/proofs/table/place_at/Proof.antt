@@ -17,15 +17,6 @@ mul-line c = search (needs, few)
 shared-slice-read-line : tie.Need-shared-slice-read-line
 shared-slice-read-line c = omega (arith, lines-length (c .before .before .args .rows .now) (c .before .before .pre .0))
 
-cast-room-of : tie.Need-cast-room-of
-cast-room-of c = search needs
-
-room-of-requires : tie.Need-room-of-requires
-room-of-requires c κs = search needs
-
-cast-place-in : tie.Need-cast-place-in
-cast-place-in c = search needs
-
 place-in-requires : tie.Need-place-in-requires
 place-in-requires c κs = (c .before .before .before .pre .0, (c .before .before .before .pre .1, c .room-of .ensures .1))
 
@@ -41,12 +32,4 @@ returns c =
 
 pub place-at-spec : {M : Type 1} → statement M
 place-at-spec =
-    tie.close
-    (tie.spec
-    mul-line
-    shared-slice-read-line
-    cast-room-of
-    room-of-requires
-    cast-place-in
-    place-in-requires
-    returns)
+    tie.close (tie.spec mul-line shared-slice-read-line (λ c. search needs) (λ c κs. search needs) (λ c. search needs) place-in-requires returns)

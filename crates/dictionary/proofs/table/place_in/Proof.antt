@@ -8,47 +8,11 @@ use borrow.Author.Needs.{needs}
 use Rattle.dictionary.proofs.table.place_in.Statement.{statement}
 use Rattle.dictionary.proofs.table.place_in.Tie as tie
 
-enum-told : tie.Need-enum-told
-enum-told c = search needs
-
-sizes-from-requires : tie.Need-sizes-from-requires
-sizes-from-requires c κs = search needs
-
-enum-known-room : tie.Need-enum-known-room
-enum-known-room c = search needs
-
-cast-communication-place : tie.Need-cast-communication-place
-cast-communication-place c = search needs
-
 communication-place-requires : tie.Need-communication-place-requires
 communication-place-requires c κs = subst PdoIn (c .before .room .given .1) (c .before .before .before .before .pre .1 .1)
 
-communication-offset-requires : tie.Need-communication-offset-requires
-communication-offset-requires c κs = search needs
-
-add-result : tie.Need-add-result
-add-result c = search needs
-
-enum-known-room-2 : tie.Need-enum-known-room-2
-enum-known-room-2 c = search needs
-
-cast-mapping-place : tie.Need-cast-mapping-place
-cast-mapping-place c = search needs
-
 mapping-place-requires : tie.Need-mapping-place-requires
 mapping-place-requires c κs = subst PdoIn (c .before .room2 .given .1) (c .before .before .before .before .pre .1 .1)
-
-mapping-offset-requires : tie.Need-mapping-offset-requires
-mapping-offset-requires c κs = search needs
-
-add-result-2 : tie.Need-add-result-2
-add-result-2 c = search needs
-
-enum-told-2 : tie.Need-enum-told-2
-enum-told-2 c = search needs
-
-drive-place-requires : tie.Need-drive-place-requires
-drive-place-requires c κs = search needs
 
 returns : tie.Need-returns
 unfolding placeIn
@@ -76,23 +40,6 @@ returns-4 c =
 
 pub place-in-spec : {M : Type 1} → statement M
 place-in-spec =
-    tie.close
-    (tie.spec
-    enum-told
-    sizes-from-requires
-    enum-known-room
-    cast-communication-place
-    communication-place-requires
-    communication-offset-requires
-    add-result
-    enum-known-room-2
-    cast-mapping-place
-    mapping-place-requires
-    mapping-offset-requires
-    add-result-2
-    enum-told-2
-    drive-place-requires
-    returns
-    returns-2
-    returns-3
-    returns-4)
+    tie.close (tie.spec (λ c. search needs) (λ c κs. search needs) (λ c. search needs) (λ c. search needs) communication-place-requires
+    (λ c κs. search needs) (λ c. search needs) (λ c. search needs) (λ c. search needs) mapping-place-requires (λ c κs. search needs)
+    (λ c. search needs) (λ c. search needs) (λ c κs. search needs) returns returns-2 returns-3 returns-4)

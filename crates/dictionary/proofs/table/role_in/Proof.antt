@@ -7,18 +7,6 @@ use borrow.Author.Needs.{needs}
 use Rattle.dictionary.proofs.table.role_in.Statement.{statement}
 use Rattle.dictionary.proofs.table.role_in.Tie as tie
 
-enum-told : tie.Need-enum-told
-enum-told c = search needs
-
-enum-known-room : tie.Need-enum-known-room
-enum-known-room c = search needs
-
-enum-known-room-2 : tie.Need-enum-known-room-2
-enum-known-room-2 c = search needs
-
-enum-told-2 : tie.Need-enum-told-2
-enum-told-2 c = search needs
-
 returns : tie.Need-returns
 unfolding roleIn
 returns c =
@@ -69,17 +57,5 @@ returns-8 c =
 
 pub role-in-spec : {M : Type 1} → statement M
 role-in-spec =
-    tie.close
-    (tie.spec
-    enum-told
-    enum-known-room
-    enum-known-room-2
-    enum-told-2
-    returns
-    returns-2
-    returns-3
-    returns-4
-    returns-5
-    returns-6
-    returns-7
-    returns-8)
+    tie.close (tie.spec (λ c. search needs) (λ c. search needs) (λ c. search needs) (λ c. search needs) returns returns-2 returns-3 returns-4
+    returns-5 returns-6 returns-7 returns-8)

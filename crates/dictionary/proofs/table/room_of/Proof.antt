@@ -9,18 +9,6 @@ use Rattle.dictionary.proofs.table.room_of.Tie as tie
 returns : tie.Need-returns
 returns c = (rw (lt-ltb lastCommunication (c .before .args .index) (c .if1 .taken)), tt)
 
-cast-pdo : tie.Need-cast-pdo
-cast-pdo c = search needs
-
-sub-match : tie.Need-sub-match
-sub-match c = search needs
-
-add-t7 : tie.Need-add-t7
-add-t7 c = search needs
-
-add-t8 : tie.Need-add-t8
-add-t8 c = search needs
-
 returns-2 : tie.Need-returns-2
 returns-2 c =
     let i = c .before .before .args .index in
@@ -56,15 +44,5 @@ returns-6 c =
 
 pub room-of-spec : {M : Type 1} → statement M
 room-of-spec =
-    tie.close
-    (tie.spec
-    returns
-    cast-pdo
-    sub-match
-    add-t7
-    add-t8
-    returns-2
-    returns-3
-    returns-4
-    returns-5
-    returns-6)
+    tie.close (tie.spec returns (λ c. search needs) (λ c. search needs) (λ c. search needs) (λ c. search needs) returns-2 returns-3 returns-4
+    returns-5 returns-6)

@@ -6,9 +6,6 @@ use Rattle.dictionary.proofs.Spots.{shows-no-object, shows-no-subindex,
 use Rattle.dictionary.proofs.table.seek.Statement.{statement}
 use Rattle.dictionary.proofs.table.seek.Tie as tie
 
-spot-of-requires : tie.Need-spot-of-requires
-spot-of-requires c κs = search needs
-
 returns : tie.Need-returns
 returns c =
     let a = c .before .before .args in
@@ -28,4 +25,4 @@ returns-3 c =
     shows-entry (lookup (a .index) (a .subindex)) (spot .result) (spot .ensures) (c .before .if1 .left) (c .if2 .left)
 
 pub seek-spec : {M : Type 1} → statement M
-seek-spec = tie.close (tie.spec spot-of-requires returns returns-2 returns-3)
+seek-spec = tie.close (tie.spec (λ c κs. search needs) returns returns-2 returns-3)

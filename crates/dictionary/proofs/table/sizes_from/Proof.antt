@@ -25,17 +25,8 @@ mul-bytes c = search (needs, few)
 shared-slice-read-bytes : tie.Need-shared-slice-read-bytes Inv-loop μ-loop
 shared-slice-read-bytes c = omega (arith, lines-length (c .before .before .before .args .rows .now) (c .before .before .before .pre .0))
 
-cast-bytes : tie.Need-cast-bytes Inv-loop μ-loop
-cast-bytes c = search needs
-
 add-bytes : tie.Need-add-bytes Inv-loop μ-loop
 add-bytes c = search (needs, few)
-
-add-k : tie.Need-add-k Inv-loop μ-loop
-add-k c = search needs
-
-loop-less : tie.Need-loop-less Inv-loop μ-loop
-loop-less c = search needs
 
 loop-again : tie.Need-loop-again Inv-loop μ-loop
 loop-again c =
@@ -54,16 +45,5 @@ returns c =
 
 pub sizes-from-spec : {M : Type 1} → statement M
 sizes-from-spec =
-    tie.close
-    (tie.spec
-    Inv-loop
-    μ-loop
-    loop-holds
-    mul-bytes
-    shared-slice-read-bytes
-    cast-bytes
-    add-bytes
-    add-k
-    loop-less
-    loop-again
-    returns)
+    tie.close (tie.spec Inv-loop μ-loop loop-holds mul-bytes shared-slice-read-bytes (λ c. search needs) add-bytes (λ c. search needs)
+    (λ c. search needs) loop-again returns)

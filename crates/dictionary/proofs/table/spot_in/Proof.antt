@@ -10,33 +10,12 @@ use Rattle.dictionary.proofs.LookUp.{is-entry, is-no-subindex, is-no-ob
 use Rattle.dictionary.proofs.table.spot_in.Statement.{statement}
 use Rattle.dictionary.proofs.table.spot_in.Tie as tie
 
-mul-key : tie.Need-mul-key
-mul-key c = search needs
-
-add-key : tie.Need-add-key
-add-key c = search needs
-
-last-up-to-requires : tie.Need-last-up-to-requires
-last-up-to-requires c κs = search needs
-
 mul-line : tie.Need-mul-line
 mul-line c = search (needs, few)
 
 shared-slice-read-line : tie.Need-shared-slice-read-line
 shared-slice-read-line c =
     omega (arith, lines-length (c .before .before .before .args .rows .now) (c .before .before .before .pre), c .before .last-up-to .ensures .0)
-
-wide-requires : tie.Need-wide-requires
-wide-requires c κs = search needs
-
-mul-result : tie.Need-mul-result
-mul-result c = search needs
-
-place-at-requires : tie.Need-place-at-requires
-place-at-requires c κs = search needs
-
-add-result : tie.Need-add-result
-add-result c = search needs
 
 returns : tie.Need-returns
 returns c =
@@ -66,17 +45,5 @@ returns-3 c =
 
 pub spot-in-spec : {M : Type 1} → statement M
 spot-in-spec =
-    tie.close
-    (tie.spec
-    mul-key
-    add-key
-    last-up-to-requires
-    mul-line
-    shared-slice-read-line
-    wide-requires
-    mul-result
-    place-at-requires
-    add-result
-    returns
-    returns-2
-    returns-3)
+    tie.close (tie.spec (λ c. search needs) (λ c. search needs) (λ c κs. search needs) mul-line shared-slice-read-line (λ c κs. search needs)
+    (λ c. search needs) (λ c κs. search needs) (λ c. search needs) returns returns-2 returns-3)

@@ -5,9 +5,6 @@ use Rattle.rules_dictionary.specs.Table.{table}
 use Rattle.dictionary.proofs.table.spot_of.Statement.{statement}
 use Rattle.dictionary.proofs.table.spot_of.Tie as tie
 
-slice-aggregate-spot-in : tie.Need-slice-aggregate-spot-in
-slice-aggregate-spot-in c = search needs
-
 spot-in-requires : tie.Need-spot-in-requires
 unfolding table
 spot-in-requires c κs = refl
@@ -16,4 +13,4 @@ returns : tie.Need-returns
 returns c = c .spot-in .ensures
 
 pub spot-of-spec : {M : Type 1} → statement M
-spot-of-spec = tie.close (tie.spec slice-aggregate-spot-in spot-in-requires returns)
+spot-of-spec = tie.close (tie.spec (λ c. search needs) spot-in-requires returns)

@@ -4,20 +4,8 @@ use borrow.Author.Needs.{needs}
 use Rattle.dictionary.proofs.values.read.Statement.{statement}
 use Rattle.dictionary.proofs.values.read.Tie as tie
 
-read1-requires : tie.Need-read1-requires
-read1-requires c κs = search needs
-
-cast-result : tie.Need-cast-result
-cast-result c = search needs
-
 returns : tie.Need-returns
 returns c = cc
-
-read2-requires : tie.Need-read2-requires
-read2-requires c κs = search needs
-
-cast-result-2 : tie.Need-cast-result-2
-cast-result-2 c = search needs
 
 returns-2 : tie.Need-returns-2
 returns-2 c = cc
@@ -34,13 +22,5 @@ returns-3 c =
 
 pub read-spec : {M : Type 1} → statement M
 read-spec =
-    tie.close
-    (tie.spec
-    read1-requires
-    cast-result
-    returns
-    read2-requires
-    cast-result-2
-    returns-2
-    read4-requires
+    tie.close (tie.spec (λ c κs. search needs) (λ c. search needs) returns (λ c κs. search needs) (λ c. search needs) returns-2 read4-requires
     returns-3)

@@ -4,11 +4,8 @@ use borrow.Author.Needs.{needs}
 use Rattle.dictionary.proofs.values.read1.Statement.{statement}
 use Rattle.dictionary.proofs.values.read1.Tie as tie
 
-shared-slice-read-result : tie.Need-shared-slice-read-result
-shared-slice-read-result c = search needs
-
 returns : tie.Need-returns
 returns c = rw (value-step 0, value-none) (omega arith)
 
 pub read1-spec : {M : Type 1} → statement M
-read1-spec = tie.close (tie.spec shared-slice-read-result returns)
+read1-spec = tie.close (tie.spec (λ c. search needs) returns)

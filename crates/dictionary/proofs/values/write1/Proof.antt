@@ -6,15 +6,9 @@ use borrow.Author.Needs.{needs}
 use Rattle.dictionary.proofs.values.write1.Statement.{statement}
 use Rattle.dictionary.proofs.values.write1.Tie as tie
 
-slice-write-d : tie.Need-slice-write-d
-slice-write-d c = search needs
-
-same-length : tie.Need-same-length
-same-length c = search needs
-
 returns : tie.Need-returns
 unfolding bytes
 returns c = let e : c .args .v % 256 ≡ c .args .v = omega arith in cc
 
 pub write1-spec : {M : Type 1} → statement M
-write1-spec = tie.close (tie.spec slice-write-d same-length returns)
+write1-spec = tie.close (tie.spec (λ c. search needs) (λ c. search needs) returns)

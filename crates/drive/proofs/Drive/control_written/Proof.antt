@@ -4,24 +4,6 @@ use Rattle.drive.specs.SetPoints.{controlWritten}
 use Rattle.drive.proofs.Drive.control_written.Statement.{statement}
 use Rattle.drive.proofs.Drive.control_written.Tie as tie
 
-control-word-requires : tie.Need-control-word-requires
-control-word-requires c κs = search needs
-
-command-requires : tie.Need-command-requires
-command-requires c κs = search needs
-
-next-requires : tie.Need-next-requires
-next-requires c κs = search needs
-
-enters-requires : tie.Need-enters-requires
-enters-requires c κs = search needs
-
-set-point-rule-requires : tie.Need-set-point-rule-requires
-set-point-rule-requires c κs = search needs
-
-resets-requires : tie.Need-resets-requires
-resets-requires c κs = search needs
-
 returns : tie.Need-returns
 unfolding controlWritten
 returns c =
@@ -29,12 +11,5 @@ returns c =
 
 pub control-written-spec : {M : Type 1} → statement M
 control-written-spec =
-    tie.close
-    (tie.spec
-    control-word-requires
-    command-requires
-    next-requires
-    enters-requires
-    set-point-rule-requires
-    resets-requires
-    returns)
+    tie.close (tie.spec (λ c κs. search needs) (λ c κs. search needs) (λ c κs. search needs) (λ c κs. search needs) (λ c κs. search needs)
+    (λ c κs. search needs) returns)

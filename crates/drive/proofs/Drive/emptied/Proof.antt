@@ -7,15 +7,6 @@ use Rattle.drive.proofs.Ways.{where-true, where-false}
 use Rattle.drive.proofs.Drive.emptied.Statement.{statement}
 use Rattle.drive.proofs.Drive.emptied.Tie as tie
 
-positions-requires : tie.Need-positions-requires
-positions-requires c κs = search needs
-
-with-store-requires : tie.Need-with-store-requires
-with-store-requires c κs = search needs
-
-with-marks-requires : tie.Need-with-marks-requires
-with-marks-requires c κs = search needs
-
 returns : tie.Need-returns
 unfolding emptied
 returns c = where-true _ _ _ (sym (c .before .positions .ensures) ∙ c .if1 .taken)
@@ -28,6 +19,4 @@ returns-2 c =
     ∙ where-false _ _ _ (sym (c .before .before .before .positions .ensures) ∙ c .before .before .if1 .left)
 
 pub emptied-spec : {M : Type 1} → statement M
-emptied-spec =
-    tie.close
-    (tie.spec positions-requires with-store-requires with-marks-requires returns returns-2)
+emptied-spec = tie.close (tie.spec (λ c κs. search needs) (λ c κs. search needs) (λ c κs. search needs) returns returns-2)

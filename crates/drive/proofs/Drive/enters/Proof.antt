@@ -5,15 +5,9 @@ use Rattle.drive.specs.SetPoints.{emptied, enters}
 use Rattle.drive.proofs.Drive.enters.Statement.{statement}
 use Rattle.drive.proofs.Drive.enters.Tie as tie
 
-with-state-requires : tie.Need-with-state-requires
-with-state-requires c κs = search needs
-
-emptied-requires : tie.Need-emptied-requires
-emptied-requires c κs = search needs
-
 returns : tie.Need-returns
 unfolding enters
 returns c = c .emptied .ensures ∙ ap emptied (c .before .with-state .ensures)
 
 pub enters-spec : {M : Type 1} → statement M
-enters-spec = tie.close (tie.spec with-state-requires emptied-requires returns)
+enters-spec = tie.close (tie.spec (λ c κs. search needs) (λ c κs. search needs) returns)

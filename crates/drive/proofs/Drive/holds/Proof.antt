@@ -6,14 +6,8 @@ use Rattle.drive.specs.SetPoints.{withMarks}
 use Rattle.drive.proofs.Drive.holds.Statement.{statement}
 use Rattle.drive.proofs.Drive.holds.Tie as tie
 
-with-store-requires : tie.Need-with-store-requires
-with-store-requires c κs = search needs
-
-with-marks-requires : tie.Need-with-marks-requires
-with-marks-requires c κs = search needs
-
 returns : tie.Need-returns
 returns c = c .with-marks .ensures ∙ ap (withMarks true false) (c .before .with-store .ensures)
 
 pub holds-spec : {M : Type 1} → statement M
-holds-spec = tie.close (tie.spec with-store-requires with-marks-requires returns)
+holds-spec = tie.close (tie.spec (λ c κs. search needs) (λ c κs. search needs) returns)

@@ -7,19 +7,10 @@ use Rattle.drive.proofs.Ways.{rule-falls, rule-offers, rule-idle}
 use Rattle.drive.proofs.Drive.set_point_rule.Statement.{statement}
 use Rattle.drive.proofs.Drive.set_point_rule.Tie as tie
 
-has-requires : tie.Need-has-requires
-has-requires c κs = search needs
-
-with-marks-requires : tie.Need-with-marks-requires
-with-marks-requires c κs = search needs
-
 returns : tie.Need-returns
 returns c =
     let a = c .before .before .before .before .args in
     c .with-marks .ensures ∙ rule-falls (a .d .now) (a .old) (a .word) (a .self) (sym (c .before .before .has .ensures) ∙ not-true _ (c .before .if1 .taken))
-
-has-requires-2 : tie.Need-has-requires-2
-has-requires-2 c κs = search needs
 
 returns-2 : tie.Need-returns-2
 returns-2 c =
@@ -27,12 +18,6 @@ returns-2 c =
     sym
     (held-bit-takes-nothing (a .d .now) (a .old) (a .word) (a .self) (sym (c .before .has2 .ensures) ∙ c .if2 .taken)
     (sym (c .before .before .before .has .ensures) ∙ not-false _ (c .before .before .if1 .left)))
-
-positions-requires : tie.Need-positions-requires
-positions-requires c κs = search needs
-
-offered-requires : tie.Need-offered-requires
-offered-requires c κs = search needs
 
 returns-3 : tie.Need-returns-3
 returns-3 c =
@@ -48,14 +33,5 @@ returns-4 c =
 
 pub set-point-rule-spec : {M : Type 1} → statement M
 set-point-rule-spec =
-    tie.close
-    (tie.spec
-    has-requires
-    with-marks-requires
-    returns
-    has-requires-2
-    returns-2
-    positions-requires
-    offered-requires
-    returns-3
-    returns-4)
+    tie.close (tie.spec (λ c κs. search needs) (λ c κs. search needs) returns (λ c κs. search needs) returns-2 (λ c κs. search needs)
+    (λ c κs. search needs) returns-3 returns-4)

@@ -7,18 +7,6 @@ use Rattle.drive.proofs.Ways.{take-at-once, take-behind}
 use Rattle.drive.proofs.Drive.take.Statement.{statement}
 use Rattle.drive.proofs.Drive.take.Tie as tie
 
-has-requires : tie.Need-has-requires
-has-requires c κs = search needs
-
-holds-requires : tie.Need-holds-requires
-holds-requires c κs = search needs
-
-behind-requires : tie.Need-behind-requires
-behind-requires c κs = search needs
-
-holds-requires-2 : tie.Need-holds-requires-2
-holds-requires-2 c κs = search needs
-
 returns : tie.Need-returns
 returns c =
     let a = c .before .before .before .args in
@@ -32,6 +20,4 @@ returns-2 c =
     ∙ take-behind (a .word) (a .p) (a .self) (sym (c .before .before .before .has .ensures) ∙ c .before .before .if1 .left)
 
 pub take-spec : {M : Type 1} → statement M
-take-spec =
-    tie.close
-    (tie.spec has-requires holds-requires behind-requires holds-requires-2 returns returns-2)
+take-spec = tie.close (tie.spec (λ c κs. search needs) (λ c κs. search needs) (λ c κs. search needs) (λ c κs. search needs) returns returns-2)

@@ -6,18 +6,6 @@ use Rattle.dictionary.proofs.Ways.{found-to-be}
 use Rattle.drive.proofs.Store.behind.Statement.{statement}
 use Rattle.drive.proofs.Store.behind.Tie as tie
 
-enum-told : tie.Need-enum-told
-enum-told c = search needs
-
-enum-told-2 : tie.Need-enum-told-2
-enum-told-2 c = search needs
-
-enum-known-self : tie.Need-enum-known-self
-enum-known-self c = search needs
-
-enum-told-3 : tie.Need-enum-told-3
-enum-told-3 c = search needs
-
 returns : tie.Need-returns
 returns c = found-to-be (λ s. behind s (c .before .before .args .p)) (c .enum-told .given .1) refl
 
@@ -27,18 +15,7 @@ returns-2 c = found-to-be (λ s. behind s (c .before .before .args .p)) (c .enum
 returns-3 : tie.Need-returns-3
 returns-3 c = found-to-be (λ s. behind s (c .before .before .before .args .p)) (c .before .self .given .1) refl
 
-returns-4 : tie.Need-returns-4
-returns-4 c = search needs
-
 pub behind-spec : {M : Type 1} → statement M
 behind-spec =
-    tie.close
-    (tie.spec
-    enum-told
-    enum-told-2
-    enum-known-self
-    enum-told-3
-    returns
-    returns-2
-    returns-3
-    returns-4)
+    tie.close (tie.spec (λ c. search needs) (λ c. search needs) (λ c. search needs) (λ c. search needs) returns returns-2 returns-3
+    (λ c. search needs))

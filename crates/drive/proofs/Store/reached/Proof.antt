@@ -6,24 +6,6 @@ use Rattle.dictionary.proofs.Ways.{found-to-be}
 use Rattle.drive.proofs.Store.reached.Statement.{statement}
 use Rattle.drive.proofs.Store.reached.Tie as tie
 
-enum-told : tie.Need-enum-told
-enum-told c = search needs
-
-enum-told-2 : tie.Need-enum-told-2
-enum-told-2 c = search needs
-
-enum-known-self : tie.Need-enum-known-self
-enum-known-self c = search needs
-
-enum-known-self-2 : tie.Need-enum-known-self-2
-enum-known-self-2 c = search needs
-
-returns : tie.Need-returns
-returns c = search needs
-
-returns-2 : tie.Need-returns-2
-returns-2 c = search needs
-
 returns-3 : tie.Need-returns-3
 returns-3 c = found-to-be reached (c .before .self .given .1) refl
 
@@ -32,13 +14,5 @@ returns-4 c = found-to-be reached (c .before .self2 .given .1) refl
 
 pub reached-spec : {M : Type 1} → statement M
 reached-spec =
-    tie.close
-    (tie.spec
-    enum-told
-    enum-told-2
-    enum-known-self
-    enum-known-self-2
-    returns
-    returns-2
-    returns-3
-    returns-4)
+    tie.close (tie.spec (λ c. search needs) (λ c. search needs) (λ c. search needs) (λ c. search needs) (λ c. search needs) (λ c. search needs)
+    returns-3 returns-4)

@@ -5,14 +5,8 @@ use Rattle.drive.proofs.Ways.{where-true}
 use Rattle.drive.proofs.set_points.base.Statement.{statement}
 use Rattle.drive.proofs.set_points.base.Tie as tie
 
-last-target-requires : tie.Need-last-target-requires
-last-target-requires c κs = search needs
-
 returns : tie.Need-returns
 returns c = c .last-target .ensures ∙ where-true _ _ _ (c .before .if1 .taken)
 
-returns-2 : tie.Need-returns-2
-returns-2 c = search needs
-
 pub base-spec : {M : Type 1} → statement M
-base-spec = tie.close (tie.spec last-target-requires returns returns-2)
+base-spec = tie.close (tie.spec (λ c κs. search needs) returns (λ c. search needs))

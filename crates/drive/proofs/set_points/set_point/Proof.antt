@@ -4,18 +4,9 @@ use Rattle.drive.specs.Words.{setPointTo}
 use Rattle.drive.proofs.set_points.set_point.Statement.{statement}
 use Rattle.drive.proofs.set_points.set_point.Tie as tie
 
-profile-velocity-requires : tie.Need-profile-velocity-requires
-profile-velocity-requires c κs = search needs
-
-profile-acceleration-requires : tie.Need-profile-acceleration-requires
-profile-acceleration-requires c κs = search needs
-
-profile-deceleration-requires : tie.Need-profile-deceleration-requires
-profile-deceleration-requires c κs = search needs
-
 returns : tie.Need-returns
 unfolding setPointTo
 returns c = rw (c .before .before .profile-velocity .ensures, c .before .profile-acceleration .ensures, c .profile-deceleration .ensures)
 
 pub set-point-spec : {M : Type 1} → statement M
-set-point-spec = tie.close (tie.spec profile-velocity-requires profile-acceleration-requires profile-deceleration-requires returns)
+set-point-spec = tie.close (tie.spec (λ c κs. search needs) (λ c κs. search needs) (λ c κs. search needs) returns)

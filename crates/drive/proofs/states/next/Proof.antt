@@ -6,48 +6,6 @@ use Rattle.dictionary.proofs.Ways.{found-to-be}
 use Rattle.drive.proofs.states.next.Statement.{statement}
 use Rattle.drive.proofs.states.next.Tie as tie
 
-enum-told : tie.Need-enum-told
-enum-told c = search needs
-
-enum-told-2 : tie.Need-enum-told-2
-enum-told-2 c = search needs
-
-from-disabled-requires : tie.Need-from-disabled-requires
-from-disabled-requires c κs = search needs
-
-enum-told-3 : tie.Need-enum-told-3
-enum-told-3 c = search needs
-
-from-powered-requires : tie.Need-from-powered-requires
-from-powered-requires c κs = search needs
-
-enum-told-4 : tie.Need-enum-told-4
-enum-told-4 c = search needs
-
-from-powered-requires-2 : tie.Need-from-powered-requires-2
-from-powered-requires-2 c κs = search needs
-
-enum-told-5 : tie.Need-enum-told-5
-enum-told-5 c = search needs
-
-from-powered-requires-3 : tie.Need-from-powered-requires-3
-from-powered-requires-3 c κs = search needs
-
-enum-told-6 : tie.Need-enum-told-6
-enum-told-6 c = search needs
-
-from-quick-stop-requires : tie.Need-from-quick-stop-requires
-from-quick-stop-requires c κs = search needs
-
-enum-told-7 : tie.Need-enum-told-7
-enum-told-7 c = search needs
-
-enum-told-8 : tie.Need-enum-told-8
-enum-told-8 c = search needs
-
-from-fault-requires : tie.Need-from-fault-requires
-from-fault-requires c κs = search needs
-
 returns : tie.Need-returns
 unfolding next
 returns c = found-to-be (λ s. next (c .before .before .args .cause) s (c .before .before .args .c)) (c .enum-told .given .1) refl
@@ -82,27 +40,6 @@ returns-8 c = found-to-be (λ s. next (c .before .before .before .args .cause) s
 
 pub next-spec : {M : Type 1} → statement M
 next-spec =
-    tie.close
-    (tie.spec
-    enum-told
-    enum-told-2
-    from-disabled-requires
-    enum-told-3
-    from-powered-requires
-    enum-told-4
-    from-powered-requires-2
-    enum-told-5
-    from-powered-requires-3
-    enum-told-6
-    from-quick-stop-requires
-    enum-told-7
-    enum-told-8
-    from-fault-requires
-    returns
-    returns-2
-    returns-3
-    returns-4
-    returns-5
-    returns-6
-    returns-7
-    returns-8)
+    tie.close (tie.spec (λ c. search needs) (λ c. search needs) (λ c κs. search needs) (λ c. search needs) (λ c κs. search needs) (λ c. search needs)
+    (λ c κs. search needs) (λ c. search needs) (λ c κs. search needs) (λ c. search needs) (λ c κs. search needs) (λ c. search needs)
+    (λ c. search needs) (λ c κs. search needs) returns returns-2 returns-3 returns-4 returns-5 returns-6 returns-7 returns-8)

@@ -6,33 +6,6 @@ use Rattle.dictionary.proofs.Ways.{found-to-be}
 use Rattle.drive.proofs.states.resets.Statement.{statement}
 use Rattle.drive.proofs.states.resets.Tie as tie
 
-enum-told : tie.Need-enum-told
-enum-told c = search needs
-
-enum-told-2 : tie.Need-enum-told-2
-enum-told-2 c = search needs
-
-enum-told-3 : tie.Need-enum-told-3
-enum-told-3 c = search needs
-
-enum-told-4 : tie.Need-enum-told-4
-enum-told-4 c = search needs
-
-enum-told-5 : tie.Need-enum-told-5
-enum-told-5 c = search needs
-
-enum-told-6 : tie.Need-enum-told-6
-enum-told-6 c = search needs
-
-enum-told-7 : tie.Need-enum-told-7
-enum-told-7 c = search needs
-
-enum-told-8 : tie.Need-enum-told-8
-enum-told-8 c = search needs
-
-clears-requires : tie.Need-clears-requires
-clears-requires c κs = search needs
-
 returns : tie.Need-returns
 unfolding resets
 returns c = found-to-be (λ s. resets (c .before .before .args .cause) s (c .before .before .args .c)) (c .enum-told .given .1) refl
@@ -67,22 +40,5 @@ returns-8 c = found-to-be (λ s. resets (c .before .before .before .args .cause)
 
 pub resets-spec : {M : Type 1} → statement M
 resets-spec =
-    tie.close
-    (tie.spec
-    enum-told
-    enum-told-2
-    enum-told-3
-    enum-told-4
-    enum-told-5
-    enum-told-6
-    enum-told-7
-    enum-told-8
-    clears-requires
-    returns
-    returns-2
-    returns-3
-    returns-4
-    returns-5
-    returns-6
-    returns-7
-    returns-8)
+    tie.close (tie.spec (λ c. search needs) (λ c. search needs) (λ c. search needs) (λ c. search needs) (λ c. search needs) (λ c. search needs)
+    (λ c. search needs) (λ c. search needs) (λ c κs. search needs) returns returns-2 returns-3 returns-4 returns-5 returns-6 returns-7 returns-8)

@@ -6,14 +6,8 @@ use Rattle.drive.specs.StatusWord.{haltBit}
 use Rattle.drive.proofs.status.halts.Statement.{statement}
 use Rattle.drive.proofs.status.halts.Tie as tie
 
-control-word-requires : tie.Need-control-word-requires
-control-word-requires c κs = search needs
-
-has-requires : tie.Need-has-requires
-has-requires c κs = search needs
-
 returns : tie.Need-returns
 returns c = c .has .ensures ∙ ap (bit haltBit) (c .before .control-word .ensures)
 
 pub halts-spec : {M : Type 1} → statement M
-halts-spec = tie.close (tie.spec control-word-requires has-requires returns)
+halts-spec = tie.close (tie.spec (λ c κs. search needs) (λ c κs. search needs) returns)

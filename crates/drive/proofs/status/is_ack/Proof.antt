@@ -6,21 +6,6 @@ use Rattle.dictionary.proofs.Ways.{found-to-be}
 use Rattle.drive.proofs.status.is_ack.Statement.{statement}
 use Rattle.drive.proofs.status.is_ack.Tie as tie
 
-enum-told : tie.Need-enum-told
-enum-told c = search needs
-
-enum-told-2 : tie.Need-enum-told-2
-enum-told-2 c = search needs
-
-is-queued-requires : tie.Need-is-queued-requires
-is-queued-requires c κs = search needs
-
-enum-told-3 : tie.Need-enum-told-3
-enum-told-3 c = search needs
-
-is-slow-requires : tie.Need-is-slow-requires
-is-slow-requires c κs = search needs
-
 returns : tie.Need-returns
 unfolding ackInMode
 returns c =
@@ -47,14 +32,5 @@ returns-4 c =
 
 pub is-ack-spec : {M : Type 1} → statement M
 is-ack-spec =
-    tie.close
-    (tie.spec
-    enum-told
-    enum-told-2
-    is-queued-requires
-    enum-told-3
-    is-slow-requires
-    returns
-    returns-2
-    returns-3
-    returns-4)
+    tie.close (tie.spec (λ c. search needs) (λ c. search needs) (λ c κs. search needs) (λ c. search needs) (λ c κs. search needs) returns returns-2
+    returns-3 returns-4)

@@ -6,18 +6,9 @@ use Rattle.drive.proofs.Shown.{within-same}
 use Rattle.drive.proofs.status.is_near.Statement.{statement}
 use Rattle.drive.proofs.status.is_near.Tie as tie
 
-position-window-requires : tie.Need-position-window-requires
-position-window-requires c κs = search needs
-
-position-requires : tie.Need-position-requires
-position-requires c κs = search needs
-
-is-within-requires : tie.Need-is-within-requires
-is-within-requires c κs = search needs
-
 returns : tie.Need-returns
 unfolding near
 returns c = c .is-within .ensures ∙ within-same _ _ (c .before .before .before .before .args .target) _ _ _ (c .before .before .position-window .ensures) refl (c .before .position .ensures)
 
 pub is-near-spec : {M : Type 1} → statement M
-is-near-spec = tie.close (tie.spec position-window-requires position-requires is-within-requires returns)
+is-near-spec = tie.close (tie.spec (λ c κs. search needs) (λ c κs. search needs) (λ c κs. search needs) returns)

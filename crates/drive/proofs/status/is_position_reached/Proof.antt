@@ -6,24 +6,6 @@ use Rattle.dictionary.proofs.Ways.{found-to-be}
 use Rattle.drive.proofs.status.is_position_reached.Statement.{statement}
 use Rattle.drive.proofs.status.is_position_reached.Tie as tie
 
-enum-told : tie.Need-enum-told
-enum-told c = search needs
-
-enum-told-2 : tie.Need-enum-told-2
-enum-told-2 c = search needs
-
-enum-known-store : tie.Need-enum-known-store
-enum-known-store c = search needs
-
-is-near-requires : tie.Need-is-near-requires
-is-near-requires c κs = search needs
-
-enum-known-store-2 : tie.Need-enum-known-store-2
-enum-known-store-2 c = search needs
-
-is-near-requires-2 : tie.Need-is-near-requires-2
-is-near-requires-2 c κs = search needs
-
 returns : tie.Need-returns
 unfolding positionReached
 returns c =
@@ -50,15 +32,5 @@ returns-4 c =
 
 pub is-position-reached-spec : {M : Type 1} → statement M
 is-position-reached-spec =
-    tie.close
-    (tie.spec
-    enum-told
-    enum-told-2
-    enum-known-store
-    is-near-requires
-    enum-known-store-2
-    is-near-requires-2
-    returns
-    returns-2
-    returns-3
-    returns-4)
+    tie.close (tie.spec (λ c. search needs) (λ c. search needs) (λ c. search needs) (λ c κs. search needs) (λ c. search needs) (λ c κs. search needs)
+    returns returns-2 returns-3 returns-4)

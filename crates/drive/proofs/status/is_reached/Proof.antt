@@ -7,33 +7,6 @@ use Rattle.drive.proofs.Ways.{where-true, where-false}
 use Rattle.drive.proofs.status.is_reached.Statement.{statement}
 use Rattle.drive.proofs.status.is_reached.Tie as tie
 
-enum-told : tie.Need-enum-told
-enum-told c = search needs
-
-enum-told-2 : tie.Need-enum-told-2
-enum-told-2 c = search needs
-
-halts-requires : tie.Need-halts-requires
-halts-requires c κs = search needs
-
-stands-still-requires : tie.Need-stands-still-requires
-stands-still-requires c κs = search needs
-
-is-position-reached-requires : tie.Need-is-position-reached-requires
-is-position-reached-requires c κs = search needs
-
-enum-told-3 : tie.Need-enum-told-3
-enum-told-3 c = search needs
-
-halts-requires-2 : tie.Need-halts-requires-2
-halts-requires-2 c κs = search needs
-
-stands-still-requires-2 : tie.Need-stands-still-requires-2
-stands-still-requires-2 c κs = search needs
-
-is-velocity-reached-requires : tie.Need-is-velocity-reached-requires
-is-velocity-reached-requires c κs = search needs
-
 returns : tie.Need-returns
 unfolding reachedInMode
 returns c =
@@ -70,19 +43,5 @@ returns-5 c =
 
 pub is-reached-spec : {M : Type 1} → statement M
 is-reached-spec =
-    tie.close
-    (tie.spec
-    enum-told
-    enum-told-2
-    halts-requires
-    stands-still-requires
-    is-position-reached-requires
-    enum-told-3
-    halts-requires-2
-    stands-still-requires-2
-    is-velocity-reached-requires
-    returns
-    returns-2
-    returns-3
-    returns-4
-    returns-5)
+    tie.close (tie.spec (λ c. search needs) (λ c. search needs) (λ c κs. search needs) (λ c κs. search needs) (λ c κs. search needs)
+    (λ c. search needs) (λ c κs. search needs) (λ c κs. search needs) (λ c κs. search needs) returns returns-2 returns-3 returns-4 returns-5)

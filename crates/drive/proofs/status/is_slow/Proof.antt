@@ -8,18 +8,6 @@ use Rattle.drive.proofs.Shown.{within-same, within-zero}
 use Rattle.drive.proofs.status.is_slow.Statement.{statement}
 use Rattle.drive.proofs.status.is_slow.Tie as tie
 
-velocity-threshold-requires : tie.Need-velocity-threshold-requires
-velocity-threshold-requires c κs = search needs
-
-wide-requires : tie.Need-wide-requires
-wide-requires c κs = search needs
-
-velocity-requires : tie.Need-velocity-requires
-velocity-requires c κs = search needs
-
-is-within-requires : tie.Need-is-within-requires
-is-within-requires c κs = search needs
-
 returns : tie.Need-returns
 unfolding slow
 returns c =
@@ -30,4 +18,4 @@ returns c =
 
 pub is-slow-spec : {M : Type 1} → statement M
 is-slow-spec =
-    tie.close (tie.spec velocity-threshold-requires wide-requires velocity-requires is-within-requires returns)
+    tie.close (tie.spec (λ c κs. search needs) (λ c κs. search needs) (λ c κs. search needs) (λ c κs. search needs) returns)

@@ -6,21 +6,6 @@ use Rattle.drive.proofs.Shown.{within-same}
 use Rattle.drive.proofs.status.is_velocity_reached.Statement.{statement}
 use Rattle.drive.proofs.status.is_velocity_reached.Tie as tie
 
-velocity-window-requires : tie.Need-velocity-window-requires
-velocity-window-requires c κs = search needs
-
-wide-requires : tie.Need-wide-requires
-wide-requires c κs = search needs
-
-target-velocity-requires : tie.Need-target-velocity-requires
-target-velocity-requires c κs = search needs
-
-velocity-requires : tie.Need-velocity-requires
-velocity-requires c κs = search needs
-
-is-within-requires : tie.Need-is-within-requires
-is-within-requires c κs = search needs
-
 returns : tie.Need-returns
 unfolding velocityReached
 returns c =
@@ -29,11 +14,4 @@ returns c =
 
 pub is-velocity-reached-spec : {M : Type 1} → statement M
 is-velocity-reached-spec =
-    tie.close
-    (tie.spec
-    velocity-window-requires
-    wide-requires
-    target-velocity-requires
-    velocity-requires
-    is-within-requires
-    returns)
+    tie.close (tie.spec (λ c κs. search needs) (λ c κs. search needs) (λ c κs. search needs) (λ c κs. search needs) (λ c κs. search needs) returns)

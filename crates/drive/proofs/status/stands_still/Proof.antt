@@ -6,12 +6,9 @@ use Rattle.drive.specs.StatusWord.{standsStill}
 use Rattle.drive.proofs.status.stands_still.Statement.{statement}
 use Rattle.drive.proofs.status.stands_still.Tie as tie
 
-velocity-requires : tie.Need-velocity-requires
-velocity-requires c κs = search needs
-
 returns : tie.Need-returns
 unfolding standsStill
 returns c = ap (λ w. eqb w 0) (c .velocity .ensures)
 
 pub stands-still-spec : {M : Type 1} → statement M
-stands-still-spec = tie.close (tie.spec velocity-requires returns)
+stands-still-spec = tie.close (tie.spec (λ c κs. search needs) returns)

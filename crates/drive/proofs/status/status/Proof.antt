@@ -6,30 +6,15 @@ use Rattle.drive.proofs.Shown.{shown-most, state-word-most, enabled-mos
 use Rattle.drive.proofs.status.status.Statement.{statement}
 use Rattle.drive.proofs.status.status.Tie as tie
 
-state-word-requires : tie.Need-state-word-requires
-state-word-requires c κs = search needs
-
-shown-requires : tie.Need-shown-requires
-shown-requires c κs = search needs
-
 add-always : tie.Need-add-always
 add-always c =
     let a = c .before .before .before .args in
     omega (arith, state-word-most (a .v .state), shown-most 0x10 (a .voltage))
 
-shown-requires-2 : tie.Need-shown-requires-2
-shown-requires-2 c κs = search needs
-
 add-always-2 : tie.Need-add-always-2
 add-always-2 c =
     let a = c .before .before .before .before .args in
     omega (arith, state-word-most (a .v .state), shown-most 0x10 (a .voltage), shown-most 0x200 (a .remote))
-
-is-enabled-requires : tie.Need-is-enabled-requires
-is-enabled-requires c κs = search needs
-
-enabled-bits-requires : tie.Need-enabled-bits-requires
-enabled-bits-requires c κs = search needs
 
 add-result : tie.Need-add-result
 add-result c =
@@ -48,15 +33,5 @@ returns-2 c =
 
 pub status-spec : {M : Type 1} → statement M
 status-spec =
-    tie.close
-    (tie.spec
-    state-word-requires
-    shown-requires
-    add-always
-    shown-requires-2
-    add-always-2
-    is-enabled-requires
-    enabled-bits-requires
-    add-result
-    returns
-    returns-2)
+    tie.close (tie.spec (λ c κs. search needs) (λ c κs. search needs) add-always (λ c κs. search needs) add-always-2 (λ c κs. search needs)
+    (λ c κs. search needs) add-result returns returns-2)

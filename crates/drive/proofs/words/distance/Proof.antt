@@ -5,15 +5,6 @@ use Rattle.drive.proofs.Raised.{words-distance}
 use Rattle.drive.proofs.words.distance.Statement.{statement}
 use Rattle.drive.proofs.words.distance.Tie as tie
 
-biased-requires : tie.Need-biased-requires
-biased-requires c κs = search needs
-
-biased-requires-2 : tie.Need-biased-requires-2
-biased-requires-2 c κs = search needs
-
-sub-result : tie.Need-sub-result
-sub-result c = search needs
-
 returns : tie.Need-returns
 returns c =
     let a = c .before .before .before .args in
@@ -25,4 +16,4 @@ returns-2 c =
     omega (arith, words-distance (a .a) (a .b) (omega arith) (omega arith))
 
 pub distance-spec : {M : Type 1} → statement M
-distance-spec = tie.close (tie.spec biased-requires biased-requires-2 sub-result returns returns-2)
+distance-spec = tie.close (tie.spec (λ c κs. search needs) (λ c κs. search needs) (λ c. search needs) returns returns-2)

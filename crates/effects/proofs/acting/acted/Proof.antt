@@ -7,27 +7,12 @@ use borrow.Author.Needs.{needs}
 use Rattle.effects.proofs.acting.acted.Statement.{statement}
 use Rattle.effects.proofs.acting.acted.Tie as tie
 
-mode-acted-requires : tie.Need-mode-acted-requires
-mode-acted-requires c κs = search needs
-
-control-acted-requires : tie.Need-control-acted-requires
-control-acted-requires c κs = search needs
-
-same-length : tie.Need-same-length
-same-length c = search needs
-
-same-length-2 : tie.Need-same-length-2
-same-length-2 c = search needs
-
 returns : tie.Need-returns
 returns c =
     let m = c .before .before .before .before .before .before .before .before in
     let a = m .before .before .before .before .before .before .before .args in
     let f = c .before .before .before .before .control-acted .ensures in
     (as-effect (acts-on (a .old) (a .mode) (a .control) (a .parts) _ (a .d .now) (with-drive-part (a .parts) (m .mode-acted .ensures)) (c .before .before .before .before .before .before .before .if1 .taken)) (f .0), f .1)
-
-same-length-3 : tie.Need-same-length-3
-same-length-3 c = search needs
 
 returns-2 : tie.Need-returns-2
 returns-2 c =
@@ -37,12 +22,4 @@ returns-2 c =
 
 pub acted-spec : {M : Type 1} → statement M
 acted-spec =
-    tie.close
-    (tie.spec
-    mode-acted-requires
-    control-acted-requires
-    same-length
-    same-length-2
-    returns
-    same-length-3
-    returns-2)
+    tie.close (tie.spec (λ c κs. search needs) (λ c κs. search needs) (λ c. search needs) (λ c. search needs) returns (λ c. search needs) returns-2)

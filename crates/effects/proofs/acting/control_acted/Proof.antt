@@ -7,27 +7,12 @@ use borrow.Author.Needs.{needs}
 use Rattle.effects.proofs.acting.control_acted.Statement.{statement}
 use Rattle.effects.proofs.acting.control_acted.Tie as tie
 
-control-written-requires : tie.Need-control-written-requires
-control-written-requires c κs = search needs
-
-fault-reset-requires : tie.Need-fault-reset-requires
-fault-reset-requires c κs = search needs
-
-same-length : tie.Need-same-length
-same-length c = search needs
-
-same-length-2 : tie.Need-same-length-2
-same-length-2 c = search needs
-
 returns : tie.Need-returns
 returns c =
     let w = c .before .before .before .before .before .before .before .before .before in
     let a = w .before .before .before .before .before .before .before .args in
     let f = c .before .before .before .before .fault-reset .ensures in
     (as-effect (control-resets (a .old) (a .parts) _ (a .d .now) _ (w .control-written .ensures) refl (c .before .before .before .before .before .before .before .if1 .taken)) (f .0), f .1)
-
-same-length-3 : tie.Need-same-length-3
-same-length-3 c = search needs
 
 returns-2 : tie.Need-returns-2
 returns-2 c =
@@ -37,12 +22,4 @@ returns-2 c =
 
 pub control-acted-spec : {M : Type 1} → statement M
 control-acted-spec =
-    tie.close
-    (tie.spec
-    control-written-requires
-    fault-reset-requires
-    same-length
-    same-length-2
-    returns
-    same-length-3
-    returns-2)
+    tie.close (tie.spec (λ c κs. search needs) (λ c κs. search needs) (λ c. search needs) (λ c. search needs) returns (λ c. search needs) returns-2)

@@ -5,18 +5,6 @@ use borrow.Author.Needs.{needs}
 use Rattle.effects.proofs.acting.fault_reset.Statement.{statement}
 use Rattle.effects.proofs.acting.fault_reset.Tie as tie
 
-set-error-register-requires : tie.Need-set-error-register-requires
-set-error-register-requires c κs = search needs
-
-emergency-requires : tie.Need-emergency-requires
-emergency-requires c κs = search needs
-
-same-length : tie.Need-same-length
-same-length c = search needs
-
-same-length-2 : tie.Need-same-length-2
-same-length-2 c = search needs
-
 returns : tie.Need-returns
 returns c =
     let w = c .before .before .before .before .before .before .before .before in
@@ -25,4 +13,4 @@ returns c =
 
 pub fault-reset-spec : {M : Type 1} → statement M
 fault-reset-spec =
-    tie.close (tie.spec set-error-register-requires emergency-requires same-length same-length-2 returns)
+    tie.close (tie.spec (λ c κs. search needs) (λ c κs. search needs) (λ c. search needs) (λ c. search needs) returns)

@@ -5,33 +5,15 @@ use Rattle.effects.proofs.Laws.{silent, spoken, emergency-data}
 use Rattle.effects.proofs.emergencies.emergency.Statement.{statement}
 use Rattle.effects.proofs.emergencies.emergency.Tie as tie
 
-is-stopped-requires : tie.Need-is-stopped-requires
-is-stopped-requires c κs = search needs
-
 returns : tie.Need-returns
 returns c =
     let a = c .before .before .before .before .args in
     silent (a .code) (a .node) (a .d .now) (a .n) (a .output .now) (sym (c .before .is-stopped .ensures) ∙ c .if1 .taken)
 
-error-register-requires : tie.Need-error-register-requires
-error-register-requires c κs = search needs
-
-emergency-data-requires : tie.Need-emergency-data-requires
-emergency-data-requires c κs = search needs
-
-cast-send : tie.Need-cast-send
-cast-send c = search needs
-
-add-send : tie.Need-add-send
-add-send c = search needs
-
 send-requires : tie.Need-send-requires
 send-requires c κs =
     let b = c .before .before in
     (search needs, (search needs, emergency-data _ _ _ (b .emergency-data .ensures)))
-
-same-length : tie.Need-same-length
-same-length c = search needs
 
 returns-2 : tie.Need-returns-2
 returns-2 c =
@@ -42,14 +24,5 @@ returns-2 c =
 
 pub emergency-spec : {M : Type 1} → statement M
 emergency-spec =
-    tie.close
-    (tie.spec
-    is-stopped-requires
-    returns
-    error-register-requires
-    emergency-data-requires
-    cast-send
-    add-send
-    send-requires
-    same-length
-    returns-2)
+    tie.close (tie.spec (λ c κs. search needs) returns (λ c κs. search needs) (λ c κs. search needs) (λ c. search needs) (λ c. search needs)
+    send-requires (λ c. search needs) returns-2)

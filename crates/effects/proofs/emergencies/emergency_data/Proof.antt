@@ -6,15 +6,9 @@ use borrow.Author.Needs.{needs}
 use Rattle.effects.proofs.emergencies.emergency_data.Statement.{statement}
 use Rattle.effects.proofs.emergencies.emergency_data.Tie as tie
 
-cast-t4 : tie.Need-cast-t4
-cast-t4 c = search needs
-
-cast-t7 : tie.Need-cast-t7
-cast-t7 c = search needs
-
 returns : tie.Need-returns
 unfolding pdoData bytes
 returns c = refl
 
 pub emergency-data-spec : {M : Type 1} → statement M
-emergency-data-spec = tie.close (tie.spec cast-t4 cast-t7 returns)
+emergency-data-spec = tie.close (tie.spec (λ c. search needs) (λ c. search needs) returns)

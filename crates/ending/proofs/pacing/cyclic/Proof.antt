@@ -14,9 +14,6 @@ returns : tie.Need-returns
 unfolding cyclic
 returns c = let e : c .before .args .synced ≡ false = not-true _ (c .if1 .taken) in rw e
 
-add-next : tie.Need-add-next
-add-next c = search needs
-
 returns-2 : tie.Need-returns-2
 unfolding cyclic
 returns-2 c =
@@ -32,4 +29,4 @@ returns-3 c =
     rw (e, ne-eqb (suc (a .count)) (a .kind) (λ h. c .if2 .left (omega arith)), add-one)
 
 pub cyclic-spec : {M : Type 1} → statement M
-cyclic-spec = tie.close (tie.spec returns add-next returns-2 returns-3)
+cyclic-spec = tie.close (tie.spec returns (λ c. search needs) returns-2 returns-3)

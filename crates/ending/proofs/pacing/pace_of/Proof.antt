@@ -24,17 +24,11 @@ returns-2 c =
     let k = c .before .before .before .args .kind in
     rw (le-leb 1 k (omega arith), le-leb k 240 (omega arith)) (c .cyclic .ensures)
 
-acyclic-requires : tie.Need-acyclic-requires
-acyclic-requires c κs = search needs
-
 returns-3 : tie.Need-returns-3
 unfolding paceOf
 returns-3 c =
     let a = c .before .before .before .before .args in
     rw (lt-leb 1 (a .kind) (omega arith), eq-eqb (a .kind) 0 (omega arith), c .before .if3 .taken, or-true (a .due)) (c .acyclic .ensures)
-
-acyclic-requires-2 : tie.Need-acyclic-requires-2
-acyclic-requires-2 c κs = search needs
 
 returns-4 : tie.Need-returns-4
 unfolding paceOf
@@ -43,13 +37,4 @@ returns-4 c =
     rw (lt-leb 1 (a .kind) (omega arith), eq-eqb (a .kind) 0 (omega arith), c .before .if3 .left, or-false (a .due)) (c .acyclic2 .ensures)
 
 pub pace-of-spec : {M : Type 1} → statement M
-pace-of-spec =
-    tie.close
-    (tie.spec
-    returns
-    cyclic-requires
-    returns-2
-    acyclic-requires
-    returns-3
-    acyclic-requires-2
-    returns-4)
+pace-of-spec = tie.close (tie.spec returns cyclic-requires returns-2 (λ c κs. search needs) returns-3 (λ c κs. search needs) returns-4)

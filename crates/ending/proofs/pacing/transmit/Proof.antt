@@ -7,9 +7,6 @@ use borrow.Author.Needs.{needs}
 use Rattle.ending.proofs.pacing.transmit.Statement.{statement}
 use Rattle.ending.proofs.pacing.transmit.Tie as tie
 
-is-open-requires : tie.Need-is-open-requires
-is-open-requires c κs = search needs
-
 returns : tie.Need-returns
 returns c =
     let a = c .before .before .before .before .args in
@@ -17,12 +14,6 @@ returns c =
     let shut = sym (c .before .is-open .ensures) ∙ not-true _ (c .if1 .taken) in
     let e = pace-shut (a .d .now) (a .t) (a .synced) (a .changed) (a .count) (a .due) shut in
     went-unsent p _ (ap paced (sym e)) (a .d .now) (a .t) (a .content) (a .n) (a .output .now) refl
-
-add-p : tie.Need-add-p
-add-p c = search needs
-
-transmission-type-requires : tie.Need-transmission-type-requires
-transmission-type-requires c κs = search needs
 
 pace-of-requires : tie.Need-pace-of-requires
 pace-of-requires c κs =
@@ -40,18 +31,6 @@ returns-2 c =
     let q : told .pace-of .result ≡ paced p = rw (e, ← (told .before .transmission-type .ensures)) (told .pace-of .ensures) in
     went-unsent p _ q (a .d .now) (a .t) (a .content) (a .n) (a .output .now) (not-true _ (c .if2 .taken))
 
-identifier-requires : tie.Need-identifier-requires
-identifier-requires c κs = search needs
-
-cast-send : tie.Need-cast-send
-cast-send c = search needs
-
-send-requires : tie.Need-send-requires
-send-requires c κs = search needs
-
-same-length : tie.Need-same-length
-same-length c = search needs
-
 returns-3 : tie.Need-returns-3
 returns-3 c =
     let sent = c .before .before in
@@ -67,16 +46,5 @@ returns-3 c =
 
 pub transmit-spec : {M : Type 1} → statement M
 transmit-spec =
-    tie.close
-    (tie.spec
-    is-open-requires
-    returns
-    add-p
-    transmission-type-requires
-    pace-of-requires
-    returns-2
-    identifier-requires
-    cast-send
-    send-requires
-    same-length
-    returns-3)
+    tie.close (tie.spec (λ c κs. search needs) returns (λ c. search needs) (λ c κs. search needs) pace-of-requires returns-2 (λ c κs. search needs)
+    (λ c. search needs) (λ c κs. search needs) (λ c. search needs) returns-3)

@@ -3,14 +3,8 @@ use borrow.Author.Needs.{needs}
 use Rattle.ending.proofs.sending.changed.Statement.{statement}
 use Rattle.ending.proofs.sending.changed.Tie as tie
 
-same-data-requires : tie.Need-same-data-requires
-same-data-requires c κs = search needs
-
-returns : tie.Need-returns
-returns c = search needs
-
 returns-2 : tie.Need-returns-2
 returns-2 c = rw (c .same-data .ensures, c .before .if1 .left)
 
 pub changed-spec : {M : Type 1} → statement M
-changed-spec = tie.close (tie.spec same-data-requires returns returns-2)
+changed-spec = tie.close (tie.spec (λ c κs. search needs) (λ c. search needs) returns-2)

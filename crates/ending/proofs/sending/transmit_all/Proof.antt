@@ -32,38 +32,8 @@ abbrev μ-loop : tie.MeasureT-loop
 μ-loop was synced d output₀ n kept counts due ready next-counts₀ next-due₀ sent₀ t₀ output next-counts next-due sent t =
     eachWay - t
 
-is-operational-requires : tie.Need-is-operational-requires Inv-loop μ-loop
-is-operational-requires c κs = search needs
-
 loop-holds : tie.Need-loop-holds Inv-loop μ-loop
 loop-holds c = let a = c .before .before .before .before .args in none-yet (a .was) (a .synced) (onward (a .t1) (a .t2) (a .t3)) (a .d .now) (a .n) (a .output .now)
-
-mul-changed : tie.Need-mul-changed Inv-loop μ-loop
-mul-changed c = search needs
-
-array-copy-out-changed : tie.Need-array-copy-out-changed Inv-loop μ-loop
-array-copy-out-changed c = search needs
-
-mul-changed-2 : tie.Need-mul-changed-2 Inv-loop μ-loop
-mul-changed-2 c = search needs
-
-array-copy-out-changed-2 : tie.Need-array-copy-out-changed-2 Inv-loop μ-loop
-array-copy-out-changed-2 c = search needs
-
-changed-requires : tie.Need-changed-requires Inv-loop μ-loop
-changed-requires c κs = search needs
-
-array-read-transmit : tie.Need-array-read-transmit Inv-loop μ-loop
-array-read-transmit c = search needs
-
-array-read-transmit-2 : tie.Need-array-read-transmit-2 Inv-loop μ-loop
-array-read-transmit-2 c = search needs
-
-mul-transmit : tie.Need-mul-transmit Inv-loop μ-loop
-mul-transmit c = search needs
-
-array-copy-out-transmit : tie.Need-array-copy-out-transmit Inv-loop μ-loop
-array-copy-out-transmit c = search needs
 
 transmit-requires : tie.Need-transmit-requires Inv-loop μ-loop
 transmit-requires c κs =
@@ -89,15 +59,6 @@ transmit-requires c κs =
         ),
       ),
     )
-
-array-write-next-counts : tie.Need-array-write-next-counts Inv-loop μ-loop
-array-write-next-counts c = search needs
-
-array-write-next-due : tie.Need-array-write-next-due Inv-loop μ-loop
-array-write-next-due c = search needs
-
-add-t : tie.Need-add-t Inv-loop μ-loop
-add-t c = search needs
 
 loop-less : tie.Need-loop-less Inv-loop μ-loop
 loop-less c = let r = c .before .before .before .before .before .before .before .before .before .loop .inv in omega (arith, r .far)
@@ -145,27 +106,6 @@ returns c = over c .sent
 
 pub transmit-all-spec : {M : Type 1} → statement M
 transmit-all-spec =
-    tie.close
-    (tie.spec
-    Inv-loop
-    μ-loop
-    is-operational-requires
-    loop-holds
-    mul-changed
-    array-copy-out-changed
-    mul-changed-2
-    array-copy-out-changed-2
-    changed-requires
-    array-read-transmit
-    array-read-transmit-2
-    mul-transmit
-    array-copy-out-transmit
-    transmit-requires
-    array-write-next-counts
-    array-write-next-due
-    add-t
-    loop-less
-    loop-again
-    cast-t46
-    same-length
-    returns)
+    tie.close (tie.spec Inv-loop μ-loop (λ c κs. search needs) loop-holds (λ c. search needs) (λ c. search needs) (λ c. search needs)
+    (λ c. search needs) (λ c κs. search needs) (λ c. search needs) (λ c. search needs) (λ c. search needs) (λ c. search needs) transmit-requires
+    (λ c. search needs) (λ c. search needs) (λ c. search needs) loop-less loop-again cast-t46 same-length returns)

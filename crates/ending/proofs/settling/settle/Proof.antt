@@ -12,24 +12,6 @@ use borrow.Author.Needs.{needs}
 use Rattle.ending.proofs.settling.settle.Statement.{statement}
 use Rattle.ending.proofs.settling.settle.Tie as tie
 
-is-remote-requires : tie.Need-is-remote-requires
-is-remote-requires c κs = search needs
-
-status-requires : tie.Need-status-requires
-status-requires c κs = search needs
-
-mode-number-requires : tie.Need-mode-number-requires
-mode-number-requires c κs = search needs
-
-status-word-requires : tie.Need-status-word-requires
-status-word-requires c κs = search needs
-
-mode-display-requires : tie.Need-mode-display-requires
-mode-display-requires c κs = search needs
-
-same-length : tie.Need-same-length
-same-length c = search needs
-
 returns : tie.Need-returns
 returns c =
     let second = c .before in
@@ -42,15 +24,6 @@ returns c =
     let b : areBytes (a .d .now) ≡ true = are-bytes (a .d .now) (λ i h. omega (arith, entry .slice-known .given i)) in
     let e = both-stand (a .node) (a .drive) (a .d .now) _ _ w (known .mode-number .ensures) b (entry .before .pre) (sym (first .before .status-word .ensures) ∙ first .if1 .taken) (sym (second .mode-display .ensures) ∙ eqb-true _ _ (c .if2 .taken)) in
     (e, λ h. (h, refl))
-
-set-status-word-requires : tie.Need-set-status-word-requires
-set-status-word-requires c κs = search needs
-
-set-mode-display-requires : tie.Need-set-mode-display-requires
-set-mode-display-requires c κs = search needs
-
-same-length-2 : tie.Need-same-length-2
-same-length-2 c = search needs
 
 returns-2 : tie.Need-returns-2
 returns-2 c =
@@ -68,16 +41,5 @@ returns-2 c =
 
 pub settle-spec : {M : Type 1} → statement M
 settle-spec =
-    tie.close
-    (tie.spec
-    is-remote-requires
-    status-requires
-    mode-number-requires
-    status-word-requires
-    mode-display-requires
-    same-length
-    returns
-    set-status-word-requires
-    set-mode-display-requires
-    same-length-2
-    returns-2)
+    tie.close (tie.spec (λ c κs. search needs) (λ c κs. search needs) (λ c κs. search needs) (λ c κs. search needs) (λ c κs. search needs)
+    (λ c. search needs) returns (λ c κs. search needs) (λ c κs. search needs) (λ c. search needs) returns-2)

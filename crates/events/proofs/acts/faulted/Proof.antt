@@ -5,27 +5,6 @@ use borrow.Author.Needs.{needs}
 use Rattle.events.proofs.acts.faulted.Statement.{statement}
 use Rattle.events.proofs.acts.faulted.Tie as tie
 
-note-fault-requires : tie.Need-note-fault-requires
-note-fault-requires c κs = search needs
-
-emergency-requires : tie.Need-emergency-requires
-emergency-requires c κs = search needs
-
-reaction-from-requires : tie.Need-reaction-from-requires
-reaction-from-requires c κs = search needs
-
-enters-requires : tie.Need-enters-requires
-enters-requires c κs = search needs
-
-with-cause-requires : tie.Need-with-cause-requires
-with-cause-requires c κs = search needs
-
-same-length : tie.Need-same-length
-same-length c = search needs
-
-same-length-2 : tie.Need-same-length-2
-same-length-2 c = search needs
-
 returns : tie.Need-returns
 returns c =
     let entered = c .before in
@@ -40,13 +19,5 @@ returns c =
 
 pub faulted-spec : {M : Type 1} → statement M
 faulted-spec =
-    tie.close
-    (tie.spec
-    note-fault-requires
-    emergency-requires
-    reaction-from-requires
-    enters-requires
-    with-cause-requires
-    same-length
-    same-length-2
-    returns)
+    tie.close (tie.spec (λ c κs. search needs) (λ c κs. search needs) (λ c κs. search needs) (λ c κs. search needs) (λ c κs. search needs)
+    (λ c. search needs) (λ c. search needs) returns)

@@ -4,18 +4,6 @@ use borrow.Author.Needs.{needs}
 use Rattle.events.proofs.acts.fed_back.Statement.{statement}
 use Rattle.events.proofs.acts.fed_back.Tie as tie
 
-set-position-requires : tie.Need-set-position-requires
-set-position-requires c κs = search needs
-
-set-velocity-requires : tie.Need-set-velocity-requires
-set-velocity-requires c κs = search needs
-
-parts-of-requires : tie.Need-parts-of-requires
-parts-of-requires c κs = search needs
-
-same-length : tie.Need-same-length
-same-length c = search needs
-
 returns : tie.Need-returns
 returns c =
     let second = c .before .before .before in
@@ -25,4 +13,4 @@ returns c =
 
 pub fed-back-spec : {M : Type 1} → statement M
 fed-back-spec =
-    tie.close (tie.spec set-position-requires set-velocity-requires parts-of-requires same-length returns)
+    tie.close (tie.spec (λ c κs. search needs) (λ c κs. search needs) (λ c κs. search needs) (λ c. search needs) returns)

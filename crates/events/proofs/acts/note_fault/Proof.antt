@@ -4,18 +4,6 @@ use borrow.Author.Needs.{needs}
 use Rattle.events.proofs.acts.note_fault.Statement.{statement}
 use Rattle.events.proofs.acts.note_fault.Tie as tie
 
-error-register-requires : tie.Need-error-register-requires
-error-register-requires c κs = search needs
-
-set-error-code-requires : tie.Need-set-error-code-requires
-set-error-code-requires c κs = search needs
-
-set-error-register-requires : tie.Need-set-error-register-requires
-set-error-register-requires c κs = search needs
-
-same-length : tie.Need-same-length
-same-length c = search needs
-
 returns : tie.Need-returns
 returns c =
     let gained = c .before .before in
@@ -26,4 +14,4 @@ returns c =
 
 pub note-fault-spec : {M : Type 1} → statement M
 note-fault-spec =
-    tie.close (tie.spec error-register-requires set-error-code-requires set-error-register-requires same-length returns)
+    tie.close (tie.spec (λ c κs. search needs) (λ c κs. search needs) (λ c κs. search needs) (λ c. search needs) returns)

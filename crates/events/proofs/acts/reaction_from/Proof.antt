@@ -5,9 +5,6 @@ use borrow.Author.Needs.{needs}
 use Rattle.events.proofs.acts.reaction_from.Statement.{statement}
 use Rattle.events.proofs.acts.reaction_from.Tie as tie
 
-is-faulty-requires : tie.Need-is-faulty-requires
-is-faulty-requires c κs = search needs
-
 returns : tie.Need-returns
 returns c = keeps-state _ (sym (c .before .is-faulty .ensures) ∙ c .if1 .taken)
 
@@ -15,4 +12,4 @@ returns-2 : tie.Need-returns-2
 returns-2 c = goes-to-reaction (c .before .before .args .state) (sym (c .before .is-faulty .ensures) ∙ c .if1 .left)
 
 pub reaction-from-spec : {M : Type 1} → statement M
-reaction-from-spec = tie.close (tie.spec is-faulty-requires returns returns-2)
+reaction-from-spec = tie.close (tie.spec (λ c κs. search needs) returns returns-2)

@@ -4,12 +4,6 @@ use borrow.Author.Needs.{needs}
 use Rattle.events.proofs.acts.to_state.Statement.{statement}
 use Rattle.events.proofs.acts.to_state.Tie as tie
 
-voltage-after-requires : tie.Need-voltage-after-requires
-voltage-after-requires c κs = search needs
-
-drive-after-requires : tie.Need-drive-after-requires
-drive-after-requires c κs = search needs
-
 returns : tie.Need-returns
 returns c =
     let b = c .before in
@@ -17,4 +11,4 @@ returns c =
     after-is (a .e) (a .s) _ _ (b .voltage-after .ensures) (c .drive-after .ensures)
 
 pub to-state-spec : {M : Type 1} → statement M
-to-state-spec = tie.close (tie.spec voltage-after-requires drive-after-requires returns)
+to-state-spec = tie.close (tie.spec (λ c κs. search needs) (λ c κs. search needs) returns)

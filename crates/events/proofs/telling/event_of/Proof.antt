@@ -7,33 +7,6 @@ use borrow.Author.Needs.{needs}
 use Rattle.events.proofs.telling.event_of.Statement.{statement}
 use Rattle.events.proofs.telling.event_of.Tie as tie
 
-alone-requires : tie.Need-alone-requires
-alone-requires c κs = search needs
-
-alone-requires-2 : tie.Need-alone-requires-2
-alone-requires-2 c κs = search needs
-
-told-fault-requires : tie.Need-told-fault-requires
-told-fault-requires c κs = search needs
-
-alone-requires-3 : tie.Need-alone-requires-3
-alone-requires-3 c κs = search needs
-
-told-feedback-requires : tie.Need-told-feedback-requires
-told-feedback-requires c κs = search needs
-
-alone-requires-4 : tie.Need-alone-requires-4
-alone-requires-4 c κs = search needs
-
-alone-requires-5 : tie.Need-alone-requires-5
-alone-requires-5 c κs = search needs
-
-alone-requires-6 : tie.Need-alone-requires-6
-alone-requires-6 c κs = search needs
-
-told-voltage-requires : tie.Need-told-voltage-requires
-told-voltage-requires c κs = search needs
-
 returns : tie.Need-returns
 unfolding rules.eventOf
 returns c = rw (c .before .match .keys1) (alone-told (c .before .before .before .args .arguments .now) variants.Started _ rules.started (c .alone .ensures) refl)
@@ -75,24 +48,6 @@ returns-10 c = no-event _ (c .before .before .args .arguments .now) (c .match .r
 
 pub event-of-spec : {M : Type 1} → statement M
 event-of-spec =
-    tie.close
-    (tie.spec
-    alone-requires
-    alone-requires-2
-    told-fault-requires
-    alone-requires-3
-    told-feedback-requires
-    alone-requires-4
-    alone-requires-5
-    alone-requires-6
-    told-voltage-requires
-    returns
-    returns-2
-    returns-3
-    returns-4
-    returns-5
-    returns-6
-    returns-7
-    returns-8
-    returns-9
-    returns-10)
+    tie.close (tie.spec (λ c κs. search needs) (λ c κs. search needs) (λ c κs. search needs) (λ c κs. search needs) (λ c κs. search needs)
+    (λ c κs. search needs) (λ c κs. search needs) (λ c κs. search needs) (λ c κs. search needs) returns returns-2 returns-3 returns-4 returns-5
+    returns-6 returns-7 returns-8 returns-9 returns-10)

@@ -7,14 +7,8 @@ use Rattle.events.proofs.telling.told_fault.Tie as tie
 returns : tie.Need-returns
 returns c = fault-size (c .before .before .args .arguments .now) (c .if1 .taken)
 
-read2-requires : tie.Need-read2-requires
-read2-requires c κs = search needs
-
 returns-2 : tie.Need-returns-2
 returns-2 c = fault-zero (c .before .before .before .before .args .arguments .now) _ (c .before .before .if1 .left) (c .before .read2 .ensures) (c .if2 .taken)
-
-shared-slice-read-t6 : tie.Need-shared-slice-read-t6
-shared-slice-read-t6 c = search needs
 
 returns-3 : tie.Need-returns-3
 returns-3 c =
@@ -23,4 +17,4 @@ returns-3 c =
 
 pub told-fault-spec : {M : Type 1} → statement M
 told-fault-spec =
-    tie.close (tie.spec returns read2-requires returns-2 shared-slice-read-t6 returns-3)
+    tie.close (tie.spec returns (λ c κs. search needs) returns-2 (λ c. search needs) returns-3)

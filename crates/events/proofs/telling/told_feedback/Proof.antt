@@ -7,14 +7,8 @@ use Rattle.events.proofs.telling.told_feedback.Tie as tie
 returns : tie.Need-returns
 returns c = feedback-size (c .before .before .args .arguments .now) (c .if1 .taken)
 
-read4-requires : tie.Need-read4-requires
-read4-requires c κs = search needs
-
-read4-requires-2 : tie.Need-read4-requires-2
-read4-requires-2 c κs = search needs
-
 returns-2 : tie.Need-returns-2
 returns-2 c = feedback-told (c .before .before .before .before .args .arguments .now) _ _ (c .before .before .if1 .left) (c .before .read4 .ensures) (c .read42 .ensures)
 
 pub told-feedback-spec : {M : Type 1} → statement M
-told-feedback-spec = tie.close (tie.spec returns read4-requires read4-requires-2 returns-2)
+told-feedback-spec = tie.close (tie.spec returns (λ c κs. search needs) (λ c κs. search needs) returns-2)

@@ -4,15 +4,9 @@ use borrow.Author.Needs.{needs}
 use Rattle.form.proofs.axis_drive.bits_of.Statement.{statement}
 use Rattle.form.proofs.axis_drive.bits_of.Tie as tie
 
-read4-requires : tie.Need-read4-requires
-read4-requires c κs = search needs
-
-bits-behind-requires : tie.Need-bits-behind-requires
-bits-behind-requires c κs = search needs
-
 returns : tie.Need-returns
 unfolding setPointAt
 returns c = simp or-zero (cc)
 
 pub bits-of-spec : {M : Type 1} → statement M
-bits-of-spec = tie.close (tie.spec read4-requires bits-behind-requires returns)
+bits-of-spec = tie.close (tie.spec (λ c κs. search needs) (λ c κs. search needs) returns)

@@ -6,18 +6,6 @@ use borrow.Author.Needs.{needs}
 use Rattle.form.proofs.axis_drive.own_store.Statement.{statement}
 use Rattle.form.proofs.axis_drive.own_store.Tie as tie
 
-bits-behind-requires : tie.Need-bits-behind-requires
-bits-behind-requires c κs = search needs
-
-bits-of-requires : tie.Need-bits-of-requires
-bits-of-requires c κs = search needs
-
-shared-slice-read-match : tie.Need-shared-slice-read-match
-shared-slice-read-match c = search needs
-
-read4-requires : tie.Need-read4-requires
-read4-requires c κs = search needs
-
 returns : tie.Need-returns
 returns c =
     let s = c .before .before .before in
@@ -43,14 +31,5 @@ returns-5 c =
 
 pub own-store-spec : {M : Type 1} → statement M
 own-store-spec =
-    tie.close
-    (tie.spec
-    bits-behind-requires
-    bits-of-requires
-    shared-slice-read-match
-    read4-requires
-    returns
-    returns-2
-    returns-3
-    returns-4
+    tie.close (tie.spec (λ c κs. search needs) (λ c κs. search needs) (λ c. search needs) (λ c κs. search needs) returns returns-2 returns-3 returns-4
     returns-5)

@@ -4,21 +4,6 @@ use borrow.Author.Needs.{needs}
 use Rattle.form.proofs.axis_drive.read_store.Statement.{statement}
 use Rattle.form.proofs.axis_drive.read_store.Tie as tie
 
-shared-slice-read-match : tie.Need-shared-slice-read-match
-shared-slice-read-match c = search needs
-
-read4-requires : tie.Need-read4-requires
-read4-requires c κs = search needs
-
-read-set-point-requires : tie.Need-read-set-point-requires
-read-set-point-requires c κs = search needs
-
-read-set-point-requires-2 : tie.Need-read-set-point-requires-2
-read-set-point-requires-2 c κs = search needs
-
-read-set-point-requires-3 : tie.Need-read-set-point-requires-3
-read-set-point-requires-3 c κs = search needs
-
 returns : tie.Need-returns
 unfolding storeAt
 returns c = rw (c .match .keys1)
@@ -39,14 +24,5 @@ returns-4 c =
 
 pub read-store-spec : {M : Type 1} → statement M
 read-store-spec =
-    tie.close
-    (tie.spec
-    shared-slice-read-match
-    read4-requires
-    read-set-point-requires
-    read-set-point-requires-2
-    read-set-point-requires-3
-    returns
-    returns-2
-    returns-3
-    returns-4)
+    tie.close (tie.spec (λ c. search needs) (λ c κs. search needs) (λ c κs. search needs) (λ c κs. search needs) (λ c κs. search needs) returns
+    returns-2 returns-3 returns-4)

@@ -11,18 +11,6 @@ use borrow.Author.Needs.{needs}
 use Rattle.form.proofs.axis_drive.write_store.Statement.{statement}
 use Rattle.form.proofs.axis_drive.write_store.Tie as tie
 
-first-of-requires : tie.Need-first-of-requires
-first-of-requires c κs = search needs
-
-second-of-requires : tie.Need-second-of-requires
-second-of-requires c κs = search needs
-
-store-kind-requires : tie.Need-store-kind-requires
-store-kind-requires c κs = search needs
-
-slice-write-bytes : tie.Need-slice-write-bytes
-slice-write-bytes c = search needs
-
 write-set-point-requires : tie.Need-write-set-point-requires
 write-set-point-requires c κs = simp length-set (omega arith)
 
@@ -45,13 +33,5 @@ returns c =
 
 pub write-store-spec : {M : Type 1} → statement M
 write-store-spec =
-    tie.close
-    (tie.spec
-    first-of-requires
-    second-of-requires
-    store-kind-requires
-    slice-write-bytes
-    write-set-point-requires
-    write-set-point-requires-2
-    same-length
-    returns)
+    tie.close (tie.spec (λ c κs. search needs) (λ c κs. search needs) (λ c κs. search needs) (λ c. search needs) write-set-point-requires
+    write-set-point-requires-2 same-length returns)

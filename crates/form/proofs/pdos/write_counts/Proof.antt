@@ -8,62 +8,14 @@ use borrow.Author.Needs.{needs}
 use Rattle.form.proofs.pdos.write_counts.Statement.{statement}
 use Rattle.form.proofs.pdos.write_counts.Tie as tie
 
-array-read-bytes : tie.Need-array-read-bytes
-array-read-bytes c = search needs
-
-slice-write-bytes : tie.Need-slice-write-bytes
-slice-write-bytes c = search needs
-
-array-read-bytes-2 : tie.Need-array-read-bytes-2
-array-read-bytes-2 c = search needs
-
-slice-write-bytes-2 : tie.Need-slice-write-bytes-2
-slice-write-bytes-2 c = search needs
-
-array-read-bytes-3 : tie.Need-array-read-bytes-3
-array-read-bytes-3 c = search needs
-
-slice-write-bytes-3 : tie.Need-slice-write-bytes-3
-slice-write-bytes-3 c = search needs
-
-array-read-bytes-4 : tie.Need-array-read-bytes-4
-array-read-bytes-4 c = search needs
-
-slice-write-bytes-4 : tie.Need-slice-write-bytes-4
-slice-write-bytes-4 c = search needs
-
-array-read-flag-number : tie.Need-array-read-flag-number
-array-read-flag-number c = search needs
-
-flag-number-requires : tie.Need-flag-number-requires
-flag-number-requires c κs = search needs
-
 slice-write-bytes-5 : tie.Need-slice-write-bytes-5
 slice-write-bytes-5 c = simp length-set (omega arith)
-
-array-read-flag-number-2 : tie.Need-array-read-flag-number-2
-array-read-flag-number-2 c = search needs
-
-flag-number-requires-2 : tie.Need-flag-number-requires-2
-flag-number-requires-2 c κs = search needs
 
 slice-write-bytes-6 : tie.Need-slice-write-bytes-6
 slice-write-bytes-6 c = simp length-set (omega arith)
 
-array-read-flag-number-3 : tie.Need-array-read-flag-number-3
-array-read-flag-number-3 c = search needs
-
-flag-number-requires-3 : tie.Need-flag-number-requires-3
-flag-number-requires-3 c κs = search needs
-
 slice-write-bytes-7 : tie.Need-slice-write-bytes-7
 slice-write-bytes-7 c = simp length-set (omega arith)
-
-array-read-flag-number-4 : tie.Need-array-read-flag-number-4
-array-read-flag-number-4 c = search needs
-
-flag-number-requires-4 : tie.Need-flag-number-requires-4
-flag-number-requires-4 c κs = search needs
 
 slice-write-bytes-8 : tie.Need-slice-write-bytes-8
 slice-write-bytes-8 c = simp length-set (omega arith)
@@ -80,27 +32,7 @@ returns c =
 
 pub write-counts-spec : {M : Type 1} → statement M
 write-counts-spec =
-    tie.close
-    (tie.spec
-    array-read-bytes
-    slice-write-bytes
-    array-read-bytes-2
-    slice-write-bytes-2
-    array-read-bytes-3
-    slice-write-bytes-3
-    array-read-bytes-4
-    slice-write-bytes-4
-    array-read-flag-number
-    flag-number-requires
-    slice-write-bytes-5
-    array-read-flag-number-2
-    flag-number-requires-2
-    slice-write-bytes-6
-    array-read-flag-number-3
-    flag-number-requires-3
-    slice-write-bytes-7
-    array-read-flag-number-4
-    flag-number-requires-4
-    slice-write-bytes-8
-    same-length
-    returns)
+    tie.close (tie.spec (λ c. search needs) (λ c. search needs) (λ c. search needs) (λ c. search needs) (λ c. search needs) (λ c. search needs)
+    (λ c. search needs) (λ c. search needs) (λ c. search needs) (λ c κs. search needs) slice-write-bytes-5 (λ c. search needs)
+    (λ c κs. search needs) slice-write-bytes-6 (λ c. search needs) (λ c κs. search needs) slice-write-bytes-7 (λ c. search needs)
+    (λ c κs. search needs) slice-write-bytes-8 same-length returns)

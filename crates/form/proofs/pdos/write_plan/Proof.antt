@@ -6,12 +6,6 @@ use borrow.Author.Needs.{needs}
 use Rattle.form.proofs.pdos.write_plan.Statement.{statement}
 use Rattle.form.proofs.pdos.write_plan.Tie as tie
 
-slice-write-bytes : tie.Need-slice-write-bytes
-slice-write-bytes c = search needs
-
-add-write-moves : tie.Need-add-write-moves
-add-write-moves c = search needs
-
 write-moves-requires : tie.Need-write-moves-requires
 write-moves-requires c κs = simp length-set (omega arith)
 
@@ -26,4 +20,4 @@ returns c =
 
 pub write-plan-spec : {M : Type 1} → statement M
 write-plan-spec =
-    tie.close (tie.spec slice-write-bytes add-write-moves write-moves-requires same-length returns)
+    tie.close (tie.spec (λ c. search needs) (λ c. search needs) write-moves-requires same-length returns)

@@ -20,24 +20,6 @@ abbrev μ-loop : tie.MeasureT-loop
 loop-holds : tie.Need-loop-holds Inv-loop μ-loop
 loop-holds c = none-yet
 
-mul-plan : tie.Need-mul-plan Inv-loop μ-loop
-mul-plan c = search needs
-
-array-copy-out-plan : tie.Need-array-copy-out-plan Inv-loop μ-loop
-array-copy-out-plan c = search needs
-
-write-plan-requires : tie.Need-write-plan-requires Inv-loop μ-loop
-write-plan-requires c κs = search needs
-
-add-at : tie.Need-add-at Inv-loop μ-loop
-add-at c = search needs
-
-add-k : tie.Need-add-k Inv-loop μ-loop
-add-k c = search needs
-
-loop-less : tie.Need-loop-less Inv-loop μ-loop
-loop-less c = search needs
-
 loop-again : tie.Need-loop-again Inv-loop μ-loop
 loop-again c =
     let few : length (c .before .before .before .before .before .before .before .before .args .t2) ≡ (2 * eachWay) = search needs in
@@ -55,17 +37,5 @@ returns c =
 
 pub write-plans-spec : {M : Type 1} → statement M
 write-plans-spec =
-    tie.close
-    (tie.spec
-    Inv-loop
-    μ-loop
-    loop-holds
-    mul-plan
-    array-copy-out-plan
-    write-plan-requires
-    add-at
-    add-k
-    loop-less
-    loop-again
-    same-length
-    returns)
+    tie.close (tie.spec Inv-loop μ-loop loop-holds (λ c. search needs) (λ c. search needs) (λ c κs. search needs) (λ c. search needs)
+    (λ c. search needs) (λ c. search needs) loop-again same-length returns)

@@ -8,18 +8,12 @@ use borrow.Author.Needs.{needs}
 use Rattle.legality.proofs.identifiers.identifiers_apart.Statement.{statement}
 use Rattle.legality.proofs.identifiers.identifiers_apart.Tie as tie
 
-key-of-requires : tie.Need-key-of-requires
-key-of-requires c κs = search needs
-
 returns : tie.Need-returns
 unfolding keyIn
 returns c =
     let s = c .before .before .before in
     let d = s .args .d .now in
     receive-illegal d (s .pre) (are-bytes d (λ i h. omega (arith, c .before .before .shared-slice-known .given i))) {k = keyIn d 0} here (sym (c .before .key-of .ensures) ∙ c .if1 .taken)
-
-key-of-requires-2 : tie.Need-key-of-requires-2
-key-of-requires-2 c κs = search needs
 
 returns-2 : tie.Need-returns-2
 unfolding keyIn
@@ -28,9 +22,6 @@ returns-2 c =
     let d = s .args .d .now in
     receive-illegal d (s .pre) (are-bytes d (λ i h. omega (arith, c .before .before .before .before .shared-slice-known .given i))) {k = keyIn d 1} (there here) (sym (c .before .key-of2 .ensures) ∙ c .if2 .taken)
 
-key-of-requires-3 : tie.Need-key-of-requires-3
-key-of-requires-3 c κs = search needs
-
 returns-3 : tie.Need-returns-3
 unfolding keyIn
 returns-3 c =
@@ -38,18 +29,12 @@ returns-3 c =
     let d = s .args .d .now in
     receive-illegal d (s .pre) (are-bytes d (λ i h. omega (arith, c .before .before .before .before .before .before .shared-slice-known .given i))) {k = keyIn d 2} (there (there here)) (sym (c .before .key-of3 .ensures) ∙ c .if3 .taken)
 
-key-of-requires-4 : tie.Need-key-of-requires-4
-key-of-requires-4 c κs = search needs
-
 returns-4 : tie.Need-returns-4
 unfolding keyIn
 returns-4 c =
     let s = c .before .before .before .before .before .before .before .before .before in
     let d = s .args .d .now in
     receive-illegal d (s .pre) (are-bytes d (λ i h. omega (arith, c .before .before .before .before .before .before .before .before .shared-slice-known .given i))) {k = keyIn d 3} (there (there (there here))) (sym (c .before .key-of4 .ensures) ∙ c .if4 .taken)
-
-transmit-legal-requires : tie.Need-transmit-legal-requires
-transmit-legal-requires c κs = search needs
 
 returns-5 : tie.Need-returns-5
 unfolding keyIn
@@ -68,15 +53,5 @@ returns-5 c =
 
 pub identifiers-apart-spec : {M : Type 1} → statement M
 identifiers-apart-spec =
-    tie.close
-    (tie.spec
-    key-of-requires
-    returns
-    key-of-requires-2
-    returns-2
-    key-of-requires-3
-    returns-3
-    key-of-requires-4
-    returns-4
-    transmit-legal-requires
-    returns-5)
+    tie.close (tie.spec (λ c κs. search needs) returns (λ c κs. search needs) returns-2 (λ c κs. search needs) returns-3 (λ c κs. search needs)
+    returns-4 (λ c κs. search needs) returns-5)

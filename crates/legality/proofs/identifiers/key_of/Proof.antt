@@ -6,29 +6,11 @@ use borrow.Author.Needs.{needs}
 use Rattle.legality.proofs.identifiers.key_of.Statement.{statement}
 use Rattle.legality.proofs.identifiers.key_of.Tie as tie
 
-identifier-requires : tie.Need-identifier-requires
-identifier-requires c κs = search needs
-
-add-first : tie.Need-add-first
-add-first c = search needs
-
-add-invalid : tie.Need-add-invalid
-add-invalid c = search needs
-
-add-if1 : tie.Need-add-if1
-add-if1 c = search needs
-
 sub-result : tie.Need-sub-result
 sub-result c = leb-true _ _ (and-left _ _ (c .if1 .taken))
 
 returns : tie.Need-returns
 returns c = rw (← c .before .identifier .ensures) (sym (valid-key _ _ _ (c .if1 .taken)))
-
-add-if2 : tie.Need-add-if2
-add-if2 c = search needs
-
-add-result : tie.Need-add-result
-add-result c = search needs
 
 returns-2 : tie.Need-returns-2
 returns-2 c = rw (← c .before .before .identifier .ensures) (sym (invalid-key _ _ _ (c .before .if1 .left) (c .if2 .taken)))
@@ -38,15 +20,5 @@ returns-3 c = rw (← c .before .before .identifier .ensures) (sym (neither-key 
 
 pub key-of-spec : {M : Type 1} → statement M
 key-of-spec =
-    tie.close
-    (tie.spec
-    identifier-requires
-    add-first
-    add-invalid
-    add-if1
-    sub-result
-    returns
-    add-if2
-    add-result
-    returns-2
-    returns-3)
+    tie.close (tie.spec (λ c κs. search needs) (λ c. search needs) (λ c. search needs) (λ c. search needs) sub-result returns (λ c. search needs)
+    (λ c. search needs) returns-2 returns-3)

@@ -6,17 +6,11 @@ use borrow.Author.Needs.{needs}
 use Rattle.legality.proofs.identifiers.transmit_legal.Statement.{statement}
 use Rattle.legality.proofs.identifiers.transmit_legal.Tie as tie
 
-key-of-requires : tie.Need-key-of-requires
-key-of-requires c κs = search needs
-
 returns : tie.Need-returns
 unfolding keyIn
 returns c =
     let a = c .before .before .before .args in
     transmit-illegal (a .d .now) (a .r .a) (a .r .b) (a .r .c) (a .r .d) {k = keyIn (a .d .now) 4} here (sym (c .before .key-of .ensures) ∙ c .if1 .taken)
-
-key-of-requires-2 : tie.Need-key-of-requires-2
-key-of-requires-2 c κs = search needs
 
 returns-2 : tie.Need-returns-2
 unfolding keyIn
@@ -24,32 +18,17 @@ returns-2 c =
     let a = c .before .before .before .before .before .args in
     transmit-illegal (a .d .now) (a .r .a) (a .r .b) (a .r .c) (a .r .d) {k = keyIn (a .d .now) 5} (there here) (sym (c .before .key-of2 .ensures) ∙ c .if2 .taken)
 
-key-of-requires-3 : tie.Need-key-of-requires-3
-key-of-requires-3 c κs = search needs
-
 returns-3 : tie.Need-returns-3
 unfolding keyIn
 returns-3 c =
     let a = c .before .before .before .before .before .before .before .args in
     transmit-illegal (a .d .now) (a .r .a) (a .r .b) (a .r .c) (a .r .d) {k = keyIn (a .d .now) 6} (there (there here)) (sym (c .before .key-of3 .ensures) ∙ c .if3 .taken)
 
-key-of-requires-4 : tie.Need-key-of-requires-4
-key-of-requires-4 c κs = search needs
-
 returns-4 : tie.Need-returns-4
 unfolding keyIn
 returns-4 c =
     let a = c .before .before .before .before .before .before .before .before .before .args in
     transmit-illegal (a .d .now) (a .r .a) (a .r .b) (a .r .c) (a .r .d) {k = keyIn (a .d .now) 7} (there (there (there here))) (sym (c .before .key-of4 .ensures) ∙ c .if4 .taken)
-
-differ-requires : tie.Need-differ-requires
-differ-requires c κs = search needs
-
-differ-requires-2 : tie.Need-differ-requires-2
-differ-requires-2 c κs = search needs
-
-apart-requires : tie.Need-apart-requires
-apart-requires c κs = search needs
 
 returns-5 : tie.Need-returns-5
 unfolding keyIn
@@ -68,17 +47,5 @@ returns-5 c =
 
 pub transmit-legal-spec : {M : Type 1} → statement M
 transmit-legal-spec =
-    tie.close
-    (tie.spec
-    key-of-requires
-    returns
-    key-of-requires-2
-    returns-2
-    key-of-requires-3
-    returns-3
-    key-of-requires-4
-    returns-4
-    differ-requires
-    differ-requires-2
-    apart-requires
-    returns-5)
+    tie.close (tie.spec (λ c κs. search needs) returns (λ c κs. search needs) returns-2 (λ c κs. search needs) returns-3 (λ c κs. search needs)
+    returns-4 (λ c κs. search needs) (λ c κs. search needs) (λ c κs. search needs) returns-5)

@@ -5,24 +5,6 @@ use borrow.Author.Needs.{needs}
 use Rattle.legality.proofs.rows.rows_legal.Statement.{statement}
 use Rattle.legality.proofs.rows.rows_legal.Tie as tie
 
-node-legal-requires : tie.Need-node-legal-requires
-node-legal-requires c κs = search needs
-
-communications-legal-requires : tie.Need-communications-legal-requires
-communications-legal-requires c κs = search needs
-
-counts-legal-requires : tie.Need-counts-legal-requires
-counts-legal-requires c κs = search needs
-
-communications-legal-requires-2 : tie.Need-communications-legal-requires-2
-communications-legal-requires-2 c κs = search needs
-
-counts-legal-requires-2 : tie.Need-counts-legal-requires-2
-counts-legal-requires-2 c κs = search needs
-
-drive-legal-requires : tie.Need-drive-legal-requires
-drive-legal-requires c κs = search needs
-
 returns : tie.Need-returns
 returns c =
     let s = c .before .before .before .before .before .before .before in
@@ -33,12 +15,5 @@ returns c =
 
 pub rows-legal-spec : {M : Type 1} → statement M
 rows-legal-spec =
-    tie.close
-    (tie.spec
-    node-legal-requires
-    communications-legal-requires
-    counts-legal-requires
-    communications-legal-requires-2
-    counts-legal-requires-2
-    drive-legal-requires
-    returns)
+    tie.close (tie.spec (λ c κs. search needs) (λ c κs. search needs) (λ c κs. search needs) (λ c κs. search needs) (λ c κs. search needs)
+    (λ c κs. search needs) returns)

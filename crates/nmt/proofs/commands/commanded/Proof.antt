@@ -4,21 +4,6 @@ use borrow.Author.Needs.{needs}
 use Rattle.nmt.proofs.commands.commanded.Statement.{statement}
 use Rattle.nmt.proofs.commands.commanded.Tie as tie
 
-with-nmt-requires : tie.Need-with-nmt-requires
-with-nmt-requires c κs = search needs
-
-voltage-disabled-requires : tie.Need-voltage-disabled-requires
-voltage-disabled-requires c κs = search needs
-
-left-requires : tie.Need-left-requires
-left-requires c κs = search needs
-
-with-nmt-requires-2 : tie.Need-with-nmt-requires-2
-with-nmt-requires-2 c κs = search needs
-
-pre-operational-requires : tie.Need-pre-operational-requires
-pre-operational-requires c κs = search needs
-
 returns : tie.Need-returns
 returns c = starts _ (c .before .before .args .s) _ (c .before .match .keys1) (c .with-nmt .ensures)
 
@@ -39,14 +24,5 @@ returns-4 c =
 
 pub commanded-spec : {M : Type 1} → statement M
 commanded-spec =
-    tie.close
-    (tie.spec
-    with-nmt-requires
-    voltage-disabled-requires
-    left-requires
-    with-nmt-requires-2
-    pre-operational-requires
-    returns
-    returns-2
-    returns-3
-    returns-4)
+    tie.close (tie.spec (λ c κs. search needs) (λ c κs. search needs) (λ c κs. search needs) (λ c κs. search needs) (λ c κs. search needs) returns
+    returns-2 returns-3 returns-4)

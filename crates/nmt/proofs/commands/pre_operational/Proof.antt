@@ -5,15 +5,6 @@ use borrow.Author.Needs.{needs}
 use Rattle.nmt.proofs.commands.pre_operational.Statement.{statement}
 use Rattle.nmt.proofs.commands.pre_operational.Tie as tie
 
-is-pre-operational-requires : tie.Need-is-pre-operational-requires
-is-pre-operational-requires c κs = search needs
-
-left-requires : tie.Need-left-requires
-left-requires c κs = search needs
-
-with-nmt-requires : tie.Need-with-nmt-requires
-with-nmt-requires c κs = search needs
-
 returns : tie.Need-returns
 returns c = is-there (c .before .before .before .args .s) (sym (c .before .is-pre-operational .ensures) ∙ c .if1 .taken)
 
@@ -23,6 +14,4 @@ returns-2 c =
     goes-there (test .before .before .before .args .s) _ _ (sym (test .before .is-pre-operational .ensures) ∙ test .if1 .left) (c .before .left .ensures) (c .with-nmt .ensures)
 
 pub pre-operational-spec : {M : Type 1} → statement M
-pre-operational-spec =
-    tie.close
-    (tie.spec is-pre-operational-requires left-requires with-nmt-requires returns returns-2)
+pre-operational-spec = tie.close (tie.spec (λ c κs. search needs) (λ c κs. search needs) (λ c κs. search needs) returns returns-2)

@@ -4,24 +4,6 @@ use borrow.Author.Needs.{needs}
 use Rattle.nmt.proofs.commands.reset_communication.Statement.{statement}
 use Rattle.nmt.proofs.commands.reset_communication.Tie as tie
 
-write-communication-defaults-requires : tie.Need-write-communication-defaults-requires
-write-communication-defaults-requires c κs = search needs
-
-boot-up-requires : tie.Need-boot-up-requires
-boot-up-requires c κs = search needs
-
-disabled-requires : tie.Need-disabled-requires
-disabled-requires c κs = search needs
-
-none-held-requires : tie.Need-none-held-requires
-none-held-requires c κs = search needs
-
-same-length : tie.Need-same-length
-same-length c = search needs
-
-same-length-2 : tie.Need-same-length-2
-same-length-2 c = search needs
-
 returns : tie.Need-returns
 returns c =
     let v = c .before in
@@ -33,12 +15,5 @@ returns c =
 
 pub reset-communication-spec : {M : Type 1} → statement M
 reset-communication-spec =
-    tie.close
-    (tie.spec
-    write-communication-defaults-requires
-    boot-up-requires
-    disabled-requires
-    none-held-requires
-    same-length
-    same-length-2
-    returns)
+    tie.close (tie.spec (λ c κs. search needs) (λ c κs. search needs) (λ c κs. search needs) (λ c κs. search needs) (λ c. search needs)
+    (λ c. search needs) returns)

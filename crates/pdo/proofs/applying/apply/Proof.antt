@@ -5,33 +5,6 @@ use borrow.Author.Needs.{needs}
 use Rattle.pdo.proofs.applying.apply.Statement.{statement}
 use Rattle.pdo.proofs.applying.apply.Tie as tie
 
-control-word-requires : tie.Need-control-word-requires
-control-word-requires c κs = search needs
-
-store-values-requires : tie.Need-store-values-requires
-store-values-requires c κs = search needs
-
-cast-maps : tie.Need-cast-maps
-cast-maps c = search needs
-
-maps-requires : tie.Need-maps-requires
-maps-requires c κs = search needs
-
-cast-maps-2 : tie.Need-cast-maps-2
-cast-maps-2 c = search needs
-
-maps-requires-2 : tie.Need-maps-requires-2
-maps-requires-2 c κs = search needs
-
-acted-requires : tie.Need-acted-requires
-acted-requires c κs = search needs
-
-same-length : tie.Need-same-length
-same-length c = search needs
-
-same-length-2 : tie.Need-same-length-2
-same-length-2 c = search needs
-
 returns : tie.Need-returns
 unfolding open-table
 returns c =
@@ -47,15 +20,5 @@ returns c =
 
 pub apply-spec : {M : Type 1} → statement M
 apply-spec =
-    tie.close
-    (tie.spec
-    control-word-requires
-    store-values-requires
-    cast-maps
-    maps-requires
-    cast-maps-2
-    maps-requires-2
-    acted-requires
-    same-length
-    same-length-2
-    returns)
+    tie.close (tie.spec (λ c κs. search needs) (λ c κs. search needs) (λ c. search needs) (λ c κs. search needs) (λ c. search needs)
+    (λ c κs. search needs) (λ c κs. search needs) (λ c. search needs) (λ c. search needs) returns)

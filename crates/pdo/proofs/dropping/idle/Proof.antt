@@ -6,12 +6,9 @@ use borrow.Author.Needs.{needs}
 use Rattle.pdo.proofs.dropping.idle.Statement.{statement}
 use Rattle.pdo.proofs.dropping.idle.Tie as tie
 
-parts-of-requires : tie.Need-parts-of-requires
-parts-of-requires c κs = search needs
-
 returns : tie.Need-returns
 returns c =
     ap (λ (p : Parts). record { parts = p; frames = 0; touched = false; remapped = false; synced = false; quiet = true }) (c .parts-of .ensures)
 
 pub idle-spec : {M : Type 1} → statement M
-idle-spec = tie.close (tie.spec parts-of-requires returns)
+idle-spec = tie.close (tie.spec (λ c κs. search needs) returns)

@@ -4,16 +4,10 @@ use borrow.Author.Needs.{needs}
 use Rattle.pdo.proofs.dropping.refused.Statement.{statement}
 use Rattle.pdo.proofs.dropping.refused.Tie as tie
 
-emergency-requires : tie.Need-emergency-requires
-emergency-requires c κs = search needs
-
-same-length : tie.Need-same-length
-same-length c = search needs
-
 returns : tie.Need-returns
 returns c =
     let a = c .before .before .before .before .before .before .before .args in
     did-say (a .code) (a .parts) (a .n) _ (a .d .now) (a .output .now) _ (c .before .before .emergency .ensures)
 
 pub refused-spec : {M : Type 1} → statement M
-refused-spec = tie.close (tie.spec emergency-requires same-length returns)
+refused-spec = tie.close (tie.spec (λ c κs. search needs) (λ c. search needs) returns)

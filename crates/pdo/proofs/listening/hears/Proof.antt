@@ -6,9 +6,6 @@ use borrow.Author.Needs.{needs}
 use Rattle.pdo.proofs.listening.hears.Statement.{statement}
 use Rattle.pdo.proofs.listening.hears.Tie as tie
 
-identifier-requires : tie.Need-identifier-requires
-identifier-requires c κs = search needs
-
 returns : tie.Need-returns
 returns c =
     let r = c .before in
@@ -21,9 +18,6 @@ returns-2 c =
     let a = r .before .before .args in
     sym (invalid (a .d .now) (a .p) (a .identifier) (r .identifier .result) (r .identifier .ensures) (c .if2 .taken))
 
-map-count-requires : tie.Need-map-count-requires
-map-count-requires c κs = search needs
-
 returns-3 : tie.Need-returns-3
 returns-3 c =
     let r = c .before .before .before in
@@ -32,11 +26,4 @@ returns-3 c =
     (c .map-count .result) (c .map-count .ensures)
 
 pub hears-spec : {M : Type 1} → statement M
-hears-spec =
-    tie.close
-    (tie.spec
-    identifier-requires
-    returns
-    returns-2
-    map-count-requires
-    returns-3)
+hears-spec = tie.close (tie.spec (λ c κs. search needs) returns returns-2 (λ c κs. search needs) returns-3)

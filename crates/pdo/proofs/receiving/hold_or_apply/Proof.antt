@@ -10,25 +10,10 @@ use borrow.Author.Needs.{needs}
 use Rattle.pdo.proofs.receiving.hold_or_apply.Statement.{statement}
 use Rattle.pdo.proofs.receiving.hold_or_apply.Tie as tie
 
-transmission-type-requires : tie.Need-transmission-type-requires
-transmission-type-requires c κs = search needs
-
-cast-leading : tie.Need-cast-leading
-cast-leading c = search needs
-
 leading-requires : tie.Need-leading-requires
 leading-requires c κs =
     let s = c .before .before .before .before .before .before .before .before .before .before in
     short (s .pre .0) (s .pre .1 .1)
-
-mul-held : tie.Need-mul-held
-mul-held c = search needs
-
-array-set-from-held : tie.Need-array-set-from-held
-array-set-from-held c = search needs
-
-same-length : tie.Need-same-length
-same-length c = search needs
 
 returns : tie.Need-returns
 returns c =
@@ -39,15 +24,6 @@ returns c =
     let is = held-now (a .p) (bare (a .parts)) (a .d .now) (a .content) (r .result) (r .ensures) (c .before .before .before .before .before .if1 .taken) (l .result) (l .ensures .0)
     (omega (arith, l .ensures .1, short (s .pre .0) (s .pre .1 .1))) in
     (as-effect is (left-as _ _ true (a .n) (a .d .now) (a .output .now) refl), (λ q. as-calm is (record { writes = refl; synced = refl; nmt = refl; voltage = refl; drive = refl })))
-
-apply-requires : tie.Need-apply-requires
-apply-requires c κs = search needs
-
-same-length-2 : tie.Need-same-length-2
-same-length-2 c = search needs
-
-same-length-3 : tie.Need-same-length-3
-same-length-3 c = search needs
 
 returns-2 : tie.Need-returns-2
 returns-2 c =
@@ -60,16 +36,5 @@ returns-2 c =
 
 pub hold-or-apply-spec : {M : Type 1} → statement M
 hold-or-apply-spec =
-    tie.close
-    (tie.spec
-    transmission-type-requires
-    cast-leading
-    leading-requires
-    mul-held
-    array-set-from-held
-    same-length
-    returns
-    apply-requires
-    same-length-2
-    same-length-3
-    returns-2)
+    tie.close (tie.spec (λ c κs. search needs) (λ c. search needs) leading-requires (λ c. search needs) (λ c. search needs) (λ c. search needs)
+    returns (λ c κs. search needs) (λ c. search needs) (λ c. search needs) returns-2)

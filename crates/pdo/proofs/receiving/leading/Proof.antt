@@ -23,15 +23,6 @@ loop-holds c =
     let l : length (a .content) ≡ 8 = c .good .0 .1 .0 .1 in
     (search needs, all-leading (a .n) (a .content) (omega (arith, c .pre)))
 
-array-write-bytes : tie.Need-array-write-bytes Inv-loop μ-loop
-array-write-bytes c = search needs
-
-add-k : tie.Need-add-k Inv-loop μ-loop
-add-k c = search needs
-
-loop-less : tie.Need-loop-less Inv-loop μ-loop
-loop-less c = search needs
-
 loop-again : tie.Need-loop-again Inv-loop μ-loop
 loop-again c =
     let l = c .before .loop in
@@ -46,6 +37,4 @@ returns c =
     (sym (take-all 8 (l .bytes) (omega arith)) ∙ rw k at (l .inv .1), c .before .before .good .0 .1 .0 .1)
 
 pub leading-spec : {M : Type 1} → statement M
-leading-spec =
-    tie.close
-    (tie.spec Inv-loop μ-loop loop-holds array-write-bytes add-k loop-less loop-again returns)
+leading-spec = tie.close (tie.spec Inv-loop μ-loop loop-holds (λ c. search needs) (λ c. search needs) (λ c. search needs) loop-again returns)

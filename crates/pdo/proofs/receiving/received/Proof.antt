@@ -12,18 +12,6 @@ use borrow.Author.Needs.{needs}
 use Rattle.pdo.proofs.receiving.received.Statement.{statement}
 use Rattle.pdo.proofs.receiving.received.Tie as tie
 
-length-of-requires : tie.Need-length-of-requires
-length-of-requires c κs = search needs
-
-refused-requires : tie.Need-refused-requires
-refused-requires c κs = search needs
-
-same-length : tie.Need-same-length
-same-length c = search needs
-
-same-length-2 : tie.Need-same-length-2
-same-length-2 c = search needs
-
 returns : tie.Need-returns
 returns c =
     let s = c .before .before .before .before .before .before .before .before .before .before .before in
@@ -32,24 +20,12 @@ returns c =
     let is = too-short (a .p) (bare (a .parts)) (a .d .now) (a .content) (n .result) (n .ensures ∙ length-is (s .pre .0 .receives)) (c .before .before .before .before .before .if1 .taken) in
     (as-effect is (c .before .before .refused .ensures), (λ q. as-calm is (record { writes = refl; synced = refl; nmt = refl; voltage = refl; drive = refl })))
 
-warned-requires : tie.Need-warned-requires
-warned-requires c κs = search needs
-
-are-legal-requires : tie.Need-are-legal-requires
-are-legal-requires c κs = search needs
-
 refused-requires-2 : tie.Need-refused-requires-2
 refused-requires-2 c κs =
     let s = c .before .before .before .before .before .before .before .before .before .before .before .before .before .before .before .before .before in
     let n = c .before .before .before .before .before .before .before .before .before .before .before .before .before .length-of .result in
     let k = s .pre .0 in
     (k .long, (search needs, (omega (arith, c .before .before .before .before .before .before .warned .ensures .0, one-warning (ltb n (s .args .content .length)) (s .args .parts .node) (s .args .d .now)), k .id)))
-
-same-length-3 : tie.Need-same-length-3
-same-length-3 c = search needs
-
-same-length-4 : tie.Need-same-length-4
-same-length-4 c = search needs
 
 returns-2 : tie.Need-returns-2
 returns-2 c =
@@ -74,12 +50,6 @@ hold-or-apply-requires c κs =
       (omega (arith, c .before .before .before .before .before .before .warned .ensures .0, one-warning (ltb (n .result) (a .content .length)) (a .parts .node) (a .d .now)), n .ensures ∙ length-is (s .pre .0 .receives)),
     )
 
-same-length-5 : tie.Need-same-length-5
-same-length-5 c = search needs
-
-same-length-6 : tie.Need-same-length-6
-same-length-6 c = search needs
-
 returns-3 : tie.Need-returns-3
 returns-3 c =
     let s = c .before .before .before .before .before .before .before .before .before .before .before .before .before .before .before .before .before .before .before .before .before .before in
@@ -97,20 +67,6 @@ returns-3 c =
 
 pub received-spec : {M : Type 1} → statement M
 received-spec =
-    tie.close
-    (tie.spec
-    length-of-requires
-    refused-requires
-    same-length
-    same-length-2
-    returns
-    warned-requires
-    are-legal-requires
-    refused-requires-2
-    same-length-3
-    same-length-4
-    returns-2
-    hold-or-apply-requires
-    same-length-5
-    same-length-6
-    returns-3)
+    tie.close (tie.spec (λ c κs. search needs) (λ c κs. search needs) (λ c. search needs) (λ c. search needs) returns (λ c κs. search needs)
+    (λ c κs. search needs) refused-requires-2 (λ c. search needs) (λ c. search needs) returns-2 hold-or-apply-requires (λ c. search needs)
+    (λ c. search needs) returns-3)

@@ -9,25 +9,10 @@ use borrow.Author.Needs.{needs}
 use Rattle.pdo.proofs.receiving.served.Statement.{statement}
 use Rattle.pdo.proofs.receiving.served.Tie as tie
 
-hears-requires : tie.Need-hears-requires
-hears-requires c κs = search needs
-
-parts-of-requires : tie.Need-parts-of-requires
-parts-of-requires c κs = search needs
-
-array-copy-out-received : tie.Need-array-copy-out-received
-array-copy-out-received c = search needs
-
 received-requires : tie.Need-received-requires
 received-requires c κs =
     let s = c .before .before .before .before .before .before .before .before .before .before .before in
     (serves-by 0 (omega arith) (c .before .before .before .parts-of .ensures) (s .pre .0), s .pre .1 .0)
-
-same-length : tie.Need-same-length
-same-length c = search needs
-
-same-length-2 : tie.Need-same-length-2
-same-length-2 c = search needs
 
 returns : tie.Need-returns
 returns c =
@@ -38,25 +23,10 @@ returns c =
     (for-it (a .identifier) _ (a .s) (a .d .now) (s .pre .1 .1) 0 _ (sym (c .before .before .before .before .before .before .before .before .before .before .hears .ensures) ∙ c .before .before .before .before .before .before .before .before .before .if1 .taken))
     (r .ensures)
 
-hears-requires-2 : tie.Need-hears-requires-2
-hears-requires-2 c κs = search needs
-
-parts-of-requires-2 : tie.Need-parts-of-requires-2
-parts-of-requires-2 c κs = search needs
-
-array-copy-out-received-2 : tie.Need-array-copy-out-received-2
-array-copy-out-received-2 c = search needs
-
 received-requires-2 : tie.Need-received-requires-2
 received-requires-2 c κs =
     let s = c .before .before .before .before .before .before .before .before .before .before .before .before .before .before in
     (serves-by 1 (omega arith) (c .before .before .before .parts-of2 .ensures) (s .pre .0), s .pre .1 .0)
-
-same-length-3 : tie.Need-same-length-3
-same-length-3 c = search needs
-
-same-length-4 : tie.Need-same-length-4
-same-length-4 c = search needs
 
 returns-2 : tie.Need-returns-2
 returns-2 c =
@@ -68,25 +38,10 @@ returns-2 c =
     ∙ for-it (a .identifier) _ (a .s) (a .d .now) (s .pre .1 .1) 1 _ (sym (c .before .before .before .before .before .before .before .before .before .before .hears2 .ensures) ∙ c .before .before .before .before .before .before .before .before .before .if2 .taken))
     (r .ensures)
 
-hears-requires-3 : tie.Need-hears-requires-3
-hears-requires-3 c κs = search needs
-
-parts-of-requires-3 : tie.Need-parts-of-requires-3
-parts-of-requires-3 c κs = search needs
-
-array-copy-out-received-3 : tie.Need-array-copy-out-received-3
-array-copy-out-received-3 c = search needs
-
 received-requires-3 : tie.Need-received-requires-3
 received-requires-3 c κs =
     let s = c .before .before .before .before .before .before .before .before .before .before .before .before .before .before .before .before .before in
     (serves-by 2 (omega arith) (c .before .before .before .parts-of3 .ensures) (s .pre .0), s .pre .1 .0)
-
-same-length-5 : tie.Need-same-length-5
-same-length-5 c = search needs
-
-same-length-6 : tie.Need-same-length-6
-same-length-6 c = search needs
 
 returns-3 : tie.Need-returns-3
 returns-3 c =
@@ -99,25 +54,10 @@ returns-3 c =
     ∙ for-it (a .identifier) _ (a .s) (a .d .now) (s .pre .1 .1) 2 _ (sym (c .before .before .before .before .before .before .before .before .before .before .hears3 .ensures) ∙ c .before .before .before .before .before .before .before .before .before .if3 .taken))
     (r .ensures)
 
-hears-requires-4 : tie.Need-hears-requires-4
-hears-requires-4 c κs = search needs
-
-parts-of-requires-4 : tie.Need-parts-of-requires-4
-parts-of-requires-4 c κs = search needs
-
-array-copy-out-received-4 : tie.Need-array-copy-out-received-4
-array-copy-out-received-4 c = search needs
-
 received-requires-4 : tie.Need-received-requires-4
 received-requires-4 c κs =
     let s = c .before .before .before .before .before .before .before .before .before .before .before .before .before .before .before .before .before .before .before .before in
     (serves-by 3 (omega arith) (c .before .before .before .parts-of4 .ensures) (s .pre .0), s .pre .1 .0)
-
-same-length-7 : tie.Need-same-length-7
-same-length-7 c = search needs
-
-same-length-8 : tie.Need-same-length-8
-same-length-8 c = search needs
 
 returns-4 : tie.Need-returns-4
 returns-4 c =
@@ -130,12 +70,6 @@ returns-4 c =
     ∙ for-others (a .identifier) _ (a .s) (a .d .now) (s .pre .1 .1) 2 _ (sym (c .before .before .before .before .before .before .before .before .before .before .before .before .before .hears3 .ensures) ∙ c .before .before .before .before .before .before .before .before .before .before .before .before .if3 .left)
     ∙ for-it (a .identifier) _ (a .s) (a .d .now) (s .pre .1 .1) 3 _ (sym (c .before .before .before .before .before .before .before .before .before .before .hears4 .ensures) ∙ c .before .before .before .before .before .before .before .before .before .if4 .taken))
     (r .ensures)
-
-idle-requires : tie.Need-idle-requires
-idle-requires c κs = search needs
-
-same-length-9 : tie.Need-same-length-9
-same-length-9 c = search needs
 
 returns-5 : tie.Need-returns-5
 returns-5 c =
@@ -151,36 +85,8 @@ returns-5 c =
 
 pub served-spec : {M : Type 1} → statement M
 served-spec =
-    tie.close
-    (tie.spec
-    hears-requires
-    parts-of-requires
-    array-copy-out-received
-    received-requires
-    same-length
-    same-length-2
-    returns
-    hears-requires-2
-    parts-of-requires-2
-    array-copy-out-received-2
-    received-requires-2
-    same-length-3
-    same-length-4
-    returns-2
-    hears-requires-3
-    parts-of-requires-3
-    array-copy-out-received-3
-    received-requires-3
-    same-length-5
-    same-length-6
-    returns-3
-    hears-requires-4
-    parts-of-requires-4
-    array-copy-out-received-4
-    received-requires-4
-    same-length-7
-    same-length-8
-    returns-4
-    idle-requires
-    same-length-9
-    returns-5)
+    tie.close (tie.spec (λ c κs. search needs) (λ c κs. search needs) (λ c. search needs) received-requires (λ c. search needs) (λ c. search needs)
+    returns (λ c κs. search needs) (λ c κs. search needs) (λ c. search needs) received-requires-2 (λ c. search needs) (λ c. search needs) returns-2
+    (λ c κs. search needs) (λ c κs. search needs) (λ c. search needs) received-requires-3 (λ c. search needs) (λ c. search needs) returns-3
+    (λ c κs. search needs) (λ c κs. search needs) (λ c. search needs) received-requires-4 (λ c. search needs) (λ c. search needs) returns-4
+    (λ c κs. search needs) (λ c. search needs) returns-5)

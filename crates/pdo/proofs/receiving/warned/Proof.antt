@@ -6,12 +6,6 @@ use borrow.Author.Needs.{needs}
 use Rattle.pdo.proofs.receiving.warned.Statement.{statement}
 use Rattle.pdo.proofs.receiving.warned.Tie as tie
 
-emergency-requires : tie.Need-emergency-requires
-emergency-requires c κs = search needs
-
-same-length : tie.Need-same-length
-same-length c = search needs
-
 returns : tie.Need-returns
 returns c =
     let e = c .before .before .emergency .ensures in
@@ -21,4 +15,4 @@ returns-2 : tie.Need-returns-2
 returns-2 c = rw (c .if1 .left) (refl, sym (emitted-none 0 (c .before .before .before .args .output .now)))
 
 pub warned-spec : {M : Type 1} → statement M
-warned-spec = tie.close (tie.spec emergency-requires same-length returns returns-2)
+warned-spec = tie.close (tie.spec (λ c κs. search needs) (λ c. search needs) returns returns-2)

@@ -7,19 +7,10 @@ use borrow.Author.Needs.{needs}
 use Rattle.pdo.proofs.syncing.release_all.Statement.{statement}
 use Rattle.pdo.proofs.syncing.release_all.Tie as tie
 
-parts-of-requires : tie.Need-parts-of-requires
-parts-of-requires c κs = search needs
-
-array-copy-out-release : tie.Need-array-copy-out-release
-array-copy-out-release c = search needs
-
 release-requires : tie.Need-release-requires
 release-requires c κs =
     let s = c .before .before .before .before .before .before .before .before in
     serves-next 0 (omega arith) (omega arith) (none-yet (c .before .before .before .parts-of .ensures) (s .pre))
-
-array-copy-out-release-2 : tie.Need-array-copy-out-release-2
-array-copy-out-release-2 c = search needs
 
 release-requires-2 : tie.Need-release-requires-2
 release-requires-2 c κs =
@@ -28,9 +19,6 @@ release-requires-2 c κs =
     let f = c .before .before .before .before .before .before .before .release in
     serves-next 1 (omega arith) (omega arith) (one-more (omega arith) g (f .ensures) (f .kept .1 .1 .1 .0))
 
-array-copy-out-release-3 : tie.Need-array-copy-out-release-3
-array-copy-out-release-3 c = search needs
-
 release-requires-3 : tie.Need-release-requires-3
 release-requires-3 c κs =
     let s = c .before .before .before .before .before .before .before .before .before .before .before .before .before .before .before .before .before .before .before .before .before .before .before .before in
@@ -38,9 +26,6 @@ release-requires-3 c κs =
     let f = c .before .before .before .before .before .before .before .before .before .before .before .before .before .before .before .release in
     let h = c .before .before .before .before .before .before .before .release2 in
     serves-next 2 (omega arith) (omega arith) (one-more (omega arith) (one-more (omega arith) g (f .ensures) (f .kept .1 .1 .1 .0)) (h .ensures) (h .kept .1 .1 .1 .0))
-
-array-copy-out-release-4 : tie.Need-array-copy-out-release-4
-array-copy-out-release-4 c = search needs
 
 release-requires-4 : tie.Need-release-requires-4
 release-requires-4 c κs =
@@ -74,17 +59,5 @@ returns c =
 
 pub release-all-spec : {M : Type 1} → statement M
 release-all-spec =
-    tie.close
-    (tie.spec
-    parts-of-requires
-    array-copy-out-release
-    release-requires
-    array-copy-out-release-2
-    release-requires-2
-    array-copy-out-release-3
-    release-requires-3
-    array-copy-out-release-4
-    release-requires-4
-    same-length
-    same-length-2
-    returns)
+    tie.close (tie.spec (λ c κs. search needs) (λ c. search needs) release-requires (λ c. search needs) release-requires-2 (λ c. search needs)
+    release-requires-3 (λ c. search needs) release-requires-4 same-length same-length-2 returns)

@@ -9,34 +9,10 @@ use borrow.Author.Needs.{needs}
 use Rattle.pdo.proofs.syncing.sync.Statement.{statement}
 use Rattle.pdo.proofs.syncing.sync.Tie as tie
 
-enum-told : tie.Need-enum-told
-enum-told c = search needs
-
-idle-requires : tie.Need-idle-requires
-idle-requires c κs = search needs
-
-enum-told-2 : tie.Need-enum-told-2
-enum-told-2 c = search needs
-
-idle-requires-2 : tie.Need-idle-requires-2
-idle-requires-2 c κs = search needs
-
-parts-of-requires : tie.Need-parts-of-requires
-parts-of-requires c κs = search needs
-
 refused-requires : tie.Need-refused-requires
 refused-requires c κs =
     let s = c .before .before .before .before .before .before .before .before .before in
     (s .pre .long, (s .pre .room, (search needs, rw (c .before .before .parts-of .ensures) (s .pre .id))))
-
-enum-told-3 : tie.Need-enum-told-3
-enum-told-3 c = search needs
-
-release-all-requires : tie.Need-release-all-requires
-release-all-requires c κs = search needs
-
-parts-of-requires-2 : tie.Need-parts-of-requires-2
-parts-of-requires-2 c κs = search needs
 
 refused-requires-2 : tie.Need-refused-requires-2
 refused-requires-2 c κs =
@@ -53,34 +29,16 @@ returns-2 c =
     let a = c .before .before .before .before .before .before .before .args in
     idle-state (a .s) (a .d .now) (a .output .now) (sync-idle (a .length) (a .s) (a .d .now) (c .before .before .enum-told2 .given .1) (c .before .if1 .taken)) (c .idle2 .ensures)
 
-same-length : tie.Need-same-length
-same-length c = search needs
-
-same-length-2 : tie.Need-same-length-2
-same-length-2 c = search needs
-
 returns-3 : tie.Need-returns-3
 returns-3 c =
     let a = c .before .before .before .before .before .before .before .before .before .before .before .before .args in
     said-state syncLength (a .s) (a .d .now) (a .output .now) (c .before .before .before .before .before .parts-of .ensures) (sync-with-data (a .length) (a .s) (a .d .now) (ap isStopped (c .before .before .before .before .before .before .before .enum-told2 .given .1)) (c .before .before .before .before .before .before .if1 .left)) (c .before .before .refused .ensures)
-
-same-length-3 : tie.Need-same-length-3
-same-length-3 c = search needs
-
-same-length-4 : tie.Need-same-length-4
-same-length-4 c = search needs
 
 returns-4 : tie.Need-returns-4
 returns-4 c =
     let a = c .before .before .before .before .before .before .before .before .before .before .before .before .before .args in
     let f = c .before .before .before .before .release-all .ensures in
     (as-effect (sync-releases (a .length) (a .s) (a .d .now) (c .before .before .before .before .before .before .before .before .enum-told3 .given .1) (c .before .before .before .before .before .before .before .if2 .taken)) (f .0), loud (a .s) _ (c .before .before .before .before .release-all .result) (f .1))
-
-same-length-5 : tie.Need-same-length-5
-same-length-5 c = search needs
-
-same-length-6 : tie.Need-same-length-6
-same-length-6 c = search needs
 
 returns-5 : tie.Need-returns-5
 returns-5 c =
@@ -89,26 +47,6 @@ returns-5 c =
 
 pub sync-spec : {M : Type 1} → statement M
 sync-spec =
-    tie.close
-    (tie.spec
-    enum-told
-    idle-requires
-    enum-told-2
-    idle-requires-2
-    parts-of-requires
-    refused-requires
-    enum-told-3
-    release-all-requires
-    parts-of-requires-2
-    refused-requires-2
-    returns
-    returns-2
-    same-length
-    same-length-2
-    returns-3
-    same-length-3
-    same-length-4
-    returns-4
-    same-length-5
-    same-length-6
-    returns-5)
+    tie.close (tie.spec (λ c. search needs) (λ c κs. search needs) (λ c. search needs) (λ c κs. search needs) (λ c κs. search needs) refused-requires
+    (λ c. search needs) (λ c κs. search needs) (λ c κs. search needs) refused-requires-2 returns returns-2 (λ c. search needs) (λ c. search needs)
+    returns-3 (λ c. search needs) (λ c. search needs) returns-4 (λ c. search needs) (λ c. search needs) returns-5)

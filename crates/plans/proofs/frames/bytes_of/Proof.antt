@@ -4,35 +4,11 @@ use Rattle.rules_dictionary.specs.Numbers.{bytes}
 use Rattle.plans.proofs.frames.bytes_of.Statement.{statement}
 use Rattle.plans.proofs.frames.bytes_of.Tie as tie
 
-cast-t10 : tie.Need-cast-t10
-cast-t10 c = search needs
-
-cast-t12 : tie.Need-cast-t12
-cast-t12 c = search needs
-
-cast-t14 : tie.Need-cast-t14
-cast-t14 c = search needs
-
-cast-t16 : tie.Need-cast-t16
-cast-t16 c = search needs
-
-cast-t18 : tie.Need-cast-t18
-cast-t18 c = search needs
-
-cast-t20 : tie.Need-cast-t20
-cast-t20 c = search needs
-
-cast-t22 : tie.Need-cast-t22
-cast-t22 c = search needs
-
-cast-t24 : tie.Need-cast-t24
-cast-t24 c = search needs
-
 returns : tie.Need-returns
 unfolding bytes
 returns c = refl
 
 pub bytes-of-spec : {M : Type 1} → statement M
 bytes-of-spec =
-    tie.close
-    (tie.spec cast-t10 cast-t12 cast-t14 cast-t16 cast-t18 cast-t20 cast-t22 cast-t24 returns)
+    tie.close (tie.spec (λ c. search needs) (λ c. search needs) (λ c. search needs) (λ c. search needs) (λ c. search needs) (λ c. search needs)
+    (λ c. search needs) (λ c. search needs) returns)

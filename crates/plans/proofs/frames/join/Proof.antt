@@ -35,15 +35,6 @@ loop-holds c =
     let e = none-joined (a .d .now) (a .t2) (a .count) in
     (search needs, (rw e refl, rw e none))
 
-sub-k : tie.Need-sub-k Inv-loop μ-loop
-sub-k c = search needs
-
-mul-m : tie.Need-mul-m Inv-loop μ-loop
-mul-m c = search needs
-
-array-copy-out-m : tie.Need-array-copy-out-m Inv-loop μ-loop
-array-copy-out-m c = search needs
-
 join-one-requires : tie.Need-join-one-requires Inv-loop μ-loop
 join-one-requires c κs =
     let p = c .before .before in
@@ -60,9 +51,6 @@ add-length c =
     let a = s .args in
     let r = room-left (a .d .now) (s .pre .0) (all-bytes p) (a .t2) (eight p) (a .count) (s .pre .1) (l .k) (c .before .before .before .loop-test .taken) (l .inv .0) in
     omega arith
-
-loop-less : tie.Need-loop-less Inv-loop μ-loop
-loop-less c = search needs
 
 loop-again : tie.Need-loop-again Inv-loop μ-loop
 loop-again c =
@@ -85,16 +73,5 @@ returns c =
 
 pub join-spec : {M : Type 1} → statement M
 join-spec =
-    tie.close
-    (tie.spec
-    Inv-loop
-    μ-loop
-    loop-holds
-    sub-k
-    mul-m
-    array-copy-out-m
-    join-one-requires
-    add-length
-    loop-less
-    loop-again
-    returns)
+    tie.close (tie.spec Inv-loop μ-loop loop-holds (λ c. search needs) (λ c. search needs) (λ c. search needs) join-one-requires add-length
+    (λ c. search needs) loop-again returns)

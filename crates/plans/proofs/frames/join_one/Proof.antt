@@ -6,15 +6,6 @@ use borrow.Author.Needs.{needs}
 use Rattle.plans.proofs.frames.join_one.Statement.{statement}
 use Rattle.plans.proofs.frames.join_one.Tie as tie
 
-cast-place : tie.Need-cast-place
-cast-place c = search needs
-
-read1-requires : tie.Need-read1-requires
-read1-requires c κs = search needs
-
-cast-result : tie.Need-cast-result
-cast-result c = search needs
-
 mul-result : tie.Need-mul-result
 mul-result c =
     let h : c .before .before .before .before .before .args .behind < 256 ^ 7 = rw (c .before .if1 .taken) at (c .before .before .before .before .before .pre .1 .1) in
@@ -27,12 +18,6 @@ add-result c =
 
 returns : tie.Need-returns
 returns c = rw (c .read1 .ensures, c .before .if1 .taken)
-
-read2-requires : tie.Need-read2-requires
-read2-requires c κs = search needs
-
-cast-result-2 : tie.Need-cast-result-2
-cast-result-2 c = search needs
 
 mul-result-2 : tie.Need-mul-result-2
 mul-result-2 c =
@@ -52,9 +37,6 @@ read4-requires c κs =
     let s = c .before .before .before .before .before .before in
     let e : s .args .m .size ≡ 4 = is-four _ (s .pre .1 .0 .size) (c .before .before .if1 .left) (c .if2 .left) in
     omega (arith, s .pre .1 .0 .inside)
-
-cast-result-3 : tie.Need-cast-result-3
-cast-result-3 c = search needs
 
 mul-result-3 : tie.Need-mul-result-3
 mul-result-3 c =
@@ -78,21 +60,5 @@ returns-3 c =
 
 pub join-one-spec : {M : Type 1} → statement M
 join-one-spec =
-    tie.close
-    (tie.spec
-    cast-place
-    read1-requires
-    cast-result
-    mul-result
-    add-result
-    returns
-    read2-requires
-    cast-result-2
-    mul-result-2
-    add-result-2
-    returns-2
-    read4-requires
-    cast-result-3
-    mul-result-3
-    add-result-3
-    returns-3)
+    tie.close (tie.spec (λ c. search needs) (λ c κs. search needs) (λ c. search needs) mul-result add-result returns (λ c κs. search needs)
+    (λ c. search needs) mul-result-2 add-result-2 returns-2 read4-requires (λ c. search needs) mul-result-3 add-result-3 returns-3)

@@ -4,15 +4,6 @@ use borrow.Author.Needs.{needs}
 use Rattle.plans.proofs.frames.ready_of.Statement.{statement}
 use Rattle.plans.proofs.frames.ready_of.Tie as tie
 
-cast-join : tie.Need-cast-join
-cast-join c = search needs
-
-join-requires : tie.Need-join-requires
-join-requires c κs = search needs
-
-bytes-of-requires : tie.Need-bytes-of-requires
-bytes-of-requires c κs = search needs
-
 returns : tie.Need-returns
 returns c =
     let j = c .before .join in
@@ -23,4 +14,4 @@ returns c =
     (are-bytes (a .d .now) (λ i h. omega (arith, c .before .before .before .before .shared-slice-known .given i))) (s .pre .1) (j .ensures .0) (j .ensures .1))
 
 pub ready-of-spec : {M : Type 1} → statement M
-ready-of-spec = tie.close (tie.spec cast-join join-requires bytes-of-requires returns)
+ready-of-spec = tie.close (tie.spec (λ c. search needs) (λ c κs. search needs) (λ c κs. search needs) returns)

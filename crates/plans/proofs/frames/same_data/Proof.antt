@@ -4,12 +4,6 @@ use borrow.Author.Needs.{needs}
 use Rattle.plans.proofs.frames.same_data.Statement.{statement}
 use Rattle.plans.proofs.frames.same_data.Tie as tie
 
-word-of-requires : tie.Need-word-of-requires
-word-of-requires c κs = search needs
-
-word-of-requires-2 : tie.Need-word-of-requires-2
-word-of-requires-2 c κs = search needs
-
 returns : tie.Need-returns
 returns c =
     let a = c .before .before .before .before .before .before .before .args in
@@ -21,4 +15,4 @@ returns-2 : tie.Need-returns-2
 returns-2 c = rw (ne-eqb _ _ (c .if1 .left))
 
 pub same-data-spec : {M : Type 1} → statement M
-same-data-spec = tie.close (tie.spec word-of-requires word-of-requires-2 returns returns-2)
+same-data-spec = tie.close (tie.spec (λ c κs. search needs) (λ c κs. search needs) returns returns-2)

@@ -24,18 +24,6 @@ loop-holds c =
     let e : n - 0 ≡ n = omega arith in
     (rw e refl, search needs)
 
-mul-kept : tie.Need-mul-kept Inv-loop μ-loop
-mul-kept c = search needs
-
-array-copy-out-kept : tie.Need-array-copy-out-kept Inv-loop μ-loop
-array-copy-out-kept c = search needs
-
-read4-requires : tie.Need-read4-requires Inv-loop μ-loop
-read4-requires c κs = search needs
-
-slot-sound-requires : tie.Need-slot-sound-requires Inv-loop μ-loop
-slot-sound-requires c κs = search needs
-
 returns : tie.Need-returns Inv-loop μ-loop
 returns c =
     let l = c .before .before .before .before .before .loop in
@@ -43,21 +31,6 @@ returns c =
     let e = slots-step (wayOf (a .transmit)) (a .count) (l .k) (l .used) (l .at) (a .d .now) (a .t4) (c .before .before .before .before .loop-test .taken) (search needs) in
     let f = sym (c .before .slot-sound .ensures) ∙ not-true _ (c .if1 .taken) in
     (sym (sym (l .inv .0) ∙ e ∙ rw (← c .before .before .read4 .ensures, f)), search needs)
-
-cast-used : tie.Need-cast-used Inv-loop μ-loop
-cast-used c = search needs
-
-add-used : tie.Need-add-used Inv-loop μ-loop
-add-used c = search needs
-
-add-at : tie.Need-add-at Inv-loop μ-loop
-add-at c = search needs
-
-add-k : tie.Need-add-k Inv-loop μ-loop
-add-k c = search needs
-
-loop-less : tie.Need-loop-less Inv-loop μ-loop
-loop-less c = search needs
 
 loop-again : tie.Need-loop-again Inv-loop μ-loop
 loop-again c =
@@ -76,20 +49,5 @@ returns-2 c =
 
 pub all-slots-sound-spec : {M : Type 1} → statement M
 all-slots-sound-spec =
-    tie.close
-    (tie.spec
-    Inv-loop
-    μ-loop
-    loop-holds
-    mul-kept
-    array-copy-out-kept
-    read4-requires
-    slot-sound-requires
-    returns
-    cast-used
-    add-used
-    add-at
-    add-k
-    loop-less
-    loop-again
-    returns-2)
+    tie.close (tie.spec Inv-loop μ-loop loop-holds (λ c. search needs) (λ c. search needs) (λ c κs. search needs) (λ c κs. search needs) returns
+    (λ c. search needs) (λ c. search needs) (λ c. search needs) (λ c. search needs) (λ c. search needs) loop-again returns-2)

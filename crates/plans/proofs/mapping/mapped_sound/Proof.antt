@@ -7,16 +7,10 @@ use borrow.Author.Needs.{needs}
 use Rattle.plans.proofs.mapping.mapped_sound.Statement.{statement}
 use Rattle.plans.proofs.mapping.mapped_sound.Tie as tie
 
-move-of-requires : tie.Need-move-of-requires
-move-of-requires c κs = search needs
-
 returns : tie.Need-returns
 returns c =
     let a = c .before .before .before .args in
     sym (unnamed (wayOf (a .transmit)) (a .word) (a .kept) (ap (λ (m : Move). m .size) (sym (c .before .before .move-of .ensures)) ∙ c .if1 .taken))
-
-same-move-requires : tie.Need-same-move-requires
-same-move-requires c κs = search needs
 
 returns-2 : tie.Need-returns-2
 returns-2 c =
@@ -27,4 +21,4 @@ returns-2 c =
     ∙ sym (as-named (wayOf (a .transmit)) (a .word) (a .kept) (λ z. c .before .if1 .left (ap (λ (m : Move). m .size) e ∙ z)))
 
 pub mapped-sound-spec : {M : Type 1} → statement M
-mapped-sound-spec = tie.close (tie.spec move-of-requires returns same-move-requires returns-2)
+mapped-sound-spec = tie.close (tie.spec (λ c κs. search needs) returns (λ c κs. search needs) returns-2)

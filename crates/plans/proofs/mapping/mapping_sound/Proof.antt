@@ -4,9 +4,6 @@ use Rattle.plans.proofs.Legality.{words-room, too-many, other-count, sa
 use Rattle.plans.proofs.mapping.mapping_sound.Statement.{statement}
 use Rattle.plans.proofs.mapping.mapping_sound.Tie as tie
 
-map-count-requires : tie.Need-map-count-requires
-map-count-requires c κs = search needs
-
 returns : tie.Need-returns
 returns c =
     let a = c .before .before .before .args in
@@ -17,12 +14,6 @@ returns-2 c =
     let b = c .before .before .before in
     let a = b .before .before .args in
     other-count (a .d .now) (a .p) (a .plan) _ (b .map-count .ensures) (c .before .before .if1 .left) (c .if2 .taken)
-
-words-place-requires : tie.Need-words-place-requires
-words-place-requires c κs = search needs
-
-cast-all-slots-sound : tie.Need-cast-all-slots-sound
-cast-all-slots-sound c = search needs
 
 all-slots-sound-requires : tie.Need-all-slots-sound-requires
 all-slots-sound-requires c κs =
@@ -40,12 +31,4 @@ returns-3 c =
 
 pub mapping-sound-spec : {M : Type 1} → statement M
 mapping-sound-spec =
-    tie.close
-    (tie.spec
-    map-count-requires
-    returns
-    returns-2
-    words-place-requires
-    cast-all-slots-sound
-    all-slots-sound-requires
-    returns-3)
+    tie.close (tie.spec (λ c κs. search needs) returns returns-2 (λ c κs. search needs) (λ c. search needs) all-slots-sound-requires returns-3)

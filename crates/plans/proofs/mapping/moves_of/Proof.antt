@@ -21,27 +21,6 @@ loop-holds c =
     let a = c .before .args in
     (none-named (wayOf (a .transmit)) (a .first) (a .d .now), search needs)
 
-read4-requires : tie.Need-read4-requires Inv-loop μ-loop
-read4-requires c κs = search needs
-
-move-of-requires : tie.Need-move-of-requires Inv-loop μ-loop
-move-of-requires c κs = search needs
-
-mul-moves : tie.Need-mul-moves Inv-loop μ-loop
-mul-moves c = search needs
-
-array-set-from-moves : tie.Need-array-set-from-moves Inv-loop μ-loop
-array-set-from-moves c = search needs
-
-add-at : tie.Need-add-at Inv-loop μ-loop
-add-at c = search needs
-
-add-k : tie.Need-add-k Inv-loop μ-loop
-add-k c = search needs
-
-loop-less : tie.Need-loop-less Inv-loop μ-loop
-loop-less c = search needs
-
 loop-again : tie.Need-loop-again Inv-loop μ-loop
 loop-again c =
     let p = c .before .before .before in
@@ -60,17 +39,5 @@ returns c =
 
 pub moves-of-spec : {M : Type 1} → statement M
 moves-of-spec =
-    tie.close
-    (tie.spec
-    Inv-loop
-    μ-loop
-    loop-holds
-    read4-requires
-    move-of-requires
-    mul-moves
-    array-set-from-moves
-    add-at
-    add-k
-    loop-less
-    loop-again
-    returns)
+    tie.close (tie.spec Inv-loop μ-loop loop-holds (λ c κs. search needs) (λ c κs. search needs) (λ c. search needs) (λ c. search needs)
+    (λ c. search needs) (λ c. search needs) (λ c. search needs) loop-again returns)

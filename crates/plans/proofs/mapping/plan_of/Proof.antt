@@ -5,15 +5,6 @@ use Rattle.plans.proofs.Worked.{fresh-plan}
 use Rattle.plans.proofs.mapping.plan_of.Statement.{statement}
 use Rattle.plans.proofs.mapping.plan_of.Tie as tie
 
-map-count-requires : tie.Need-map-count-requires
-map-count-requires c κs = search needs
-
-words-place-requires : tie.Need-words-place-requires
-words-place-requires c κs = search needs
-
-cast-moves-of : tie.Need-cast-moves-of
-cast-moves-of c = search needs
-
 moves-of-requires : tie.Need-moves-of-requires
 moves-of-requires c κs =
     let n = c .before in
@@ -30,6 +21,4 @@ returns c =
     (fresh-plan (s .args .d .now) (s .args .p) _ _ (w .words-place .ensures .0) (n .map-count .ensures) (s .pre .1 .1 .1) (s .pre .1 .1 .0))
 
 pub plan-of-spec : {M : Type 1} → statement M
-plan-of-spec =
-    tie.close
-    (tie.spec map-count-requires words-place-requires cast-moves-of moves-of-requires returns)
+plan-of-spec = tie.close (tie.spec (λ c κs. search needs) (λ c κs. search needs) (λ c. search needs) moves-of-requires returns)

@@ -2,17 +2,11 @@ use borrow.Author.Needs.{needs}
 use Rattle.plans.proofs.mapping.slot_sound.Statement.{statement}
 use Rattle.plans.proofs.mapping.slot_sound.Tie as tie
 
-mapped-sound-requires : tie.Need-mapped-sound-requires
-mapped-sound-requires c κs = search needs
-
 returns : tie.Need-returns
 returns c = rw (c .before .if1 .taken) (c .mapped-sound .ensures)
-
-spare-sound-requires : tie.Need-spare-sound-requires
-spare-sound-requires c κs = search needs
 
 returns-2 : tie.Need-returns-2
 returns-2 c = rw (c .before .if1 .left) (c .spare-sound .ensures)
 
 pub slot-sound-spec : {M : Type 1} → statement M
-slot-sound-spec = tie.close (tie.spec mapped-sound-requires returns spare-sound-requires returns-2)
+slot-sound-spec = tie.close (tie.spec (λ c κs. search needs) returns (λ c κs. search needs) returns-2)

@@ -6,33 +6,15 @@ use borrow.Author.Needs.{needs}
 use Rattle.plans.proofs.mapping.spare_sound.Statement.{statement}
 use Rattle.plans.proofs.mapping.spare_sound.Tie as tie
 
-cast-any : tie.Need-cast-any
-cast-any c = search needs
-
-add-any : tie.Need-add-any
-add-any c = search needs
-
-cast-any-2 : tie.Need-cast-any-2
-cast-any-2 c = search needs
-
-add-any-2 : tie.Need-add-any-2
-add-any-2 c = search needs
-
 returns : tie.Need-returns
 returns c =
     let a = c .before .before .before .args in
     sym (empty (wayOf (a .transmit)) (a .word) (a .kept) (c .if1 .taken))
 
-same-move-requires : tie.Need-same-move-requires
-same-move-requires c κs = search needs
-
 returns-2 : tie.Need-returns-2
 returns-2 c =
     let a = c .before .before .before .before .before .args in
     sym (kept-past (wayOf (a .transmit)) (a .word) (a .kept) (sym (c .before .same-move .ensures) ∙ not-true _ (c .if2 .taken)))
-
-move-of-requires : tie.Need-move-of-requires
-move-of-requires c κs = search needs
 
 returns-3 : tie.Need-returns-3
 returns-3 c =
@@ -43,14 +25,5 @@ returns-3 c =
 
 pub spare-sound-spec : {M : Type 1} → statement M
 spare-sound-spec =
-    tie.close
-    (tie.spec
-    cast-any
-    add-any
-    cast-any-2
-    add-any-2
-    returns
-    same-move-requires
-    returns-2
-    move-of-requires
-    returns-3)
+    tie.close (tie.spec (λ c. search needs) (λ c. search needs) (λ c. search needs) (λ c. search needs) returns (λ c κs. search needs) returns-2
+    (λ c κs. search needs) returns-3)

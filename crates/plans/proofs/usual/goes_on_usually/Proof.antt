@@ -5,15 +5,9 @@ use borrow.Author.Needs.{needs}
 use Rattle.plans.proofs.usual.goes_on_usually.Statement.{statement}
 use Rattle.plans.proofs.usual.goes_on_usually.Tie as tie
 
-mapped-sound-requires : tie.Need-mapped-sound-requires
-mapped-sound-requires c κs = search needs
-
 returns : tie.Need-returns
 unfolding goesOnUsual
 returns c = rw (eq-eqb _ 2 (c .before .if1 .taken)) (c .mapped-sound .ensures)
-
-is-spare-requires : tie.Need-is-spare-requires
-is-spare-requires c κs = search needs
 
 returns-2 : tie.Need-returns-2
 unfolding goesOnUsual
@@ -21,4 +15,4 @@ returns-2 c = rw (ne-eqb _ 2 (c .before .if1 .left), c .is-spare .ensures)
 
 pub goes-on-usually-spec : {M : Type 1} → statement M
 goes-on-usually-spec =
-    tie.close (tie.spec mapped-sound-requires returns is-spare-requires returns-2)
+    tie.close (tie.spec (λ c κs. search needs) returns (λ c κs. search needs) returns-2)

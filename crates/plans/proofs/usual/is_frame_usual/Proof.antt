@@ -6,34 +6,16 @@ use borrow.Author.Needs.{needs}
 use Rattle.plans.proofs.usual.is_frame_usual.Statement.{statement}
 use Rattle.plans.proofs.usual.is_frame_usual.Tie as tie
 
-array-copy-out-second : tie.Need-array-copy-out-second
-array-copy-out-second c = search needs
-
-status-word-requires : tie.Need-status-word-requires
-status-word-requires c κs = search needs
-
-cast-value : tie.Need-cast-value
-cast-value c = search needs
-
 second-value-requires : tie.Need-second-value-requires
 second-value-requires c κs =
     let s = c .before .before .before .before .before in
     let f = second-fits (s .args .plan) (s .pre .1 .0) (s .pre .1 .1) in
     (rw (s .pre .0) (f .0), f .1)
 
-mul-value : tie.Need-mul-value
-mul-value c = search needs
-
-add-value : tie.Need-add-value
-add-value c = search needs
-
 add-result : tie.Need-add-result
 add-result c =
     let s = c .before .before .before .before .before .before .before in
     omega (arith, second-short (s .args .plan) (s .pre .1 .0) (s .pre .1 .1))
-
-word-of-requires : tie.Need-word-of-requires
-word-of-requires c κs = search needs
 
 returns : tie.Need-returns
 returns c =
@@ -48,14 +30,5 @@ returns c =
 
 pub is-frame-usual-spec : {M : Type 1} → statement M
 is-frame-usual-spec =
-    tie.close
-    (tie.spec
-    array-copy-out-second
-    status-word-requires
-    cast-value
-    second-value-requires
-    mul-value
-    add-value
-    add-result
-    word-of-requires
-    returns)
+    tie.close (tie.spec (λ c. search needs) (λ c κs. search needs) (λ c. search needs) second-value-requires (λ c. search needs) (λ c. search needs)
+    add-result (λ c κs. search needs) returns)

@@ -8,26 +8,14 @@ use borrow.Author.Needs.{needs}
 use Rattle.plans.proofs.usual.is_pair_usual.Statement.{statement}
 use Rattle.plans.proofs.usual.is_pair_usual.Tie as tie
 
-map-count-requires : tie.Need-map-count-requires
-map-count-requires c κs = search needs
-
 returns : tie.Need-returns
 unfolding pairUsual
 returns c = rw (← c .before .before .map-count .ensures, ne-eqb _ _ (c .if1 .taken))
-
-words-place-requires : tie.Need-words-place-requires
-words-place-requires c κs = search needs
 
 read4-requires : tie.Need-read4-requires
 read4-requires c κs =
     let s = c .before .before .before .before .before .before in
     omega (arith, words-room (s .args .p) (s .pre .1), c .words-place .ensures .0)
-
-array-copy-out-begins-usually : tie.Need-array-copy-out-begins-usually
-array-copy-out-begins-usually c = search needs
-
-begins-usually-requires : tie.Need-begins-usually-requires
-begins-usually-requires c κs = search needs
 
 returns-2 : tie.Need-returns-2
 unfolding pairUsual
@@ -45,20 +33,11 @@ returns-2 c =
       sym (b .begins-usually .ensures) ∙ not-true _ (c .if2 .taken),
     )
 
-add-read4 : tie.Need-add-read4
-add-read4 c = search needs
-
 read4-requires-2 : tie.Need-read4-requires-2
 read4-requires-2 c κs =
     let w = c .before .before .before .before in
     let s = w .before .before .before .before .before .before in
     omega (arith, words-room (s .args .p) (s .pre .1), w .words-place .ensures .0)
-
-array-copy-out-goes-on-usually : tie.Need-array-copy-out-goes-on-usually
-array-copy-out-goes-on-usually c = search needs
-
-goes-on-usually-requires : tie.Need-goes-on-usually-requires
-goes-on-usually-requires c κs = search needs
 
 returns-3 : tie.Need-returns-3
 unfolding pairUsual
@@ -81,17 +60,5 @@ returns-3 c =
 
 pub is-pair-usual-spec : {M : Type 1} → statement M
 is-pair-usual-spec =
-    tie.close
-    (tie.spec
-    map-count-requires
-    returns
-    words-place-requires
-    read4-requires
-    array-copy-out-begins-usually
-    begins-usually-requires
-    returns-2
-    add-read4
-    read4-requires-2
-    array-copy-out-goes-on-usually
-    goes-on-usually-requires
-    returns-3)
+    tie.close (tie.spec (λ c κs. search needs) returns (λ c κs. search needs) read4-requires (λ c. search needs) (λ c κs. search needs) returns-2
+    (λ c. search needs) read4-requires-2 (λ c. search needs) (λ c κs. search needs) returns-3)

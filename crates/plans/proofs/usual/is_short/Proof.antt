@@ -6,9 +6,6 @@ use borrow.Author.Needs.{needs}
 use Rattle.plans.proofs.usual.is_short.Statement.{statement}
 use Rattle.plans.proofs.usual.is_short.Tie as tie
 
-words-place-requires : tie.Need-words-place-requires
-words-place-requires c κs = search needs
-
 is-rest-empty-requires : tie.Need-is-rest-empty-requires
 is-rest-empty-requires c κs =
     let s = c .before .before .before in
@@ -21,4 +18,4 @@ returns c =
     rw (← words-behind (a .d .now) (a .p), ← c .before .words-place .ensures .0) (c .is-rest-empty .ensures .0)
 
 pub is-short-spec : {M : Type 1} → statement M
-is-short-spec = tie.close (tie.spec words-place-requires is-rest-empty-requires returns)
+is-short-spec = tie.close (tie.spec (λ c κs. search needs) is-rest-empty-requires returns)

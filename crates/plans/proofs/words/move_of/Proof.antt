@@ -2,17 +2,11 @@ use borrow.Author.Needs.{needs}
 use Rattle.plans.proofs.words.move_of.Statement.{statement}
 use Rattle.plans.proofs.words.move_of.Tie as tie
 
-transmit-move-requires : tie.Need-transmit-move-requires
-transmit-move-requires c κs = search needs
-
 returns : tie.Need-returns
 returns c = rw (c .before .if1 .taken) (c .transmit-move .ensures)
-
-receive-move-requires : tie.Need-receive-move-requires
-receive-move-requires c κs = search needs
 
 returns-2 : tie.Need-returns-2
 returns-2 c = rw (c .before .if1 .left) (c .receive-move .ensures)
 
 pub move-of-spec : {M : Type 1} → statement M
-move-of-spec = tie.close (tie.spec transmit-move-requires returns receive-move-requires returns-2)
+move-of-spec = tie.close (tie.spec (λ c κs. search needs) returns (λ c κs. search needs) returns-2)

@@ -9,24 +9,6 @@ use Rattle.plans.specs.Words.{named, wordMove}
 use Rattle.plans.proofs.words.transmit_move.Statement.{statement}
 use Rattle.plans.proofs.words.transmit_move.Tie as tie
 
-cast-t3 : tie.Need-cast-t3
-cast-t3 c = search needs
-
-cast-t4 : tie.Need-cast-t4
-cast-t4 c = search needs
-
-cast-t5 : tie.Need-cast-t5
-cast-t5 c = search needs
-
-cast-t6 : tie.Need-cast-t6
-cast-t6 c = search needs
-
-cast-t7 : tie.Need-cast-t7
-cast-t7 c = search needs
-
-cast-t8 : tie.Need-cast-t8
-cast-t8 c = search needs
-
 returns : tie.Need-returns
 unfolding named wordMove open-table
 returns c = rw (c .match .keys1)
@@ -68,18 +50,5 @@ returns-7 c =
 
 pub transmit-move-spec : {M : Type 1} → statement M
 transmit-move-spec =
-    tie.close
-    (tie.spec
-    cast-t3
-    cast-t4
-    cast-t5
-    cast-t6
-    cast-t7
-    cast-t8
-    returns
-    returns-2
-    returns-3
-    returns-4
-    returns-5
-    returns-6
-    returns-7)
+    tie.close (tie.spec (λ c. search needs) (λ c. search needs) (λ c. search needs) (λ c. search needs) (λ c. search needs) (λ c. search needs)
+    returns returns-2 returns-3 returns-4 returns-5 returns-6 returns-7)

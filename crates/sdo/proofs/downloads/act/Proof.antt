@@ -11,20 +11,11 @@ use Rattle.sdo.proofs.Acting.{restarted-id}
 use Rattle.sdo.proofs.downloads.act.Statement.{statement}
 use Rattle.sdo.proofs.downloads.act.Tie as tie
 
-restarted-requires : tie.Need-restarted-requires
-restarted-requires c κs = search needs
-
 acted-requires : tie.Need-acted-requires
 acted-requires c κs =
     let k = c .before .before in
     let s = k .before .before .before in
     (search needs, (search needs, (search needs, restarted-id (s .args .place) (bare (s .args .parts)) (bare _) (k .restarted .ensures) (s .pre .1 .1))))
-
-same-length : tie.Need-same-length
-same-length c = search needs
-
-same-length-2 : tie.Need-same-length-2
-same-length-2 c = search needs
 
 returns : tie.Need-returns
 unfolding open-table
@@ -36,4 +27,4 @@ returns c =
     (as-effect (ap (λ (s : State). acts (a .old) (eqb (a .place) (placeOf mode)) (eqb (a .place) (placeOf controlWord)) s (a .d .now)) (sym (r .restarted .ensures))) (f .0), f .1)
 
 pub act-spec : {M : Type 1} → statement M
-act-spec = tie.close (tie.spec restarted-requires acted-requires same-length same-length-2 returns)
+act-spec = tie.close (tie.spec (λ c κs. search needs) acted-requires (λ c. search needs) (λ c. search needs) returns)

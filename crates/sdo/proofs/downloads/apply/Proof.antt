@@ -8,34 +8,10 @@ use borrow.Author.Needs.{needs}
 use Rattle.sdo.proofs.downloads.apply.Statement.{statement}
 use Rattle.sdo.proofs.downloads.apply.Tie as tie
 
-cast-place : tie.Need-cast-place
-cast-place c = search needs
-
-slice-aggregate-read : tie.Need-slice-aggregate-read
-slice-aggregate-read c = search needs
-
 read-requires : tie.Need-read-requires
 read-requires c κs =
     let s = c .before .before .before .before in
     (omega (arith, four-at-most (s .args .e .size) (s .pre .1 .0 .sized), s .good .0 .1 .0 .1), s .pre .1 .0 .sized)
-
-control-word-requires : tie.Need-control-word-requires
-control-word-requires c κs = search needs
-
-reply-requires : tie.Need-reply-requires
-reply-requires c κs = search needs
-
-write-requires : tie.Need-write-requires
-write-requires c κs = search needs
-
-is-mapping-requires : tie.Need-is-mapping-requires
-is-mapping-requires c κs = search needs
-
-same-length : tie.Need-same-length
-same-length c = search needs
-
-same-length-2 : tie.Need-same-length-2
-same-length-2 c = search needs
 
 returns : tie.Need-returns
 returns c =
@@ -47,15 +23,6 @@ returns c =
     let s = v .before .before .before .before .before in
     let a = s .args in
     remap-served (a .t1) (bare (a .parts)) (a .d .now) (a .output .now) (a .e) (s .pre .1 .0) (s .pre .1 .1) _ (v .read .ensures) _ _ (w .write .ensures) (y .reply .ensures .1) _ (m .is-mapping .ensures) (c .if1 .taken) _ (rw (y .reply .ensures .0) refl)
-
-act-requires : tie.Need-act-requires
-act-requires c κs = search needs
-
-same-length-3 : tie.Need-same-length-3
-same-length-3 c = search needs
-
-same-length-4 : tie.Need-same-length-4
-same-length-4 c = search needs
 
 returns-2 : tie.Need-returns-2
 returns-2 c =
@@ -72,19 +39,5 @@ returns-2 c =
 
 pub apply-spec : {M : Type 1} → statement M
 apply-spec =
-    tie.close
-    (tie.spec
-    cast-place
-    slice-aggregate-read
-    read-requires
-    control-word-requires
-    reply-requires
-    write-requires
-    is-mapping-requires
-    same-length
-    same-length-2
-    returns
-    act-requires
-    same-length-3
-    same-length-4
-    returns-2)
+    tie.close (tie.spec (λ c. search needs) (λ c. search needs) read-requires (λ c κs. search needs) (λ c κs. search needs) (λ c κs. search needs)
+    (λ c κs. search needs) (λ c. search needs) (λ c. search needs) returns (λ c κs. search needs) (λ c. search needs) (λ c. search needs) returns-2)

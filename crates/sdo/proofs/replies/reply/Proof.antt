@@ -8,19 +8,10 @@ use Rattle.sdo.proofs.Answering.{reply-is-data, reply-sent}
 use Rattle.sdo.proofs.replies.reply.Statement.{statement}
 use Rattle.sdo.proofs.replies.reply.Tie as tie
 
-add-send : tie.Need-add-send
-add-send c = search needs
-
-reply-data-requires : tie.Need-reply-data-requires
-reply-data-requires c κs = search needs
-
 send-requires : tie.Need-send-requires
 send-requires c κs =
     let a = c .before .before .before .args in
     (search needs, (search needs, reply-is-data (a .command) (a .v) (a .request) _ (c .reply-data .ensures)))
-
-same-length : tie.Need-same-length
-same-length c = search needs
 
 returns : tie.Need-returns
 returns c =
@@ -30,4 +21,4 @@ returns c =
     (k .send .ensures .0, k .send .ensures .1 ∙ ap (λ (fs : List Frame). emitted 0 fs (a .output .now)) e)
 
 pub reply-spec : {M : Type 1} → statement M
-reply-spec = tie.close (tie.spec add-send reply-data-requires send-requires same-length returns)
+reply-spec = tie.close (tie.spec (λ c. search needs) (λ c κs. search needs) send-requires (λ c. search needs) returns)

@@ -9,38 +9,11 @@ use borrow.Author.Needs.{needs}
 use Rattle.sdo.proofs.server.serve.Statement.{statement}
 use Rattle.sdo.proofs.server.serve.Tie as tie
 
-parts-of-requires : tie.Need-parts-of-requires
-parts-of-requires c κs = search needs
-
-array-read-command-of : tie.Need-array-read-command-of
-array-read-command-of c = search needs
-
-command-of-requires : tie.Need-command-of-requires
-command-of-requires c κs = search needs
-
-enum-known-command : tie.Need-enum-known-command
-enum-known-command c = search needs
-
 to-object-requires : tie.Need-to-object-requires
 to-object-requires c κs =
     let p = c .before .before .before .before .before .before in
     let s = p .before .before .before in
     parts-servable (s .args .s) _ (p .parts-of .ensures) (s .pre)
-
-enum-told : tie.Need-enum-told
-enum-told c = search needs
-
-enum-told-2 : tie.Need-enum-told-2
-enum-told-2 c = search needs
-
-answer-requires : tie.Need-answer-requires
-answer-requires c κs = search needs
-
-same-length : tie.Need-same-length
-same-length c = search needs
-
-same-length-2 : tie.Need-same-length-2
-same-length-2 c = search needs
 
 returns : tie.Need-returns
 returns c =
@@ -63,9 +36,6 @@ returns-2 c =
     let q = by-command (a .t1) (bare _) (a .d .now) ClientAbort _ (m .command-of .ensures) (c .enum-told .given .1) in
     parts-served (a .s) _ (p .parts-of .ensures) (a .t1) (served-as q (left-served (bare _) (a .d .now) (a .output .now)))
 
-same-length-3 : tie.Need-same-length-3
-same-length-3 c = search needs
-
 returns-3 : tie.Need-returns-3
 unfolding asked
 returns-3 c =
@@ -80,19 +50,5 @@ returns-3 c =
 
 pub serve-spec : {M : Type 1} → statement M
 serve-spec =
-    tie.close
-    (tie.spec
-    parts-of-requires
-    array-read-command-of
-    command-of-requires
-    enum-known-command
-    to-object-requires
-    enum-told
-    enum-told-2
-    answer-requires
-    same-length
-    same-length-2
-    returns
-    returns-2
-    same-length-3
-    returns-3)
+    tie.close (tie.spec (λ c κs. search needs) (λ c. search needs) (λ c κs. search needs) (λ c. search needs) to-object-requires (λ c. search needs)
+    (λ c. search needs) (λ c κs. search needs) (λ c. search needs) (λ c. search needs) returns returns-2 (λ c. search needs) returns-3)

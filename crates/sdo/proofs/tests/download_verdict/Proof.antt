@@ -8,18 +8,9 @@ use Rattle.sdo.proofs.Testing.{four-at-most}
 use Rattle.sdo.proofs.tests.download_verdict.Statement.{statement}
 use Rattle.sdo.proofs.tests.download_verdict.Tie as tie
 
-may-write-requires : tie.Need-may-write-requires
-may-write-requires c κs = search needs
-
 returns : tie.Need-returns
 unfolding downloadVerdictOf firstOf
 returns c = rw (← c .before .may-write .ensures, c .if1 .taken)
-
-array-read-told-size : tie.Need-array-read-told-size
-array-read-told-size c = search needs
-
-told-size-requires : tie.Need-told-size-requires
-told-size-requires c κs = search needs
 
 returns-2 : tie.Need-returns-2
 unfolding downloadVerdictOf firstOf
@@ -33,9 +24,6 @@ returns-3 c =
     let t = c .before .before in
     rw (← t .before .before .may-write .ensures, t .before .if1 .left, ← t .told-size .ensures, le-ltb _ _ (c .before .if2 .left), ← t .told-size .ensures, lt-ltb _ _ (c .if3 .taken))
 
-is-wrong-time-requires : tie.Need-is-wrong-time-requires
-is-wrong-time-requires c κs = search needs
-
 returns-4 : tie.Need-returns-4
 unfolding downloadVerdictOf firstOf
 returns-4 c =
@@ -43,16 +31,10 @@ returns-4 c =
     let t = s .before .before in
     rw (← t .before .before .may-write .ensures, t .before .if1 .left, ← t .told-size .ensures, le-ltb _ _ (s .before .if2 .left), ← t .told-size .ensures, le-ltb _ _ (s .if3 .left), ← c .before .is-wrong-time .ensures, c .if4 .taken)
 
-slice-aggregate-read : tie.Need-slice-aggregate-read
-slice-aggregate-read c = search needs
-
 read-requires : tie.Need-read-requires
 read-requires c κs =
     let s = c .before .before .before .before .before .before .before .before .before in
     (omega (arith, four-at-most (s .args .e .size) (s .pre .1 .0), s .good .0 .1 .0 .1), s .pre .1 .0)
-
-value-verdict-requires : tie.Need-value-verdict-requires
-value-verdict-requires c κs = search needs
 
 returns-5 : tie.Need-returns-5
 unfolding downloadVerdictOf firstOf
@@ -64,17 +46,5 @@ returns-5 c =
 
 pub download-verdict-spec : {M : Type 1} → statement M
 download-verdict-spec =
-    tie.close
-    (tie.spec
-    may-write-requires
-    returns
-    array-read-told-size
-    told-size-requires
-    returns-2
-    returns-3
-    is-wrong-time-requires
-    returns-4
-    slice-aggregate-read
-    read-requires
-    value-verdict-requires
-    returns-5)
+    tie.close (tie.spec (λ c κs. search needs) returns (λ c. search needs) (λ c κs. search needs) returns-2 returns-3 (λ c κs. search needs) returns-4
+    (λ c. search needs) read-requires (λ c κs. search needs) returns-5)

@@ -4,15 +4,9 @@ use borrow.Author.Needs.{needs}
 use Rattle.sdo.proofs.tests.is_entry_shut.Statement.{statement}
 use Rattle.sdo.proofs.tests.is_entry_shut.Tie as tie
 
-is-mapping-shut-requires : tie.Need-is-mapping-shut-requires
-is-mapping-shut-requires c κs = search needs
-
 returns : tie.Need-returns
 unfolding isWrongTime
 returns c = rw (← c .before .is-mapping-shut .ensures, c .if1 .taken)
-
-map-count-requires : tie.Need-map-count-requires
-map-count-requires c κs = search needs
 
 returns-2 : tie.Need-returns-2
 unfolding isWrongTime
@@ -20,4 +14,4 @@ returns-2 c = rw (← c .before .before .is-mapping-shut .ensures, c .before .if
 
 pub is-entry-shut-spec : {M : Type 1} → statement M
 is-entry-shut-spec =
-    tie.close (tie.spec is-mapping-shut-requires returns map-count-requires returns-2)
+    tie.close (tie.spec (λ c κs. search needs) returns (λ c κs. search needs) returns-2)

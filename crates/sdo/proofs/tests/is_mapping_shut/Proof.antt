@@ -3,24 +3,10 @@ use borrow.Author.Needs.{needs}
 use Rattle.sdo.proofs.tests.is_mapping_shut.Statement.{statement}
 use Rattle.sdo.proofs.tests.is_mapping_shut.Tie as tie
 
-is-pre-operational-requires : tie.Need-is-pre-operational-requires
-is-pre-operational-requires c κs = search needs
-
-returns : tie.Need-returns
-returns c = search needs
-
-identifier-requires : tie.Need-identifier-requires
-identifier-requires c κs = search needs
-
-is-valid-requires : tie.Need-is-valid-requires
-is-valid-requires c κs = search needs
-
 returns-2 : tie.Need-returns-2
 returns-2 c =
     let p = c .before in
     rw (← p .before .before .is-pre-operational .ensures, p .before .if1 .left, ← p .identifier .ensures) (c .is-valid .ensures)
 
 pub is-mapping-shut-spec : {M : Type 1} → statement M
-is-mapping-shut-spec =
-    tie.close
-    (tie.spec is-pre-operational-requires returns identifier-requires is-valid-requires returns-2)
+is-mapping-shut-spec = tie.close (tie.spec (λ c κs. search needs) (λ c. search needs) (λ c κs. search needs) (λ c κs. search needs) returns-2)

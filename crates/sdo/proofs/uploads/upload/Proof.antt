@@ -5,21 +5,6 @@ use borrow.Author.Needs.{needs}
 use Rattle.sdo.proofs.uploads.upload.Statement.{statement}
 use Rattle.sdo.proofs.uploads.upload.Tie as tie
 
-cast-read : tie.Need-cast-read
-cast-read c = search needs
-
-read-requires : tie.Need-read-requires
-read-requires c κs = search needs
-
-uploaded-requires : tie.Need-uploaded-requires
-uploaded-requires c κs = search needs
-
-answer-requires : tie.Need-answer-requires
-answer-requires c κs = search needs
-
-same-length : tie.Need-same-length
-same-length c = search needs
-
 returns : tie.Need-returns
 returns c =
     let k = c .before .before in
@@ -30,5 +15,4 @@ returns c =
 
 pub upload-spec : {M : Type 1} → statement M
 upload-spec =
-    tie.close
-    (tie.spec cast-read read-requires uploaded-requires answer-requires same-length returns)
+    tie.close (tie.spec (λ c. search needs) (λ c κs. search needs) (λ c κs. search needs) (λ c κs. search needs) (λ c. search needs) returns)

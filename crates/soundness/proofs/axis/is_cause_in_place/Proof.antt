@@ -4,12 +4,9 @@ use borrow.Author.Needs.{needs}
 use Rattle.soundness.proofs.axis.is_cause_in_place.Statement.{statement}
 use Rattle.soundness.proofs.axis.is_cause_in_place.Tie as tie
 
-is-faulty-requires : tie.Need-is-faulty-requires
-is-faulty-requires c κs = search needs
-
 returns : tie.Need-returns
 unfolding causeInPlace
 returns c = rw (c .is-faulty .ensures)
 
 pub is-cause-in-place-spec : {M : Type 1} → statement M
-is-cause-in-place-spec = tie.close (tie.spec is-faulty-requires returns)
+is-cause-in-place-spec = tie.close (tie.spec (λ c κs. search needs) returns)

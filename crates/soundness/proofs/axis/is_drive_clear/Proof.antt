@@ -6,21 +6,6 @@ use borrow.Author.Needs.{needs}
 use Rattle.soundness.proofs.axis.is_drive_clear.Statement.{statement}
 use Rattle.soundness.proofs.axis.is_drive_clear.Tie as tie
 
-is-remote-requires : tie.Need-is-remote-requires
-is-remote-requires c κs = search needs
-
-is-status-made-requires : tie.Need-is-status-made-requires
-is-status-made-requires c κs = search needs
-
-is-mode-made-requires : tie.Need-is-mode-made-requires
-is-mode-made-requires c κs = search needs
-
-is-drive-sound-requires : tie.Need-is-drive-sound-requires
-is-drive-sound-requires c κs = search needs
-
-is-heartbeat-sound-requires : tie.Need-is-heartbeat-sound-requires
-is-heartbeat-sound-requires c κs = search needs
-
 returns : tie.Need-returns
 unfolding driveClauses statusAsMade statusOf modeAsMade
 returns c =
@@ -29,11 +14,4 @@ returns c =
 
 pub is-drive-clear-spec : {M : Type 1} → statement M
 is-drive-clear-spec =
-    tie.close
-    (tie.spec
-    is-remote-requires
-    is-status-made-requires
-    is-mode-made-requires
-    is-drive-sound-requires
-    is-heartbeat-sound-requires
-    returns)
+    tie.close (tie.spec (λ c κs. search needs) (λ c κs. search needs) (λ c κs. search needs) (λ c κs. search needs) (λ c κs. search needs) returns)

@@ -4,24 +4,9 @@ use borrow.Author.Needs.{needs}
 use Rattle.soundness.proofs.axis.is_drive_sound.Statement.{statement}
 use Rattle.soundness.proofs.axis.is_drive_sound.Tie as tie
 
-is-store-in-place-requires : tie.Need-is-store-in-place-requires
-is-store-in-place-requires c κs = search needs
-
-is-taken-in-place-requires : tie.Need-is-taken-in-place-requires
-is-taken-in-place-requires c κs = search needs
-
-is-cause-in-place-requires : tie.Need-is-cause-in-place-requires
-is-cause-in-place-requires c κs = search needs
-
 returns : tie.Need-returns
 unfolding driveSound
 returns c = rw (c .before .before .is-store-in-place .ensures, c .before .is-taken-in-place .ensures, c .is-cause-in-place .ensures)
 
 pub is-drive-sound-spec : {M : Type 1} → statement M
-is-drive-sound-spec =
-    tie.close
-    (tie.spec
-    is-store-in-place-requires
-    is-taken-in-place-requires
-    is-cause-in-place-requires
-    returns)
+is-drive-sound-spec = tie.close (tie.spec (λ c κs. search needs) (λ c κs. search needs) (λ c κs. search needs) returns)

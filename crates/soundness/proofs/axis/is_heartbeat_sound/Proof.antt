@@ -4,12 +4,9 @@ use borrow.Author.Needs.{needs}
 use Rattle.soundness.proofs.axis.is_heartbeat_sound.Statement.{statement}
 use Rattle.soundness.proofs.axis.is_heartbeat_sound.Tie as tie
 
-heartbeat-time-requires : tie.Need-heartbeat-time-requires
-heartbeat-time-requires c κs = search needs
-
 returns : tie.Need-returns
 unfolding heartbeatSound
 returns c = rw (c .heartbeat-time .ensures)
 
 pub is-heartbeat-sound-spec : {M : Type 1} → statement M
-is-heartbeat-sound-spec = tie.close (tie.spec heartbeat-time-requires returns)
+is-heartbeat-sound-spec = tie.close (tie.spec (λ c κs. search needs) returns)

@@ -4,15 +4,9 @@ use borrow.Author.Needs.{needs}
 use Rattle.soundness.proofs.axis.is_taken_in_place.Statement.{statement}
 use Rattle.soundness.proofs.axis.is_taken_in_place.Tie as tie
 
-control-word-requires : tie.Need-control-word-requires
-control-word-requires c κs = search needs
-
-has-requires : tie.Need-has-requires
-has-requires c κs = search needs
-
 returns : tie.Need-returns
 unfolding takenInPlace
 returns c = rw (← c .before .control-word .ensures, c .has .ensures)
 
 pub is-taken-in-place-spec : {M : Type 1} → statement M
-is-taken-in-place-spec = tie.close (tie.spec control-word-requires has-requires returns)
+is-taken-in-place-spec = tie.close (tie.spec (λ c κs. search needs) (λ c κs. search needs) returns)

@@ -21,21 +21,6 @@ abbrev μ-loop : tie.MeasureT-loop
 loop-holds : tie.Need-loop-holds Inv-loop μ-loop
 loop-holds c = (refl, search needs)
 
-add-p : tie.Need-add-p Inv-loop μ-loop
-add-p c = search needs
-
-mul-plan : tie.Need-mul-plan Inv-loop μ-loop
-mul-plan c = search needs
-
-array-copy-out-plan : tie.Need-array-copy-out-plan Inv-loop μ-loop
-array-copy-out-plan c = search needs
-
-mul-frame : tie.Need-mul-frame Inv-loop μ-loop
-mul-frame c = search needs
-
-array-copy-out-frame : tie.Need-array-copy-out-frame Inv-loop μ-loop
-array-copy-out-frame c = search needs
-
 ready-of-requires : tie.Need-ready-of-requires Inv-loop μ-loop
 ready-of-requires c κs =
     let l = c .before .before .before .loop in
@@ -55,12 +40,6 @@ returns c =
     let e = c .before .before .ready-of .ensures ∙ tested-at d (s .args .t2) _ (l .t + 4) (omega arith) (s .pre .1) .ready in
     fails (frameKept d) transmitPdos (s .args .t3) (l .t) (l .inv .0) _ (b .loop-test .taken) (search needs) (transmit-at (l .t) (b .loop-test .taken))
     (c .before .same-data .ensures ∙ ap (sameData (getD (s .args .t3) (l .t) _)) e) (c .if1 .taken)
-
-add-t : tie.Need-add-t Inv-loop μ-loop
-add-t c = search needs
-
-loop-less : tie.Need-loop-less Inv-loop μ-loop
-loop-less c = search needs
 
 loop-again : tie.Need-loop-again Inv-loop μ-loop
 loop-again c =
@@ -83,20 +62,5 @@ returns-2 c =
 
 pub are-frames-kept-spec : {M : Type 1} → statement M
 are-frames-kept-spec =
-    tie.close
-    (tie.spec
-    Inv-loop
-    μ-loop
-    loop-holds
-    add-p
-    mul-plan
-    array-copy-out-plan
-    mul-frame
-    array-copy-out-frame
-    ready-of-requires
-    same-data-requires
-    returns
-    add-t
-    loop-less
-    loop-again
-    returns-2)
+    tie.close (tie.spec Inv-loop μ-loop loop-holds (λ c. search needs) (λ c. search needs) (λ c. search needs) (λ c. search needs) (λ c. search needs)
+    ready-of-requires same-data-requires returns (λ c. search needs) (λ c. search needs) loop-again returns-2)

@@ -18,15 +18,6 @@ abbrev μ-loop : tie.MeasureT-loop
 loop-holds : tie.Need-loop-holds Inv-loop μ-loop
 loop-holds c = (refl, search needs)
 
-mul-plan : tie.Need-mul-plan Inv-loop μ-loop
-mul-plan c = search needs
-
-array-copy-out-plan : tie.Need-array-copy-out-plan Inv-loop μ-loop
-array-copy-out-plan c = search needs
-
-mapping-sound-requires : tie.Need-mapping-sound-requires Inv-loop μ-loop
-mapping-sound-requires c κs = search needs
-
 returns : tie.Need-returns Inv-loop μ-loop
 unfolding plansKept
 returns c =
@@ -35,12 +26,6 @@ returns c =
     let a = b .before .before .before .args in
     fails (planKept (a .d .now)) pdos (a .t2) (l .p) (l .inv .0) _ (b .loop-test .taken) (search needs) (pdo-at (l .p) (b .loop-test .taken))
     (c .before .mapping-sound .ensures) (c .if1 .taken)
-
-add-p : tie.Need-add-p Inv-loop μ-loop
-add-p c = search needs
-
-loop-less : tie.Need-loop-less Inv-loop μ-loop
-loop-less c = search needs
 
 loop-again : tie.Need-loop-again Inv-loop μ-loop
 loop-again c =
@@ -61,16 +46,5 @@ returns-2 c =
 
 pub are-plans-kept-spec : {M : Type 1} → statement M
 are-plans-kept-spec =
-    tie.close
-    (tie.spec
-    Inv-loop
-    μ-loop
-    loop-holds
-    mul-plan
-    array-copy-out-plan
-    mapping-sound-requires
-    returns
-    add-p
-    loop-less
-    loop-again
-    returns-2)
+    tie.close (tie.spec Inv-loop μ-loop loop-holds (λ c. search needs) (λ c. search needs) (λ c κs. search needs) returns (λ c. search needs)
+    (λ c. search needs) loop-again returns-2)

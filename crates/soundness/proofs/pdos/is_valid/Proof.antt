@@ -3,11 +3,8 @@ use borrow.Author.Needs.{needs}
 use Rattle.soundness.proofs.pdos.is_valid.Statement.{statement}
 use Rattle.soundness.proofs.pdos.is_valid.Tie as tie
 
-identifier-requires : tie.Need-identifier-requires
-identifier-requires c κs = search needs
-
 returns : tie.Need-returns
 returns c = rw (c .identifier .ensures)
 
 pub is-valid-spec : {M : Type 1} → statement M
-is-valid-spec = tie.close (tie.spec identifier-requires returns)
+is-valid-spec = tie.close (tie.spec (λ c κs. search needs) returns)

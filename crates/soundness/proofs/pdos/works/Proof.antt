@@ -6,24 +6,15 @@ use borrow.Author.Needs.{needs}
 use Rattle.soundness.proofs.pdos.works.Statement.{statement}
 use Rattle.soundness.proofs.pdos.works.Tie as tie
 
-is-operational-requires : tie.Need-is-operational-requires
-is-operational-requires c κs = search needs
-
 returns : tie.Need-returns
 unfolding works
 returns c = rw (sym (c .before .is-operational .ensures) ∙ not-true _ (c .if1 .taken))
-
-is-valid-requires : tie.Need-is-valid-requires
-is-valid-requires c κs = search needs
 
 returns-2 : tie.Need-returns-2
 unfolding works
 returns-2 c =
     let b = c .before .before in
     rw (sym (b .before .is-operational .ensures) ∙ not-false _ (b .if1 .left), sym (c .before .is-valid .ensures) ∙ not-true _ (c .if2 .taken))
-
-map-count-requires : tie.Need-map-count-requires
-map-count-requires c κs = search needs
 
 returns-3 : tie.Need-returns-3
 unfolding works
@@ -36,12 +27,4 @@ returns-3 c =
     )
 
 pub works-spec : {M : Type 1} → statement M
-works-spec =
-    tie.close
-    (tie.spec
-    is-operational-requires
-    returns
-    is-valid-requires
-    returns-2
-    map-count-requires
-    returns-3)
+works-spec = tie.close (tie.spec (λ c κs. search needs) returns (λ c κs. search needs) returns-2 (λ c κs. search needs) returns-3)

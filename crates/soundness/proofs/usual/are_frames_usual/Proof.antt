@@ -10,23 +10,11 @@ use borrow.Author.Needs.{needs}
 use Rattle.soundness.proofs.usual.are_frames_usual.Statement.{statement}
 use Rattle.soundness.proofs.usual.are_frames_usual.Tie as tie
 
-array-copy-out-is-frame-usual : tie.Need-array-copy-out-is-frame-usual
-array-copy-out-is-frame-usual c = search needs
-
-array-copy-out-is-frame-usual-2 : tie.Need-array-copy-out-is-frame-usual-2
-array-copy-out-is-frame-usual-2 c = search needs
-
 is-frame-usual-requires : tie.Need-is-frame-usual-requires
 is-frame-usual-requires c κs =
     let s = c .before .before .before in
     let d = s .args .d .now in
     (s .pre .0, (plan-fits d (s .args .t2) (s .pre .1) _ 4 (omega arith) (omega arith), plan-status d (s .args .t2) (s .pre .1) _ 4 (omega arith) (omega arith)))
-
-array-copy-out-is-frame-usual-3 : tie.Need-array-copy-out-is-frame-usual-3
-array-copy-out-is-frame-usual-3 c = search needs
-
-array-copy-out-is-frame-usual-4 : tie.Need-array-copy-out-is-frame-usual-4
-array-copy-out-is-frame-usual-4 c = search needs
 
 is-frame-usual-requires-2 : tie.Need-is-frame-usual-requires-2
 is-frame-usual-requires-2 c κs =
@@ -34,23 +22,11 @@ is-frame-usual-requires-2 c κs =
     let d = s .args .d .now in
     (s .pre .0, (plan-fits d (s .args .t2) (s .pre .1) _ 5 (omega arith) (omega arith), plan-status d (s .args .t2) (s .pre .1) _ 5 (omega arith) (omega arith)))
 
-array-copy-out-is-frame-usual-5 : tie.Need-array-copy-out-is-frame-usual-5
-array-copy-out-is-frame-usual-5 c = search needs
-
-array-copy-out-is-frame-usual-6 : tie.Need-array-copy-out-is-frame-usual-6
-array-copy-out-is-frame-usual-6 c = search needs
-
 is-frame-usual-requires-3 : tie.Need-is-frame-usual-requires-3
 is-frame-usual-requires-3 c κs =
     let s = c .before .before .before .before .before .before .before .before .before in
     let d = s .args .d .now in
     (s .pre .0, (plan-fits d (s .args .t2) (s .pre .1) _ 6 (omega arith) (omega arith), plan-status d (s .args .t2) (s .pre .1) _ 6 (omega arith) (omega arith)))
-
-array-copy-out-is-frame-usual-7 : tie.Need-array-copy-out-is-frame-usual-7
-array-copy-out-is-frame-usual-7 c = search needs
-
-array-copy-out-is-frame-usual-8 : tie.Need-array-copy-out-is-frame-usual-8
-array-copy-out-is-frame-usual-8 c = search needs
 
 is-frame-usual-requires-4 : tie.Need-is-frame-usual-requires-4
 is-frame-usual-requires-4 c κs =
@@ -78,18 +54,6 @@ returns c =
 
 pub are-frames-usual-spec : {M : Type 1} → statement M
 are-frames-usual-spec =
-    tie.close
-    (tie.spec
-    array-copy-out-is-frame-usual
-    array-copy-out-is-frame-usual-2
-    is-frame-usual-requires
-    array-copy-out-is-frame-usual-3
-    array-copy-out-is-frame-usual-4
-    is-frame-usual-requires-2
-    array-copy-out-is-frame-usual-5
-    array-copy-out-is-frame-usual-6
-    is-frame-usual-requires-3
-    array-copy-out-is-frame-usual-7
-    array-copy-out-is-frame-usual-8
-    is-frame-usual-requires-4
-    returns)
+    tie.close (tie.spec (λ c. search needs) (λ c. search needs) is-frame-usual-requires (λ c. search needs) (λ c. search needs)
+    is-frame-usual-requires-2 (λ c. search needs) (λ c. search needs) is-frame-usual-requires-3 (λ c. search needs) (λ c. search needs)
+    is-frame-usual-requires-4 returns)

@@ -8,30 +8,6 @@ use borrow.Author.Needs.{needs}
 use Rattle.soundness.proofs.usual.are_none_held.Statement.{statement}
 use Rattle.soundness.proofs.usual.are_none_held.Tie as tie
 
-array-copy-out-is-none-held : tie.Need-array-copy-out-is-none-held
-array-copy-out-is-none-held c = search needs
-
-is-none-held-requires : tie.Need-is-none-held-requires
-is-none-held-requires c κs = search needs
-
-array-copy-out-is-none-held-2 : tie.Need-array-copy-out-is-none-held-2
-array-copy-out-is-none-held-2 c = search needs
-
-is-none-held-requires-2 : tie.Need-is-none-held-requires-2
-is-none-held-requires-2 c κs = search needs
-
-array-copy-out-is-none-held-3 : tie.Need-array-copy-out-is-none-held-3
-array-copy-out-is-none-held-3 c = search needs
-
-is-none-held-requires-3 : tie.Need-is-none-held-requires-3
-is-none-held-requires-3 c κs = search needs
-
-array-copy-out-is-none-held-4 : tie.Need-array-copy-out-is-none-held-4
-array-copy-out-is-none-held-4 c = search needs
-
-is-none-held-requires-4 : tie.Need-is-none-held-requires-4
-is-none-held-requires-4 c κs = search needs
-
 returns : tie.Need-returns
 returns c =
     let third = c .before .before in
@@ -44,14 +20,5 @@ returns c =
 
 pub are-none-held-spec : {M : Type 1} → statement M
 are-none-held-spec =
-    tie.close
-    (tie.spec
-    array-copy-out-is-none-held
-    is-none-held-requires
-    array-copy-out-is-none-held-2
-    is-none-held-requires-2
-    array-copy-out-is-none-held-3
-    is-none-held-requires-3
-    array-copy-out-is-none-held-4
-    is-none-held-requires-4
-    returns)
+    tie.close (tie.spec (λ c. search needs) (λ c κs. search needs) (λ c. search needs) (λ c κs. search needs) (λ c. search needs)
+    (λ c κs. search needs) (λ c. search needs) (λ c κs. search needs) returns)

@@ -10,20 +10,11 @@ use borrow.Author.Needs.{needs}
 use Rattle.soundness.proofs.usual.are_plans_usual.Statement.{statement}
 use Rattle.soundness.proofs.usual.are_plans_usual.Tie as tie
 
-are-short-requires : tie.Need-are-short-requires
-are-short-requires c κs = search needs
-
 returns : tie.Need-returns
 returns c = λ e. absurd (false≢true e)
 
-are-receive-usual-requires : tie.Need-are-receive-usual-requires
-are-receive-usual-requires c κs = search needs
-
 returns-2 : tie.Need-returns-2
 returns-2 c = λ e. absurd (false≢true e)
-
-are-transmit-usual-requires : tie.Need-are-transmit-usual-requires
-are-transmit-usual-requires c κs = search needs
 
 returns-3 : tie.Need-returns-3
 unfolding plansUsual
@@ -35,12 +26,4 @@ returns-3 c =
     (halves (pairUsual (a .d .now)) (a .plans) (r .are-receive-usual .ensures (not-false _ (c .before .if2 .left))) (c .are-transmit-usual .ensures e))
 
 pub are-plans-usual-spec : {M : Type 1} → statement M
-are-plans-usual-spec =
-    tie.close
-    (tie.spec
-    are-short-requires
-    returns
-    are-receive-usual-requires
-    returns-2
-    are-transmit-usual-requires
-    returns-3)
+are-plans-usual-spec = tie.close (tie.spec (λ c κs. search needs) returns (λ c κs. search needs) returns-2 (λ c κs. search needs) returns-3)

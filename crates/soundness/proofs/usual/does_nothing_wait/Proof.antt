@@ -4,15 +4,6 @@ use borrow.Author.Needs.{needs}
 use Rattle.soundness.proofs.usual.does_nothing_wait.Statement.{statement}
 use Rattle.soundness.proofs.usual.does_nothing_wait.Tie as tie
 
-is-none-counted-requires : tie.Need-is-none-counted-requires
-is-none-counted-requires c κs = search needs
-
-is-none-due-requires : tie.Need-is-none-due-requires
-is-none-due-requires c κs = search needs
-
-are-none-held-requires : tie.Need-are-none-held-requires
-are-none-held-requires c κs = search needs
-
 returns : tie.Need-returns
 unfolding nothingWaits
 returns c =
@@ -20,6 +11,4 @@ returns c =
     (rw (c .before .before .is-none-counted .ensures, c .before .is-none-due .ensures, c .are-none-held .ensures), (search (s .good), (search (s .good), search (s .good))))
 
 pub does-nothing-wait-spec : {M : Type 1} → statement M
-does-nothing-wait-spec =
-    tie.close
-    (tie.spec is-none-counted-requires is-none-due-requires are-none-held-requires returns)
+does-nothing-wait-spec = tie.close (tie.spec (λ c κs. search needs) (λ c κs. search needs) (λ c κs. search needs) returns)

@@ -7,29 +7,10 @@ use borrow.Author.Needs.{needs}
 use Rattle.soundness.proofs.usual.is_none_due.Statement.{statement}
 use Rattle.soundness.proofs.usual.is_none_due.Tie as tie
 
-array-read-result : tie.Need-array-read-result
-array-read-result c = search needs
-
-array-read-result-2 : tie.Need-array-read-result-2
-array-read-result-2 c = search needs
-
-array-read-result-3 : tie.Need-array-read-result-3
-array-read-result-3 c = search needs
-
-array-read-result-4 : tie.Need-array-read-result-4
-array-read-result-4 c = search needs
-
 returns : tie.Need-returns
 returns c =
     let n : length (c .args .t1) ≡ 4 = search (c .good) in
     four-all _ not (c .args .t1) n
 
 pub is-none-due-spec : {M : Type 1} → statement M
-is-none-due-spec =
-    tie.close
-    (tie.spec
-    array-read-result
-    array-read-result-2
-    array-read-result-3
-    array-read-result-4
-    returns)
+is-none-due-spec = tie.close (tie.spec (λ c. search needs) (λ c. search needs) (λ c. search needs) (λ c. search needs) returns)

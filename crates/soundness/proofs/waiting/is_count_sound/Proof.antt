@@ -10,16 +10,10 @@ use Rattle.soundness.proofs.waiting.is_count_sound.Tie as tie
 returns : tie.Need-returns
 returns c = rw (c .if1 .taken) (sym (no-count _ _ _))
 
-works-requires : tie.Need-works-requires
-works-requires c κs = search needs
-
 returns-2 : tie.Need-returns-2
 returns-2 c =
     let a = c .before .before .before .before .args in
     sym (unworking-count (a .m) (a .d .now) (a .p) (a .count) (c .before .before .if1 .left) (sym (c .before .works .ensures) ∙ not-true _ (c .if2 .taken)))
-
-type-of-requires : tie.Need-type-of-requires
-type-of-requires c κs = search needs
 
 returns-3 : tie.Need-returns-3
 returns-3 c =
@@ -36,4 +30,4 @@ returns-4 c =
 
 pub is-count-sound-spec : {M : Type 1} → statement M
 is-count-sound-spec =
-    tie.close (tie.spec returns works-requires returns-2 type-of-requires returns-3 returns-4)
+    tie.close (tie.spec returns (λ c κs. search needs) returns-2 (λ c κs. search needs) returns-3 returns-4)

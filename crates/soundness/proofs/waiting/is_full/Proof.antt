@@ -6,17 +6,11 @@ use borrow.Author.Needs.{needs}
 use Rattle.soundness.proofs.waiting.is_full.Statement.{statement}
 use Rattle.soundness.proofs.waiting.is_full.Tie as tie
 
-length-of-requires : tie.Need-length-of-requires
-length-of-requires c κs = search needs
-
 returns : tie.Need-returns
 returns c =
     let s = c .before .before .before .before in
     let n = c .before .before .length-of .ensures in
     sym (full (s .args .frame) _ (search needs) (s .pre .room) ∙ rw (← n, ne-eqb _ _ (c .if1 .taken)))
-
-is-zero-from-requires : tie.Need-is-zero-from-requires
-is-zero-from-requires c κs = search needs
 
 returns-2 : tie.Need-returns-2
 returns-2 c =
@@ -25,4 +19,4 @@ returns-2 c =
     sym (full (s .args .frame) _ (c .is-zero-from .ensures .1) (s .pre .room) ∙ rw (← n, eq-eqb _ _ (c .before .if1 .left), ← c .is-zero-from .ensures .0))
 
 pub is-full-spec : {M : Type 1} → statement M
-is-full-spec = tie.close (tie.spec length-of-requires returns is-zero-from-requires returns-2)
+is-full-spec = tie.close (tie.spec (λ c κs. search needs) returns (λ c κs. search needs) returns-2)

@@ -11,24 +11,15 @@ use borrow.Author.Needs.{needs}
 use Rattle.soundness.proofs.waiting.is_held_sound.Statement.{statement}
 use Rattle.soundness.proofs.waiting.is_held_sound.Tie as tie
 
-is-none-held-requires : tie.Need-is-none-held-requires
-is-none-held-requires c κs = search needs
-
 returns : tie.Need-returns
 returns c =
     let a = c .before .before .before .before .before .args in
     c .is-none-held .ensures ∙ sym (held-none (a .m) (a .d .now) (a .p) (a .frame) (c .before .if1 .taken))
 
-works-requires : tie.Need-works-requires
-works-requires c κs = search needs
-
 returns-2 : tie.Need-returns-2
 returns-2 c =
     let a = c .before .before .before .before .before .before .args in
     sym (held-some (a .m) (a .d .now) (a .p) (a .frame) (c .before .before .if1 .left) ∙ rw (sym (c .before .works .ensures) ∙ not-true _ (c .if2 .taken)))
-
-type-of-requires : tie.Need-type-of-requires
-type-of-requires c κs = search needs
 
 returns-3 : tie.Need-returns-3
 returns-3 c =
@@ -72,15 +63,5 @@ returns-5 c =
 
 pub is-held-sound-spec : {M : Type 1} → statement M
 is-held-sound-spec =
-    tie.close
-    (tie.spec
-    is-none-held-requires
-    returns
-    works-requires
-    returns-2
-    type-of-requires
-    returns-3
-    is-full-requires
-    returns-4
-    are-legal-requires
-    returns-5)
+    tie.close (tie.spec (λ c κs. search needs) returns (λ c κs. search needs) returns-2 (λ c κs. search needs) returns-3 is-full-requires returns-4
+    are-legal-requires returns-5)

@@ -10,15 +10,9 @@ returns : tie.Need-returns
 unfolding dueSound
 returns c = rw (c .if1 .taken)
 
-works-requires : tie.Need-works-requires
-works-requires c κs = search needs
-
 returns-2 : tie.Need-returns-2
 unfolding dueSound
 returns-2 c = rw (c .before .before .if1 .left, sym (c .before .works .ensures) ∙ not-true _ (c .if2 .taken))
-
-type-of-requires : tie.Need-type-of-requires
-type-of-requires c κs = search needs
 
 returns-3 : tie.Need-returns-3
 unfolding dueSound
@@ -28,4 +22,4 @@ returns-3 c =
 
 pub is-mark-sound-spec : {M : Type 1} → statement M
 is-mark-sound-spec =
-    tie.close (tie.spec returns works-requires returns-2 type-of-requires returns-3)
+    tie.close (tie.spec returns (λ c κs. search needs) returns-2 (λ c κs. search needs) returns-3)

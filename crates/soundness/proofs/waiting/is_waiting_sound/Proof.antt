@@ -16,42 +16,15 @@ abbrev μ-loop : tie.MeasureT-loop
 loop-holds : tie.Need-loop-holds Inv-loop μ-loop
 loop-holds c = all-pending _ _ _ _ _ (search needs) (search needs) (search needs)
 
-add-p : tie.Need-add-p Inv-loop μ-loop
-add-p c = search needs
-
-array-read-is-count-sound : tie.Need-array-read-is-count-sound Inv-loop μ-loop
-array-read-is-count-sound c = search needs
-
-is-count-sound-requires : tie.Need-is-count-sound-requires Inv-loop μ-loop
-is-count-sound-requires c κs = search needs
-
 returns : tie.Need-returns Inv-loop μ-loop
 returns c =
     let b = c .before .before in
     count-fails _ _ _ _ _ (b .before .loop .inv) (b .loop-test .taken) (c .before .is-count-sound .ensures) (c .if1 .taken)
 
-array-read-is-mark-sound : tie.Need-array-read-is-mark-sound Inv-loop μ-loop
-array-read-is-mark-sound c = search needs
-
-is-mark-sound-requires : tie.Need-is-mark-sound-requires Inv-loop μ-loop
-is-mark-sound-requires c κs = search needs
-
 returns-2 : tie.Need-returns-2 Inv-loop μ-loop
 returns-2 c =
     let b = c .before .before .before .before in
     mark-fails _ _ _ _ _ (b .before .loop .inv) (b .loop-test .taken) (c .before .is-mark-sound .ensures) (c .if2 .taken)
-
-mul-plan : tie.Need-mul-plan Inv-loop μ-loop
-mul-plan c = search needs
-
-array-copy-out-plan : tie.Need-array-copy-out-plan Inv-loop μ-loop
-array-copy-out-plan c = search needs
-
-mul-frame : tie.Need-mul-frame Inv-loop μ-loop
-mul-frame c = search needs
-
-array-copy-out-frame : tie.Need-array-copy-out-frame Inv-loop μ-loop
-array-copy-out-frame c = search needs
 
 is-held-sound-requires : tie.Need-is-held-sound-requires Inv-loop μ-loop
 is-held-sound-requires c κs =
@@ -63,12 +36,6 @@ returns-3 : tie.Need-returns-3 Inv-loop μ-loop
 returns-3 c =
     let b = c .before .before .before .before .before .before .before .before in
     frame-fails _ _ _ _ _ (b .before .loop .inv) (b .loop-test .taken) _ (c .before .is-held-sound .ensures) (c .if3 .taken)
-
-add-t : tie.Need-add-t Inv-loop μ-loop
-add-t c = search needs
-
-loop-less : tie.Need-loop-less Inv-loop μ-loop
-loop-less c = search needs
 
 loop-again : tie.Need-loop-again Inv-loop μ-loop
 loop-again c =
@@ -83,25 +50,6 @@ returns-4 c = none-pending _ _ _ _ _ (c .before .loop .inv) (omega arith)
 
 pub is-waiting-sound-spec : {M : Type 1} → statement M
 is-waiting-sound-spec =
-    tie.close
-    (tie.spec
-    Inv-loop
-    μ-loop
-    loop-holds
-    add-p
-    array-read-is-count-sound
-    is-count-sound-requires
-    returns
-    array-read-is-mark-sound
-    is-mark-sound-requires
-    returns-2
-    mul-plan
-    array-copy-out-plan
-    mul-frame
-    array-copy-out-frame
-    is-held-sound-requires
-    returns-3
-    add-t
-    loop-less
-    loop-again
-    returns-4)
+    tie.close (tie.spec Inv-loop μ-loop loop-holds (λ c. search needs) (λ c. search needs) (λ c κs. search needs) returns (λ c. search needs)
+    (λ c κs. search needs) returns-2 (λ c. search needs) (λ c. search needs) (λ c. search needs) (λ c. search needs) is-held-sound-requires
+    returns-3 (λ c. search needs) (λ c. search needs) loop-again returns-4)

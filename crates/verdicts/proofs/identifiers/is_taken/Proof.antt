@@ -21,24 +21,12 @@ abbrev μ-loop : tie.MeasureT-loop
 loop-holds : tie.Need-loop-holds Inv-loop μ-loop
 loop-holds c = (refl, search needs)
 
-identifier-requires : tie.Need-identifier-requires Inv-loop μ-loop
-identifier-requires c κs = search needs
-
-takes-requires : tie.Need-takes-requires Inv-loop μ-loop
-takes-requires c κs = search needs
-
 returns : tie.Need-returns Inv-loop μ-loop
 returns c =
     let l = c .before .before .before .before .loop in
     let a = c .before .before .before .before .before .before .args in
     let e = next-pdo (a .d .now) (a .p) (a .w) (l .q) (c .before .before .before .loop-test .taken) in
     sym (sym (l .inv .0) ∙ e ∙ rw (← c .before .before .identifier .ensures, ← c .before .takes .ensures, c .if1 .taken))
-
-add-q : tie.Need-add-q Inv-loop μ-loop
-add-q c = search needs
-
-loop-less : tie.Need-loop-less Inv-loop μ-loop
-loop-less c = search needs
 
 loop-again : tie.Need-loop-again Inv-loop μ-loop
 loop-again c =
@@ -55,15 +43,5 @@ returns-2 c =
 
 pub is-taken-spec : {M : Type 1} → statement M
 is-taken-spec =
-    tie.close
-    (tie.spec
-    Inv-loop
-    μ-loop
-    loop-holds
-    identifier-requires
-    takes-requires
-    returns
-    add-q
-    loop-less
-    loop-again
-    returns-2)
+    tie.close (tie.spec Inv-loop μ-loop loop-holds (λ c κs. search needs) (λ c κs. search needs) returns (λ c. search needs) (λ c. search needs)
+    loop-again returns-2)

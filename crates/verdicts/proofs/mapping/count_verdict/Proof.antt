@@ -6,9 +6,6 @@ use borrow.Author.Needs.{needs}
 use Rattle.verdicts.proofs.mapping.count_verdict.Statement.{statement}
 use Rattle.verdicts.proofs.mapping.count_verdict.Tie as tie
 
-words-place-requires : tie.Need-words-place-requires
-words-place-requires c κs = search needs
-
 words-verdict-requires : tie.Need-words-verdict-requires
 words-verdict-requires c κs =
     let s = c .before .before in
@@ -21,4 +18,4 @@ returns c =
     rw (← words-behind (a .d .now) (a .p), ← c .before .words-place .ensures .0) (c .words-verdict .ensures)
 
 pub count-verdict-spec : {M : Type 1} → statement M
-count-verdict-spec = tie.close (tie.spec words-place-requires words-verdict-requires returns)
+count-verdict-spec = tie.close (tie.spec (λ c κs. search needs) words-verdict-requires returns)

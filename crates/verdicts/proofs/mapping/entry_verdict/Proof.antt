@@ -9,17 +9,11 @@ use Rattle.verdicts.proofs.mapping.entry_verdict.Tie as tie
 returns : tie.Need-returns
 returns c = word-zero (c .before .args .p) (c .before .args .w) (c .if1 .taken)
 
-move-of-requires : tie.Need-move-of-requires
-move-of-requires c κs = search needs
-
 returns-2 : tie.Need-returns-2
 returns-2 c =
     let m = c .before .before .move-of in
     let a = c .before .before .before .before .args in
     word-named (a .p) (a .w) (m .result) (m .ensures) (c .if2 .taken)
-
-unnamed-verdict-requires : tie.Need-unnamed-verdict-requires
-unnamed-verdict-requires c κs = search needs
 
 returns-3 : tie.Need-returns-3
 returns-3 c =
@@ -29,4 +23,4 @@ returns-3 c =
 
 pub entry-verdict-spec : {M : Type 1} → statement M
 entry-verdict-spec =
-    tie.close (tie.spec returns move-of-requires returns-2 unnamed-verdict-requires returns-3)
+    tie.close (tie.spec returns (λ c κs. search needs) returns-2 (λ c κs. search needs) returns-3)

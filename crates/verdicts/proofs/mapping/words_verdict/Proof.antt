@@ -26,29 +26,11 @@ loop-holds c =
     let a = c .before .before .args in
     (at-first (a .n) (a .first) (a .d .now), ⊎-elim (λ w. (search needs, (search needs, (search needs, (omega arith, (omega arith, inl (omega arith))))))) (λ w. (search needs, (search needs, (search needs, (omega arith, (omega arith, inr (omega arith))))))) (c .if1 .came))
 
-read4-requires : tie.Need-read4-requires Inv-loop μ-loop
-read4-requires c κs = search needs
-
 returns : tie.Need-returns Inv-loop μ-loop
 returns c =
     let l = c .before .before .before .loop in
     let a = c .before .before .before .before .before .before .args in
     ap verdictCode (sym (at-zero (l .bits) (a .n) (l .k) (l .at) (a .d .now) (search needs) (search needs) (sym (c .before .read4 .ensures) ∙ c .if2 .taken)) ∙ l .inv .0)
-
-word-length-requires : tie.Need-word-length-requires Inv-loop μ-loop
-word-length-requires c κs = search needs
-
-add-bits : tie.Need-add-bits Inv-loop μ-loop
-add-bits c = search needs
-
-add-at : tie.Need-add-at Inv-loop μ-loop
-add-at c = search needs
-
-add-k : tie.Need-add-k Inv-loop μ-loop
-add-k c = search needs
-
-loop-less : tie.Need-loop-less Inv-loop μ-loop
-loop-less c = search needs
 
 loop-again : tie.Need-loop-again Inv-loop μ-loop
 loop-again c =
@@ -74,18 +56,5 @@ returns-3 c =
 
 pub words-verdict-spec : {M : Type 1} → statement M
 words-verdict-spec =
-    tie.close
-    (tie.spec
-    Inv-loop
-    μ-loop
-    loop-holds
-    read4-requires
-    returns
-    word-length-requires
-    add-bits
-    add-at
-    add-k
-    loop-less
-    loop-again
-    returns-2
-    returns-3)
+    tie.close (tie.spec Inv-loop μ-loop loop-holds (λ c κs. search needs) returns (λ c κs. search needs) (λ c. search needs) (λ c. search needs)
+    (λ c. search needs) (λ c. search needs) loop-again returns-2 returns-3)

@@ -8,56 +8,11 @@ use borrow.Author.Needs.{needs}
 use Rattle.verdicts.proofs.values.role_verdict.Statement.{statement}
 use Rattle.verdicts.proofs.values.role_verdict.Tie as tie
 
-enum-told : tie.Need-enum-told
-enum-told c = search needs
-
-enum-told-2 : tie.Need-enum-told-2
-enum-told-2 c = search needs
-
-is-mode-requires : tie.Need-is-mode-requires
-is-mode-requires c κs = search needs
-
-bad-if-requires : tie.Need-bad-if-requires
-bad-if-requires c κs = search needs
-
-enum-known-role : tie.Need-enum-known-role
-enum-known-role c = search needs
-
-cast-bad-identifier : tie.Need-cast-bad-identifier
-cast-bad-identifier c = search needs
-
 bad-identifier-requires : tie.Need-bad-identifier-requires
 bad-identifier-requires c κs = (search needs, rw (c .before .role .given .1) at (c .before .before .before .before .pre .1))
 
-bad-if-requires-2 : tie.Need-bad-if-requires-2
-bad-if-requires-2 c κs = search needs
-
-enum-known-role-2 : tie.Need-enum-known-role-2
-enum-known-role-2 c = search needs
-
-is-type-requires : tie.Need-is-type-requires
-is-type-requires c κs = search needs
-
-bad-if-requires-3 : tie.Need-bad-if-requires-3
-bad-if-requires-3 c κs = search needs
-
-enum-known-role-3 : tie.Need-enum-known-role-3
-enum-known-role-3 c = search needs
-
-cast-count-verdict : tie.Need-cast-count-verdict
-cast-count-verdict c = search needs
-
 count-verdict-requires : tie.Need-count-verdict-requires
 count-verdict-requires c κs = (search needs, rw (c .before .role3 .given .1) at (c .before .before .before .before .pre .1))
-
-enum-known-role-4 : tie.Need-enum-known-role-4
-enum-known-role-4 c = search needs
-
-cast-entry-verdict : tie.Need-cast-entry-verdict
-cast-entry-verdict c = search needs
-
-entry-verdict-requires : tie.Need-entry-verdict-requires
-entry-verdict-requires c κs = search needs
 
 returns : tie.Need-returns
 unfolding roleVerdict otherBadValue mappingVerdict firstOf badIf
@@ -97,28 +52,7 @@ returns-6 c =
 
 pub role-verdict-spec : {M : Type 1} → statement M
 role-verdict-spec =
-    tie.close
-    (tie.spec
-    enum-told
-    enum-told-2
-    is-mode-requires
-    bad-if-requires
-    enum-known-role
-    cast-bad-identifier
-    bad-identifier-requires
-    bad-if-requires-2
-    enum-known-role-2
-    is-type-requires
-    bad-if-requires-3
-    enum-known-role-3
-    cast-count-verdict
-    count-verdict-requires
-    enum-known-role-4
-    cast-entry-verdict
-    entry-verdict-requires
-    returns
-    returns-2
-    returns-3
-    returns-4
-    returns-5
-    returns-6)
+    tie.close (tie.spec (λ c. search needs) (λ c. search needs) (λ c κs. search needs) (λ c κs. search needs) (λ c. search needs) (λ c. search needs)
+    bad-identifier-requires (λ c κs. search needs) (λ c. search needs) (λ c κs. search needs) (λ c κs. search needs) (λ c. search needs)
+    (λ c. search needs) count-verdict-requires (λ c. search needs) (λ c. search needs) (λ c κs. search needs) returns returns-2 returns-3 returns-4
+    returns-5 returns-6)

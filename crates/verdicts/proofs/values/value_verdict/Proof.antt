@@ -20,9 +20,6 @@ returns-2 c =
     let a = b .before .before .before .args in
     rw (le-ltb (a .v) (a .e .least) (b .if1 .left), lt-ltb (a .e .greatest) (a .v) (c .if2 .taken))
 
-role-verdict-requires : tie.Need-role-verdict-requires
-role-verdict-requires c κs = search needs
-
 returns-3 : tie.Need-returns-3
 unfolding valueVerdictOf firstOf
 returns-3 c =
@@ -31,4 +28,4 @@ returns-3 c =
     rw (le-ltb (a .v) (a .e .least) (b .if1 .left), le-ltb (a .e .greatest) (a .v) (c .before .if2 .left)) (c .role-verdict .ensures)
 
 pub value-verdict-spec : {M : Type 1} → statement M
-value-verdict-spec = tie.close (tie.spec returns returns-2 role-verdict-requires returns-3)
+value-verdict-spec = tie.close (tie.spec returns returns-2 (λ c κs. search needs) returns-3)
