@@ -4,7 +4,7 @@ use Prim.Native.Nat.{ℕ, zero, suc, _<_}
 use native.Mathlib.Omega.{arith}
 use mathlib.Core.List.{List}
 use Rattle.rules_dictionary.specs.Table.{pdos}
-use Rattle.rules_dictionary.proofs.Tests.{In, here, there}
+use Rattle.rules_dictionary.specs.Members.{In, here, there}
 use Rattle.theorems.proofs.Dictionary.{DictionaryOk}
 use Rattle.ending.proofs.Making.{legal, few}
 use Rattle.answers.specs.Briefs.{mostPdos, MapsLegally}

@@ -9,11 +9,13 @@ use borrow.Author.Tests.{eq-eqb}
 use lib.Dec.{eqb}
 use lib.ListN.{take}
 use Rattle.rules_dictionary.specs.Numbers.{value}
-use Rattle.rules_dictionary.specs.Table.{Row, Role, plain, modeOfOperation, pdoIdentifier, pdoType, mappingCount, mappingEntry, table, pdos, mapCount, mapEntry, mapSlots}
+use Rattle.rules_dictionary.specs.declared.Role.{Role}
+use Rattle.rules_dictionary.specs.declared.Role.the-variants.{Plain, ModeOfOperation, PdoIdentifier, PdoType, MappingCount, MappingEntry}
+use Rattle.rules_dictionary.specs.Table.{Row, table, pdos, mapCount, mapEntry, mapSlots}
 use Rattle.rules_dictionary.specs.Values.{Write, read, stored}
 use Rattle.rules_dictionary.specs.Legal.{mapWords}
 use Rattle.rules_dictionary.specs.Plans.{targets, mapped, planFor, plansOf}
-use Rattle.rules_dictionary.proofs.Tests.{In}
+use Rattle.rules_dictionary.specs.Members.{In}
 use Rattle.rules_dictionary.proofs.Packing.{apart, same-or-apart}
 use Rattle.rules_dictionary.proofs.Rows.{field-stored}
 use Rattle.rules_dictionary.proofs.Members.{all-of, words-read, count-in, entry-in}
@@ -24,21 +26,21 @@ use Rattle.sdo.specs.Serving.{isMapping}
 
 -- the row is of the mapping of that PDO
 abbrev pub maps : ℕ → Role → Bool
-maps q plain = false
-maps q modeOfOperation = false
-maps q (pdoIdentifier p) = false
-maps q (pdoType p) = false
-maps q (mappingCount p) = eqb p q
-maps q (mappingEntry p) = eqb p q
+maps q Plain = false
+maps q ModeOfOperation = false
+maps q (PdoIdentifier p) = false
+maps q (PdoType p) = false
+maps q (MappingCount p) = eqb p q
+maps q (MappingEntry p) = eqb p q
 
 -- a row of no mapping is of no PDO's
 pub other-role : (r : Role) → isMapping r ≡ false → (q : ℕ) → maps q r ≡ false
-other-role plain h q = refl
-other-role modeOfOperation h q = refl
-other-role (pdoIdentifier p) h q = refl
-other-role (pdoType p) h q = refl
-other-role (mappingCount p) h q = clash true refl h
-other-role (mappingEntry p) h q = clash true refl h
+other-role Plain h q = refl
+other-role ModeOfOperation h q = refl
+other-role (PdoIdentifier p) h q = refl
+other-role (PdoType p) h q = refl
+other-role (MappingCount p) h q = clash true refl h
+other-role (MappingEntry p) h q = clash true refl h
 
 -- no row of the PDO's mapping is written
 abbrev pub Spares : ℕ → List Write → Type 0

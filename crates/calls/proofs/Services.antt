@@ -12,15 +12,18 @@ use Rattle.state.specs.declared.NmtState.{NmtState}
 use Rattle.state.specs.declared.NmtState.the-variants.{PreOperational, Operational, Stopped}
 use Rattle.state.specs.declared.State.{State}
 use Rattle.rules_dictionary.specs.declared.PdoData.{PdoData}
-use Rattle.rules_dictionary.specs.Table.{Row, Role, plain, modeOfOperation, pdoIdentifier, pdoType, mappingCount, mappingEntry, table, receivePdos, Found, found, noObject, noSubindex, lookup}
+use Rattle.rules_dictionary.specs.declared.Role.{Role}
+use Rattle.rules_dictionary.specs.declared.Role.the-variants.{Plain, ModeOfOperation, PdoIdentifier, PdoType, MappingCount, MappingEntry}
+use Rattle.rules_dictionary.specs.Table.{Row, table, receivePdos, Found, found, noObject, noSubindex, lookup}
 use Rattle.rules_dictionary.specs.Values.{Write, write, read, stored, unpacked}
 use Rattle.rules_dictionary.specs.Aborts.{Verdict, good, bad}
 use Rattle.rules_dictionary.specs.Legal.{isSynchronous}
 use Rattle.rules_dictionary.specs.Plans.{mapped, pdoData}
 use Rattle.rules_dictionary.specs.Numbers.{any}
 use Rattle.rules_dictionary.specs.Table.{same, controlWord, mode, heartbeatTime, errorRegister}
-use Rattle.rules_dictionary.proofs.Tests.{In, none-in}
-use Rattle.rules_dictionary.proofs.Packing.{found-in}
+use Rattle.rules_dictionary.specs.Members.{In}
+use Rattle.rules_dictionary.proofs.Tests.{none-in}
+use Rattle.rules_dictionary.proofs.LookUp.{found-in}
 use Rattle.drive.specs.declared.Controlled.{Controlled}
 use Rattle.drive.specs.SetPoints.{modeWritten, controlWritten}
 use Rattle.rules_services.specs.Effects.{Effect, becomes, sends, syncs, andThen, isStopped, isOperational, withDrive, withHeld, withHeartbeat}
@@ -33,7 +36,7 @@ use Rattle.rules_services.specs.Events.{Event, started, quickStopDone, reaction
 use Rattle.theorems.specs.Promises.{orReset, bySdo, byPdos, byEvent}
 use Rattle.theorems.proofs.Alike.{isPdo}
 use Rattle.theorems.proofs.Lawful.{Lawful}
-use Rattle.theorems.proofs.NmtKept.{in-cons}
+use Rattle.rules_dictionary.proofs.Members.{in-cons}
 use Rattle.theorems.proofs.SdoKept.{good-passes}
 use Rattle.theorems.proofs.EventsKept.{PlainRow, code-row, register-row, position-row, velocity-row}
 use Rattle.theorems.proofs.Writes.{InTable}
@@ -347,12 +350,12 @@ mapping-time : (m : NmtState) (d : List ℕ) (r : Role) → isMapping r ≡ true
 unfolding isWrongTime
 mapping-time PreOperational d r h w = refl
 mapping-time Stopped d r h w = refl
-mapping-time Operational d plain h w = absurd (false≢true h)
-mapping-time Operational d modeOfOperation h w = absurd (false≢true h)
-mapping-time Operational d (pdoIdentifier p) h w = absurd (false≢true h)
-mapping-time Operational d (pdoType p) h w = absurd (false≢true h)
-mapping-time Operational d (mappingCount p) h w = absurd (true≢false w)
-mapping-time Operational d (mappingEntry p) h w = absurd (true≢false w)
+mapping-time Operational d Plain h w = absurd (false≢true h)
+mapping-time Operational d ModeOfOperation h w = absurd (false≢true h)
+mapping-time Operational d (PdoIdentifier p) h w = absurd (false≢true h)
+mapping-time Operational d (PdoType p) h w = absurd (false≢true h)
+mapping-time Operational d (MappingCount p) h w = absurd (true≢false w)
+mapping-time Operational d (MappingEntry p) h w = absurd (true≢false w)
 
 object-idle : (w : Bool) (rq : List ℕ) (f : Found) (s : State) (d : List ℕ) → remaps (toObject w rq f s d .writes) ≡ true → isOperational (toObject w rq f s d .state .node .nmt) ≡ false
 unfolding toObject toRow decided abort downloadVerdict

@@ -8,11 +8,14 @@ use mathlib.Core.Bool.{true, false}
 use mathlib.Core.List.{List, [], _∷_, _++_}
 use lib.ListN.{length}
 use Rattle.state.specs.declared.State.{State}
-use Rattle.rules_dictionary.specs.Table.{Row, Role, plain, modeOfOperation, pdoIdentifier, pdoType, mappingCount, mappingEntry, table, transmit, receivePdos, transmitPdos, pdos, directionOf}
+use Rattle.rules_dictionary.specs.declared.Role.{Role}
+use Rattle.rules_dictionary.specs.declared.Role.the-variants.{Plain, ModeOfOperation, PdoIdentifier, PdoType, MappingCount, MappingEntry}
+use Rattle.rules_dictionary.specs.Table.{Row, table, transmit, receivePdos, transmitPdos, pdos, directionOf}
 use Rattle.rules_dictionary.specs.Values.{Write, field, stored}
 use Rattle.rules_dictionary.specs.Legal.{suits}
 use Rattle.rules_dictionary.specs.Plans.{mapped, joined, pdoData, readyFor, readyOf, plansOf}
-use Rattle.rules_dictionary.proofs.Tests.{In, here, there, each-in}
+use Rattle.rules_dictionary.specs.Members.{In, here, there}
+use Rattle.rules_dictionary.proofs.Tests.{each-in}
 use Rattle.rules_dictionary.proofs.Members.{all-of, in-right}
 use Rattle.rules_dictionary.proofs.Packing.{apart, same-or-apart}
 use Rattle.rules_dictionary.proofs.Rows.{field-stored}
@@ -63,12 +66,12 @@ module _ (ws : List Write) (d : List ℕ) (rows : InTable ws) (quiet : touches w
 -- ---- a service that writes no row of a PDO
 
 no-pdo : (q : ℕ) (r : Role) → isPdo r ≡ false → maps q r ≡ false
-no-pdo q plain h = refl
-no-pdo q modeOfOperation h = refl
-no-pdo q (pdoIdentifier p) h = refl
-no-pdo q (pdoType p) h = refl
-no-pdo q (mappingCount p) h = clash true refl h
-no-pdo q (mappingEntry p) h = clash true refl h
+no-pdo q Plain h = refl
+no-pdo q ModeOfOperation h = refl
+no-pdo q (PdoIdentifier p) h = refl
+no-pdo q (PdoType p) h = refl
+no-pdo q (MappingCount p) h = clash true refl h
+no-pdo q (MappingEntry p) h = clash true refl h
 
 -- THE LAW: what it did is what it leaves
 pub quiet-leaves : (s : State) (d o : List ℕ) (e : Effect) (r : Done) (d′ o′ : List ℕ) → Did e 0 d o r d′ o′ → Rests s e r → QuietWrites e → {n : ℕ} → DictionaryOk n d →

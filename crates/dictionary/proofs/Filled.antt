@@ -8,14 +8,15 @@ use native.Mathlib.Numerals.{add-one}
 use native.Mathlib.Omega.{arith}
 use lib.ListN.{length, getD, drop, set, drop-of-length-le}
 use lib.Seq.{paste, paste-suc, take-all, drop-cons}
-use Rattle.rules_dictionary.specs.Numbers.{bytes}
-use Rattle.rules_dictionary.specs.Table.{table, errorCode, errorRegister, emergencyIdentifier, eachWay, placeOf, dictionaryLength, open-table}
-use Rattle.rules_dictionary.specs.Values.{store, stored, toDefaults}
-use Rattle.rules_dictionary.proofs.Defaults.{packedDefaults, all-defaults}
-use Rattle.rules_dictionary.proofs.Tests.{In}
-use Rattle.rules_dictionary.proofs.Packing.{within, found-in}
+use Rattle.rules_dictionary.specs.Numbers.{bytes, filter}
+use Rattle.rules_dictionary.specs.Table.{table, errorCode, errorRegister, emergencyIdentifier, eachWay, placeOf, dictionaryLength, isReset}
+use Rattle.rules_dictionary.specs.Table.{open-table}
+use Rattle.rules_dictionary.specs.Values.{store, stored, toDefaults, packedDefaults}
+use Rattle.rules_dictionary.proofs.Defaults.{all-defaults}
+use Rattle.rules_dictionary.specs.Members.{In}
+use Rattle.rules_dictionary.proofs.LookUp.{found-in}
+use Rattle.rules_dictionary.proofs.Packing.{within}
 use Rattle.dictionary.specs.Identifiers.{fourFrom, nodeIdentifiers}
-use Rattle.dictionary.specs.Communication.{communicationObjects}
 
 -- one more byte copied
 pub copied : (before d s : List ℕ) (i : ℕ) → d ≡ paste before 0 s i → i < length s → i < length before →
@@ -43,7 +44,8 @@ node-bytes n = refl
 pub for-node : (n : ℕ) (d : List ℕ) → length d ≡ dictionaryLength →
     stored (toDefaults n nodeIdentifiers) (paste d 0 (packedDefaults 0 table) dictionaryLength) ≡ stored (toDefaults n table) d
 for-node n d h =
-    rw (zero-add, take-all dictionaryLength (packedDefaults 0 table) (omega (arith, length-defaults)), drop-of-length-le d {i = dictionaryLength} (omega arith), append-nil)
+    let all = take-all dictionaryLength (packedDefaults 0 table) (omega (arith, length-defaults)) in
+    rw (zero-add, all, drop-of-length-le d {i = dictionaryLength} (omega arith), append-nil)
     (node-bytes n ∙ sym (all-defaults n d h))
 
 -- ---- the communication objects
@@ -55,7 +57,9 @@ spread i (suc k) d = getD d i 0 ∷ spread (suc i) k d
 
 spread-is : (d : List ℕ) (i k : ℕ) → i + k ≤ length d → spread i k d ++ drop (i + k) d ≡ drop i d
 spread-is d i zero h = rw add-zero
-spread-is d i (suc k) h = rw (drop-cons d i 0 (omega arith)) (ap (λ (l : List ℕ). getD d i 0 ∷ l) (rw (add-suc, ← suc-add) (spread-is d (suc i) k (omega arith))))
+spread-is d i (suc k) h =
+    rw (drop-cons d i 0 (omega arith))
+    (ap (λ (l : List ℕ). getD d i 0 ∷ l) (rw (add-suc, ← suc-add) (spread-is d (suc i) k (omega arith))))
 
 -- the bytes that a call of 82h leaves, in the order of the code
 abbrev pub communicationBytes : ℕ → List ℕ → List ℕ
@@ -64,8 +68,8 @@ communicationBytes n d =
     (set (paste d 0 (packedDefaults 0 table) (placeOf errorCode)) (placeOf errorRegister) (getD d (placeOf errorRegister) 0))
 
 computed : (n : ℕ) (d : List ℕ) →
-    communicationBytes n d ≡ stored (toDefaults n communicationObjects) (spread 0 (placeOf errorCode) d ++ drop (placeOf errorCode) d)
-unfolding stored store packedDefaults open-table bytes communicationObjects
+    communicationBytes n d ≡ stored (toDefaults n (filter isReset table)) (spread 0 (placeOf errorCode) d ++ drop (placeOf errorCode) d)
+unfolding stored store packedDefaults open-table bytes
 computed n d = refl
 
 code-in : In errorCode table
@@ -74,6 +78,7 @@ code-in = found-in (errorCode .index) (errorCode .subindex) refl
 
 -- THE LAW: the default bytes in front of the drive's, with 1001h put back and the identifiers for the node
 pub communication-for-node : (n : ℕ) (d : List ℕ) → length d ≡ dictionaryLength →
-    communicationBytes n d ≡ stored (toDefaults n communicationObjects) d
+    communicationBytes n d ≡ stored (toDefaults n (filter isReset table)) d
 communication-for-node n d h =
-    computed n d ∙ ap (λ (l : List ℕ). stored (toDefaults n communicationObjects) l) (rw zero-add at (spread-is d 0 (placeOf errorCode) (omega (arith, within code-in))))
+    let whole = rw zero-add at (spread-is d 0 (placeOf errorCode) (omega (arith, within code-in))) in
+    computed n d ∙ ap (λ (l : List ℕ). stored (toDefaults n (filter isReset table)) l) whole

@@ -1,8 +1,7 @@
 pub mod Bytes
 pub mod Ways
-pub mod Order
+pub mod Lines
 pub mod LookUp
 pub mod Spots
 pub mod Regular
-pub mod Stands
 pub mod Filled

@@ -2,71 +2,73 @@
 -- Assumes nothing.
 use Prim.Native.Nat.{ℕ, _+_, _-_, _*_, _/_, _%_, _^_, _<_}
 use native.Mathlib.Omega.{arith}
-use mathlib.Core.Path.{_≡_, refl, ap}
+use mathlib.Core.Path.{_≡_, refl}
 use mathlib.Core.Bool.{true}
 use borrow.Author.Tests.{ltb-true}
 use lib.Dec.{ltb}
+use Rattle.rules_dictionary.specs.Members.{In}
 use Rattle.rules_dictionary.specs.Numbers.{all}
-use Rattle.rules_dictionary.specs.Table.{Row, table, placeOf, dictionaryLength, Found, found, noObject, noSubindex}
-use Rattle.rules_dictionary.proofs.Tests.{In, all-in}
+use Rattle.rules_dictionary.specs.Table.{Row, table, placeOf, Found, found, noObject, noSubindex, lookup}
+use Rattle.rules_dictionary.specs.Values.{read, store}
+use Rattle.rules_dictionary.proofs.Tests.{all-in}
 use Rattle.rules_dictionary.proofs.Packing.{within, short}
-use Rattle.dictionary.specs.declared.Found.the-variants.{Entry, NoObject, NoSubindex}
-use Rattle.dictionary.specs.declared.Presence.the-variants.{Listed}
-use Rattle.dictionary.specs.declared.Presence.the-variants as presence
-use Rattle.dictionary.specs.Entries.{foundOf, presenceOf}
+use Rattle.rules_dictionary.proofs.LookUp.{found-in}
+use Rattle.dictionary.specs.Entries.{entryOf, Stands}
 use Rattle.dictionary.specs.Lines.{lineOf, entryIn, spotOf}
-use Rattle.dictionary.proofs.Order.{entry-of}
+use Rattle.dictionary.proofs.Bytes.{is-size}
+use Rattle.dictionary.proofs.Lines.{entry-of}
+
+stands : (i s : ℕ) (x : Row) → lookup i s ≡ found x → Stands i s (entryOf x)
+unfolding read store
+stands i s x q =
+    let l : In x table = found-in i s q in
+    record {
+      row = x;
+      finds = q;
+      listed = l;
+      is-entry = refl;
+      within = within l;
+      sized = is-size (x .type);
+      reads = λ d. refl;
+      writes = λ v d. refl;
+    }
 
 lines-test : all (λ x. ltb (lineOf x) (2 ^ 32)) table ≡ true
 unfolding table
 lines-test = refl
 
-shorter : dictionaryLength < 2 ^ 16 - 2
-unfolding dictionaryLength table
-shorter = ltb-true _ _ refl
+-- a row's line and place in its number, and that the place is neither of the two numbers of none
+module _ {x : Row} (l : In x table) (r : ℕ) (e : r ≡ lineOf x * 2 ^ 16 + placeOf x) where
+  line-of : r / 2 ^ 16 % 2 ^ 32 ≡ lineOf x
+  line-of = omega (arith, within l, short, ltb-true (lineOf x) (2 ^ 32) (all-in (λ x. ltb (lineOf x) (2 ^ 32)) l lines-test))
 
--- the row's line and place in its number
-pub line-of : {x : Row} → In x table → (r : ℕ) → r ≡ lineOf x * 2 ^ 16 + placeOf x → r / 2 ^ 16 % 2 ^ 32 ≡ lineOf x
-line-of {x} i r e = omega (arith, within i, short, ltb-true (lineOf x) (2 ^ 32) (all-in (λ x. ltb (lineOf x) (2 ^ 32)) i lines-test))
+  place-of : r % 2 ^ 16 ≡ placeOf x
+  place-of = omega (arith, within l, short)
 
-pub place-of : {x : Row} → In x table → (r : ℕ) → r ≡ lineOf x * 2 ^ 16 + placeOf x → r % 2 ^ 16 ≡ placeOf x
-place-of i r e = omega (arith, within i, short)
+  is-place : r % 2 ^ 16 < 2 ^ 16 - 2
+  is-place = omega (arith, place-of, within l, short)
 
--- a row's place is neither of the two numbers
-pub is-place : {x : Row} → In x table → placeOf x < 2 ^ 16 - 2
-is-place i = omega (arith, within i, shorter)
+module _ (i s r : ℕ) (e : r ≡ spotOf (lookup i s)) where
+  pub tells-entry : r % 2 ^ 16 < 2 ^ 16 - 2 → Stands i s (entryIn (r / 2 ^ 16 % 2 ^ 32) (r % 2 ^ 16))
+  tells-entry h = go (lookup i s) refl e
+    where
+      go : (f : Found) → lookup i s ≡ f → r ≡ spotOf f → Stands i s (entryIn (r / 2 ^ 16 % 2 ^ 32) (r % 2 ^ 16))
+      go (found x) q e = let l = found-in i s q in rw (line-of l r e, place-of l r e, entry-of l) (stands i s x q)
+      go noObject q e = absurd (omega arith)
+      go noSubindex q e = absurd (omega arith)
 
-pub tells-entry : (f : Found) → ((x : Row) → f ≡ found x → In x table) → (r : ℕ) → r ≡ spotOf f → r % 2 ^ 16 < 2 ^ 16 - 2 →
-    Entry (entryIn (r / 2 ^ 16 % 2 ^ 32) (r % 2 ^ 16)) ≡ foundOf f
-tells-entry (found x) l r e h = ap Entry (rw (line-of (l x refl) r e, place-of (l x refl) r e) (entry-of (l x refl)))
-tells-entry noObject l r e h = absurd (omega arith)
-tells-entry noSubindex l r e h = absurd (omega arith)
+  pub tells-no-object : r % 2 ^ 16 ≡ 2 ^ 16 - 2 → lookup i s ≡ noObject
+  tells-no-object h = go (lookup i s) refl e
+    where
+      go : (f : Found) → lookup i s ≡ f → r ≡ spotOf f → f ≡ noObject
+      go (found x) q e = absurd (omega (arith, is-place (found-in i s q) r e))
+      go noObject q e = refl
+      go noSubindex q e = absurd (omega arith)
 
-pub tells-no-object : (f : Found) → ((x : Row) → f ≡ found x → In x table) → (r : ℕ) → r ≡ spotOf f → r % 2 ^ 16 ≡ 2 ^ 16 - 2 →
-    NoObject ≡ foundOf f
-tells-no-object (found x) l r e h = absurd (omega (arith, place-of (l x refl) r e, is-place (l x refl)))
-tells-no-object noObject l r e h = refl
-tells-no-object noSubindex l r e h = absurd (omega arith)
-
-pub tells-no-subindex : (f : Found) → ((x : Row) → f ≡ found x → In x table) → (r : ℕ) → r ≡ spotOf f → (r % 2 ^ 16 < 2 ^ 16 - 2 → ⊥) →
-    (r % 2 ^ 16 ≡ 2 ^ 16 - 2 → ⊥) → NoSubindex ≡ foundOf f
-tells-no-subindex (found x) l r e h k = absurd (h (omega (arith, place-of (l x refl) r e, is-place (l x refl))))
-tells-no-subindex noObject l r e h k = absurd (k (omega arith))
-tells-no-subindex noSubindex l r e h k = refl
-
-pub shows-no-object : (f : Found) → ((x : Row) → f ≡ found x → In x table) → (r : ℕ) → r ≡ spotOf f → r % 2 ^ 16 ≡ 2 ^ 16 - 2 →
-    presence.NoObject ≡ presenceOf f
-shows-no-object (found x) l r e h = absurd (omega (arith, place-of (l x refl) r e, is-place (l x refl)))
-shows-no-object noObject l r e h = refl
-shows-no-object noSubindex l r e h = absurd (omega arith)
-
-pub shows-no-subindex : (f : Found) → ((x : Row) → f ≡ found x → In x table) → (r : ℕ) → r ≡ spotOf f → r % 2 ^ 16 ≡ 2 ^ 16 - 1 →
-    presence.NoSubindex ≡ presenceOf f
-shows-no-subindex (found x) l r e h = absurd (omega (arith, place-of (l x refl) r e, is-place (l x refl)))
-shows-no-subindex noObject l r e h = absurd (omega arith)
-shows-no-subindex noSubindex l r e h = refl
-
-pub shows-entry : (f : Found) (r : ℕ) → r ≡ spotOf f → (r % 2 ^ 16 ≡ 2 ^ 16 - 2 → ⊥) → (r % 2 ^ 16 ≡ 2 ^ 16 - 1 → ⊥) → Listed ≡ presenceOf f
-shows-entry (found x) r e h k = refl
-shows-entry noObject r e h k = absurd (h (omega arith))
-shows-entry noSubindex r e h k = absurd (k (omega arith))
+  pub tells-no-subindex : (r % 2 ^ 16 < 2 ^ 16 - 2 → ⊥) → (r % 2 ^ 16 ≡ 2 ^ 16 - 2 → ⊥) → lookup i s ≡ noSubindex
+  tells-no-subindex h k = go (lookup i s) refl e
+    where
+      go : (f : Found) → lookup i s ≡ f → r ≡ spotOf f → f ≡ noSubindex
+      go (found x) q e = absurd (h (is-place (found-in i s q) r e))
+      go noObject q e = absurd (k (omega arith))
+      go noSubindex q e = refl

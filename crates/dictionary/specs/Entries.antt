@@ -1,46 +1,43 @@
--- The table's rows, and what a look-up finds, as the code has them.
+-- What the code keeps of a row, its entry, and what a look-up finds.
 -- Assumes nothing.
+use Prim.Native.Nat.{ℕ, _+_, _≤_}
+use mathlib.Core.Path.{_≡_}
+use mathlib.Core.List.{List}
+use lib.Seq.{sets}
+use Rattle.rules_dictionary.specs.Members.{In}
+use Rattle.rules_dictionary.specs.Numbers.{value, bytes, part}
 use Rattle.rules_dictionary.specs.Table as rows
-use Rattle.dictionary.specs.declared.Access.{Access}
-use Rattle.dictionary.specs.declared.Access.the-variants.{Constant, NodeWritten, Writable}
-use Rattle.dictionary.specs.declared.Role.{Role}
-use Rattle.dictionary.specs.declared.Role.the-variants.{Plain, ModeOfOperation, PdoIdentifier, PdoType, MappingCount, MappingEntry}
+use Rattle.rules_dictionary.specs.Values as values
 use Rattle.dictionary.specs.declared.Entry.{Entry}
-use Rattle.dictionary.specs.declared.Presence.{Presence}
-use Rattle.dictionary.specs.declared.Presence.the-variants as presence
 use Rattle.dictionary.specs.declared.Found.{Found}
 use Rattle.dictionary.specs.declared.Found.the-variants as found
-
-abbrev pub accessOf : rows.Access → Access
-accessOf rows.constant = Constant
-accessOf rows.nodeWritten = NodeWritten
-accessOf rows.writable = Writable
-
-abbrev pub roleOf : rows.Role → Role
-roleOf rows.plain = Plain
-roleOf rows.modeOfOperation = ModeOfOperation
-roleOf (rows.pdoIdentifier p) = PdoIdentifier p
-roleOf (rows.pdoType p) = PdoType p
-roleOf (rows.mappingCount p) = MappingCount p
-roleOf (rows.mappingEntry p) = MappingEntry p
+use Rattle.dictionary.specs.Sizes.{IsSize}
 
 abbrev pub entryOf : rows.Row → Entry
 entryOf x =
     record {
       place = rows.placeOf x;
       size = rows.sizeOf x;
-      access = accessOf (x .access);
+      access = x .access;
       least = x .range .least;
       greatest = x .range .greatest;
-      role = roleOf (x .role);
+      role = x .role;
     }
 
-abbrev pub foundOf : rows.Found → Found
-foundOf (rows.found x) = found.Entry (entryOf x)
-foundOf rows.noObject = found.NoObject
-foundOf rows.noSubindex = found.NoSubindex
+-- the entry of the row of that index and subindex: its value lies in the dictionary, and what stands at the entry's place and size is
+-- the row's value, read or stored
+pub record Stands (i s : ℕ) (e : Entry) : Type 0 where
+  pub row : rows.Row
+  pub finds : rows.lookup i s ≡ rows.found row
+  pub listed : In row rows.table
+  pub is-entry : e ≡ entryOf row
+  pub within : e .place + e .size ≤ rows.dictionaryLength
+  pub sized : IsSize (e .size)
+  pub reads : (d : List ℕ) → value (part (e .place) (e .size) d) ≡ values.read d row
+  pub writes : (v : ℕ) (d : List ℕ) → sets d (e .place) (bytes (e .size) v) ≡ values.store row v d
 
-abbrev pub presenceOf : rows.Found → Presence
-presenceOf (rows.found x) = presence.Listed
-presenceOf rows.noObject = presence.NoObject
-presenceOf rows.noSubindex = presence.NoSubindex
+-- what the look-up of an index and subindex finds: the row's entry, or that none is there
+abbrev pub IsFound : ℕ → ℕ → Found → Type 0
+IsFound i s (found.Entry e) = Stands i s e
+IsFound i s found.NoObject = rows.lookup i s ≡ rows.noObject
+IsFound i s found.NoSubindex = rows.lookup i s ≡ rows.noSubindex

@@ -2,4 +2,3 @@ pub mod Sizes
 pub mod Entries
 pub mod Lines
 pub mod Identifiers
-pub mod Communication

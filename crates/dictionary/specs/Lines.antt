@@ -1,16 +1,15 @@
 -- The lines of the flat table: what a line holds of its row, and what the regular structure of the table tells of it.
 -- Assumes nothing.
-use Prim.Native.Nat.{ℕ, zero, suc, _+_, _-_, _*_, _/_, _%_, _^_, _<_}
-use mathlib.Core.Path.{_≡_}
-use mathlib.Core.List.{List, [], _∷_, map}
+use Prim.Native.Nat.{ℕ, zero, suc, _+_, _-_, _*_, _/_, _%_, _^_, _<_, _≤_}
+use mathlib.Core.List.{List}
 use mathlib.Core.Bool.{cond}
-use lib.Dec.{eqb, leb, ltb}
+use lib.Dec.{eqb, ltb}
 use lib.ListN.{length, getD}
 use Rattle.rules_dictionary.specs.Table as rows
-use Rattle.dictionary.specs.declared.Access.{Access}
-use Rattle.dictionary.specs.declared.Access.the-variants.{Constant, NodeWritten, Writable}
-use Rattle.dictionary.specs.declared.Role.{Role}
-use Rattle.dictionary.specs.declared.Role.the-variants.{Plain, ModeOfOperation, PdoIdentifier, PdoType, MappingCount, MappingEntry}
+use Rattle.rules_dictionary.specs.declared.Access.{Access}
+use Rattle.rules_dictionary.specs.declared.Access.the-variants.{Constant, NodeWritten, Writable}
+use Rattle.rules_dictionary.specs.declared.Role.{Role}
+use Rattle.rules_dictionary.specs.declared.Role.the-variants.{Plain, ModeOfOperation, PdoIdentifier, PdoType, MappingCount, MappingEntry}
 use Rattle.dictionary.specs.declared.Entry.{Entry}
 use Rattle.dictionary.specs.declared.table.Room.{Room}
 use Rattle.dictionary.specs.declared.table.Room.the-variants.{Node, Communication, Mapping, Drive}
@@ -26,10 +25,10 @@ typeCode rows.u32 = 4
 typeCode rows.i8 = 9
 typeCode rows.i32 = 12
 
-abbrev pub accessCode : rows.Access → ℕ
-accessCode rows.constant = 0
-accessCode rows.nodeWritten = 1
-accessCode rows.writable = 2
+abbrev pub accessCode : Access → ℕ
+accessCode Constant = 0
+accessCode NodeWritten = 1
+accessCode Writable = 2
 
 -- 0 is the whole of the type
 abbrev pub rangeCode : rows.Range → ℕ
@@ -60,14 +59,10 @@ greatestIn range size =
 abbrev pub firstIndex : ℕ → ℕ
 firstIndex index = index - index % rows.eachWay
 
--- the last index of a communication object
-abbrev pub lastCommunication : ℕ
-lastCommunication = 0x1FFF
-
 -- four records of each kind and direction
 abbrev pub roomOf : ℕ → Room
 roomOf index =
-    cond (ltb lastCommunication index) Drive
+    cond (ltb rows.lastCommunication index) Drive
     (cond (eqb (firstIndex index) (rows.communicationIndex 0)) (Communication (index % rows.eachWay))
     (cond (eqb (firstIndex index) (rows.mappingIndex 0)) (Mapping (index % rows.eachWay))
     (cond (eqb (firstIndex index) (rows.communicationIndex rows.eachWay)) (Communication (index % rows.eachWay + rows.eachWay))
@@ -134,15 +129,13 @@ entryIn line place =
       role = roleIn (roomOf (indexIn line)) (indexIn line) (subindexIn line);
     }
 
--- ---- the last row whose key is not above that one, of rows in rising order; the first where there is none
+-- ---- the look-up
 
-abbrev pub lastFrom : ℕ → rows.Row → List rows.Row → rows.Row
-lastFrom k x [] = x
-lastFrom k x (y ∷ ys) = cond (leb (rows.key y) k) (lastFrom k y ys) x
-
-unfoldable pub lastUpTo : ℕ → List rows.Row → rows.Row
-lastUpTo k [] = rows.deviceType
-lastUpTo k (x ∷ xs) = lastFrom k x xs
+-- the rank of the last row whose key is not above that one; the first where there is none
+pub record LastUpTo (k rank : ℕ) : Type 0 where
+  pub listed : rank < rows.entries
+  pub low : 0 < rank → rows.key (rows.rowAt rank) ≤ k
+  pub high : suc rank < rows.entries → k < rows.key (rows.rowAt (suc rank))
 
 -- what a look-up finds, in one number: the line of the row, and below it in 16 bits its place; or one of two that no row has
 abbrev pub spotOf : rows.Found → ℕ

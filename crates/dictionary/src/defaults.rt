@@ -9,12 +9,11 @@ ghost use mathlib.Core.Path.{_≡_};
 ghost use Prim.Native.Nat.{_≤_};
 ghost use lib.ListN.{length};
 ghost use lib.Seq.{paste};
+ghost use Rattle.rules_dictionary.specs.Numbers.{filter};
 ghost use Rattle.rules_dictionary.specs.TheNode.{firstNode, lastNode};
-ghost use Rattle.rules_dictionary.specs.Table.{table, eachWay, dictionaryLength};
-ghost use Rattle.rules_dictionary.specs.Values.{stored, toDefaults};
-ghost use Rattle.rules_dictionary.proofs.Defaults.{packedDefaults};
+ghost use Rattle.rules_dictionary.specs.Table.{table, eachWay, dictionaryLength, isReset};
+ghost use Rattle.rules_dictionary.specs.Values.{stored, toDefaults, packedDefaults};
 ghost use Rattle.dictionary.specs.Identifiers.{fourFrom, nodeIdentifiers};
-ghost use Rattle.dictionary.specs.Communication.{communicationObjects};
 
 // The default bytes, an object a line, without the node-ID: the packed defaults of the definitions' table, by one computed test.
 const DEFAULTS: [u8; DICTIONARY_LENGTH] = *b"\
@@ -106,7 +105,7 @@ pub fn write_defaults(d: &mut [u8], n: u8)
 // the first.
 pub fn write_communication_defaults(d: &mut [u8], n: u8)
     requires { ⌜ (length (now d) ≡ dictionaryLength) × ((firstNode ≤ n) × (n ≤ lastNode)) ⌝ }
-    ensures { λ r. ⌜ now (d .exit) ≡ stored (toDefaults n communicationObjects) (now (d .entry)) ⌝ }
+    ensures { λ r. ⌜ now (d .exit) ≡ stored (toDefaults n (filter isReset table)) (now (d .entry)) ⌝ }
 {
     let register = d[ERROR_REGISTER];
     write_first(d, ERROR_CODE);

@@ -9,8 +9,9 @@ mod defaults; // the values after power-up
 
 pub use defaults::write_communication_defaults;
 pub use defaults::write_defaults;
+use rules_dictionary::Access;
+use rules_dictionary::Role;
 pub use table::find;
-pub use table::seek;
 pub use values::read;
 pub use values::read1;
 pub use values::read2;
@@ -20,23 +21,6 @@ pub use values::write1;
 pub use values::write2;
 pub use values::write4;
 
-// Who writes an entry's value.
-pub enum Access {
-    Constant,
-    NodeWritten,
-    Writable,
-}
-
-// What further rule a value obeys; of a PDO's entries also which PDO, 0 to 7.
-pub enum Role {
-    Plain,
-    ModeOfOperation,
-    PdoIdentifier(u8),
-    PdoType(u8),
-    MappingCount(u8),
-    MappingEntry(u8),
-}
-
 // A row of the table: where its value stands and what it may be.
 pub struct Entry {
     pub place: u16,
@@ -45,13 +29,6 @@ pub struct Entry {
     pub least: u32,
     pub greatest: u32,
     pub role: Role,
-}
-
-// Whether there is an entry.
-pub enum Presence {
-    Listed,
-    NoObject,
-    NoSubindex,
 }
 
 // What a look-up finds.

@@ -8,7 +8,10 @@ use crate::values::write2;
 use crate::values::write4;
 ghost use mathlib.Core.Path.{_≡_};
 ghost use lib.ListN.{length};
-ghost use Rattle.rules_dictionary.specs.Table.{deviceType, errorRegister, syncIdentifier, emergencyIdentifier, heartbeatTime, identityCount, vendor, controlWord, statusWord, mode, modeDisplay, position, positionWindow, velocity, velocityWindow, velocityThreshold, targetPosition, limitCount, minimumPosition, maximumPosition, profileVelocity, profileAcceleration, profileDeceleration, targetVelocity, supportedModes, errorCode, dictionaryLength};
+ghost use Rattle.rules_dictionary.specs.Table.{deviceType, errorRegister, syncIdentifier, emergencyIdentifier, heartbeatTime, identityCount, vendor};
+ghost use Rattle.rules_dictionary.specs.Table.{controlWord, statusWord, mode, modeDisplay, position, positionWindow, velocity, velocityWindow};
+ghost use Rattle.rules_dictionary.specs.Table.{velocityThreshold, targetPosition, limitCount, minimumPosition, maximumPosition, profileVelocity};
+ghost use Rattle.rules_dictionary.specs.Table.{profileAcceleration, profileDeceleration, targetVelocity, supportedModes, errorCode, dictionaryLength};
 ghost use Rattle.rules_dictionary.specs.Values.{read, store};
 
 // 1000h, device type.

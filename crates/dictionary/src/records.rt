@@ -6,7 +6,8 @@ use crate::values::write4;
 ghost use mathlib.Core.Path.{_≡_};
 ghost use Prim.Native.Nat.{_<_, _^_};
 ghost use lib.ListN.{length};
-ghost use Rattle.rules_dictionary.specs.Table.{communicationCount, identifier, transmissionType, mapCount, communicationPlace, mappingPlace, wordsPlace, dictionaryLength};
+ghost use Rattle.rules_dictionary.specs.Table.{communicationCount, identifier, transmissionType, mapCount, communicationPlace, mappingPlace};
+ghost use Rattle.rules_dictionary.specs.Table.{wordsPlace, dictionaryLength};
 ghost use Rattle.rules_dictionary.specs.Values.{read, store};
 ghost use Rattle.dictionary.specs.Sizes.{IsPdo};
 

@@ -1,18 +1,18 @@
 // The flat table of the rows, and the look-up.
-use crate::Access;
 use crate::Entry;
 use crate::Found;
-use crate::Presence;
-use crate::Role;
 use crate::places;
 use crate::records::communication_place;
 use crate::records::mapping_place;
+use rules_dictionary::Access;
+use rules_dictionary::Role;
 ghost use mathlib.Core.Path.{_≡_};
 ghost use mathlib.Core.List.{map};
 ghost use Prim.Native.Nat.{_-_, _<_, _≤_, _^_};
 ghost use Rattle.rules_dictionary.specs.Table.{table, entries, rowAt, placeOf, lookup};
-ghost use Rattle.dictionary.specs.Entries.{foundOf, presenceOf};
-ghost use Rattle.dictionary.specs.Lines.{lineOf, lastUpTo, accessIn, leastIn, greatestIn, roomOf, roleIn, PdoIn, communicationOffset, mappingOffset, sizesFrom, drivePlace, placeIn, entryIn, spotOf};
+ghost use Rattle.dictionary.specs.Entries.{IsFound};
+ghost use Rattle.dictionary.specs.Lines.{lineOf, LastUpTo, accessIn, leastIn, greatestIn, roomOf, roleIn, PdoIn, communicationOffset};
+ghost use Rattle.dictionary.specs.Lines.{mappingOffset, sizesFrom, drivePlace, placeIn, entryIn, spotOf};
 
 // What a line of the table holds: index and subindex, six digits, stand above one byte, ..
 const KEY: u32 = 0x100;
@@ -204,7 +204,7 @@ const NO_OBJECT: u64 = 0xFFFE;
 // is left is a power of two, whatever was found, so that the steps are always the same.
 fn last_up_to(rows: &[u32], key: u32) -> usize
     requires { ⌜ (now rows ≡ map lineOf table) × (key < 2 ^ 24) ⌝ }
-    ensures { λ r. ⌜ (r < entries) × (rowAt r ≡ lastUpTo key table) ⌝ }
+    ensures { λ r. ⌜ LastUpTo key r ⌝ }
 {
     let last_line = key * KEY + (KEY - 1);
     let mut rank: usize = 0;
@@ -418,23 +418,9 @@ fn entry_in(line: u32, place: u16) -> Entry
     }
 }
 
-// Whether there is an entry of that index and subindex; without one, whether the object is there.
-pub fn seek(index: u16, subindex: u8) -> Presence
-    ensures { λ r. ⌜ r ≡ presenceOf (lookup index subindex) ⌝ }
-{
-    let place = spot_of(index, subindex) % LINE;
-    if place == NO_OBJECT {
-        return Presence::NoObject;
-    }
-    if place == NO_SUBINDEX {
-        return Presence::NoSubindex;
-    }
-    Presence::Listed
-}
-
 // The entry of an index and subindex; without one, whether the object is there.
 pub fn find(index: u16, subindex: u8) -> Found
-    ensures { λ r. ⌜ r ≡ foundOf (lookup index subindex) ⌝ }
+    ensures { λ r. ⌜ IsFound index subindex r ⌝ }
 {
     let spot = spot_of(index, subindex);
     let place = spot % LINE;

@@ -8,7 +8,8 @@ use mathlib.Core.List.{List, [], _∷_, map}
 use lib.ListN.{replicate}
 use Rattle.rules_dictionary.specs.declared.Mode.the-variants.{NoMode, ProfilePosition, ProfileVelocity}
 use Rattle.drive.specs.declared.DriveState.{DriveState}
-use Rattle.drive.specs.declared.DriveState.the-variants.{NotReady, SwitchOnDisabled, ReadyToSwitchOn, SwitchedOn, OperationEnabled, QuickStopActive, FaultReactionActive, Fault}
+use Rattle.drive.specs.declared.DriveState.the-variants.{NotReady, SwitchOnDisabled, ReadyToSwitchOn, SwitchedOn, OperationEnabled}
+use Rattle.drive.specs.declared.DriveState.the-variants.{QuickStopActive, FaultReactionActive, Fault}
 use Rattle.drive.specs.declared.Command.{Command}
 use Rattle.drive.specs.declared.Command.the-variants.{None, FaultReset, DisableVoltage, QuickStop, Shutdown, SwitchOn, Enable}
 use Rattle.drive.specs.declared.SetPoint.{SetPoint}
@@ -16,7 +17,9 @@ use Rattle.drive.specs.declared.Store.{Store}
 use Rattle.drive.specs.declared.Store.the-variants.{Empty, Rested, Moving, Queued}
 use Rattle.drive.specs.declared.Drive.{Drive}
 use Rattle.rules_dictionary.specs.Numbers.{open-numbers}
-use Rattle.rules_dictionary.specs.Table.{controlWord, mode, position, positionWindow, targetPosition, minimumPosition, maximumPosition, velocity, velocityWindow, velocityThreshold, targetVelocity, profileVelocity, profileAcceleration, profileDeceleration, dictionaryLength, open-table}
+use Rattle.rules_dictionary.specs.Table.{controlWord, mode, position, positionWindow, targetPosition, minimumPosition, maximumPosition, velocity}
+use Rattle.rules_dictionary.specs.Table.{velocityWindow, velocityThreshold, targetVelocity, profileVelocity, profileAcceleration, profileDeceleration}
+use Rattle.rules_dictionary.specs.Table.{dictionaryLength, open-table}
 use Rattle.rules_dictionary.specs.Values.{Write, write, stored, open-values}
 use Rattle.drive.specs.DriveStates.{command, next, resets, open-drive-states}
 use Rattle.drive.specs.SetPoints.{offered, controlWritten, modeWritten, setPointRule, open-set-points}
@@ -39,11 +42,15 @@ row cause s = map (next cause s) commands
 
 -- each state: under no command, Fault reset, Disable voltage, Quick stop, Shutdown, Switch on, Enable
 drive-table : (row false NotReady ≡ replicate 7 NotReady)
-    × (row false SwitchOnDisabled ≡ SwitchOnDisabled ∷ SwitchOnDisabled ∷ SwitchOnDisabled ∷ SwitchOnDisabled ∷ ReadyToSwitchOn ∷ SwitchOnDisabled ∷ SwitchOnDisabled ∷ [])
-    × (row false ReadyToSwitchOn ≡ ReadyToSwitchOn ∷ ReadyToSwitchOn ∷ SwitchOnDisabled ∷ SwitchOnDisabled ∷ ReadyToSwitchOn ∷ SwitchedOn ∷ OperationEnabled ∷ [])
+    × (row false SwitchOnDisabled ≡ SwitchOnDisabled ∷ SwitchOnDisabled ∷ SwitchOnDisabled ∷ SwitchOnDisabled ∷ ReadyToSwitchOn ∷ SwitchOnDisabled
+    ∷ SwitchOnDisabled ∷ [])
+    × (row false ReadyToSwitchOn ≡ ReadyToSwitchOn ∷ ReadyToSwitchOn ∷ SwitchOnDisabled ∷ SwitchOnDisabled ∷ ReadyToSwitchOn ∷ SwitchedOn
+    ∷ OperationEnabled ∷ [])
     × (row false SwitchedOn ≡ SwitchedOn ∷ SwitchedOn ∷ SwitchOnDisabled ∷ SwitchOnDisabled ∷ ReadyToSwitchOn ∷ SwitchedOn ∷ OperationEnabled ∷ [])
-    × (row false OperationEnabled ≡ OperationEnabled ∷ OperationEnabled ∷ SwitchOnDisabled ∷ QuickStopActive ∷ ReadyToSwitchOn ∷ SwitchedOn ∷ OperationEnabled ∷ [])
-    × (row false QuickStopActive ≡ QuickStopActive ∷ QuickStopActive ∷ SwitchOnDisabled ∷ QuickStopActive ∷ QuickStopActive ∷ QuickStopActive ∷ OperationEnabled ∷ [])
+    × (row false OperationEnabled ≡ OperationEnabled ∷ OperationEnabled ∷ SwitchOnDisabled ∷ QuickStopActive ∷ ReadyToSwitchOn ∷ SwitchedOn
+    ∷ OperationEnabled ∷ [])
+    × (row false QuickStopActive ≡ QuickStopActive ∷ QuickStopActive ∷ SwitchOnDisabled ∷ QuickStopActive ∷ QuickStopActive ∷ QuickStopActive
+    ∷ OperationEnabled ∷ [])
     × (row false FaultReactionActive ≡ replicate 7 FaultReactionActive)
     × (row false Fault ≡ Fault ∷ SwitchOnDisabled ∷ Fault ∷ Fault ∷ Fault ∷ Fault ∷ Fault ∷ [])
     × (row true Fault ≡ replicate 7 Fault)
@@ -90,7 +97,8 @@ targets-taken = (refl, refl, refl, refl, refl, refl)
 
 -- "with bit 5 zero and Queued, not taken": no mark moves, even with a target outside
 queue-full : (offered (bench []) 0x1F (drive (Queued (other 1) (other 2)) false false) ≡ drive (Queued (other 1) (other 2)) false false)
-    × (offered (bench (write targetPosition 2000 ∷ [])) 0x1F (drive (Queued (other 1) (other 2)) false false) ≡ drive (Queued (other 1) (other 2)) false false)
+    × (offered (bench (write targetPosition 2000 ∷ [])) 0x1F (drive (Queued (other 1) (other 2)) false false)
+    ≡ drive (Queued (other 1) (other 2)) false false)
 unfolding open-edges
 queue-full = (refl, refl)
 
@@ -103,7 +111,8 @@ unfolding open-edges
 limits-count = (refl, refl, refl, refl)
 
 -- no sum wraps: 2^31-1 plus 1, with the widest limits, is outside
-nothing-wraps : offered (bench (write minimumPosition 0x80000000 ∷ write maximumPosition 0x7FFFFFFF ∷ write targetPosition 1 ∷ [])) 0x5F (drive (Rested 0x7FFFFFFF) false false)
+nothing-wraps : offered (bench (write minimumPosition 0x80000000 ∷ write maximumPosition 0x7FFFFFFF ∷ write targetPosition 1 ∷ [])) 0x5F
+    (drive (Rested 0x7FFFFFFF) false false)
     ≡ drive (Rested 0x7FFFFFFF) false true
 unfolding open-edges
 nothing-wraps = refl
@@ -139,7 +148,8 @@ leaving-empties = (refl, refl, refl)
 idle : Drive
 idle = record { state = SwitchOnDisabled; mode = NoMode; store = Empty; taken = false; limit = false; cause = false }
 
-voltage-and-remote : (status true false idle (bench []) ≡ 0x0240) × (status true true idle (bench []) ≡ 0x0250) × (status false true idle (bench []) ≡ 0x0050)
+voltage-and-remote : (status true false idle (bench []) ≡ 0x0240) × (status true true idle (bench []) ≡ 0x0250)
+    × (status false true idle (bench []) ≡ 0x0050)
 unfolding idle open-edges
 voltage-and-remote = (refl, refl, refl)
 
@@ -156,12 +166,14 @@ acknowledge = (refl, refl, refl, refl)
 -- bit 10 in mode 1: the window's ends count (40 and 60 about 50); of two the first is active; Rested always, Empty never
 window-ends-count : (word [] (Moving (point 60)) false false ≡ 0x0637) × (word [] (Moving (point 61)) false false ≡ 0x0237)
     × (word [] (Moving (point 40)) false false ≡ 0x0637) × (word [] (Moving (point 39)) false false ≡ 0x0237)
-    × (word [] (Queued (point 50) (point 900)) false false ≡ 0x1637) × (word [] (Rested 900) false false ≡ 0x0637) × (word [] Empty false false ≡ 0x0237)
+    × (word [] (Queued (point 50) (point 900)) false false ≡ 0x1637) × (word [] (Rested 900) false false ≡ 0x0637)
+    × (word [] Empty false false ≡ 0x0237)
 unfolding word open-edges
 window-ends-count = (refl, refl, refl, refl, refl, refl, refl)
 
 -- with bit 8 of 6040h: standing still, whatever the store holds
-halted : (word (write controlWord 0x10F ∷ []) Empty false false ≡ 0x0637) × (word (write controlWord 0x10F ∷ write velocity 1 ∷ []) (Rested 900) false false ≡ 0x0237)
+halted : (word (write controlWord 0x10F ∷ []) Empty false false ≡ 0x0637)
+    × (word (write controlWord 0x10F ∷ write velocity 1 ∷ []) (Rested 900) false false ≡ 0x0237)
 unfolding word open-edges
 halted = (refl, refl)
 
@@ -171,13 +183,15 @@ turning ws =
     status true true (record { state = OperationEnabled; mode = ProfileVelocity; store = Empty; taken = false; limit = false; cause = false })
     (bench (write velocityThreshold 5 ∷ write velocityWindow 2 ∷ write targetVelocity 10 ∷ ws))
 
-velocity-bits : (turning (write velocity 5 ∷ []) ≡ 0x1237) × (turning (write velocity 6 ∷ []) ≡ 0x0237) × (turning (write velocity 0xFFFFFFFB ∷ []) ≡ 0x1237)
+velocity-bits : (turning (write velocity 5 ∷ []) ≡ 0x1237) × (turning (write velocity 6 ∷ []) ≡ 0x0237)
+    × (turning (write velocity 0xFFFFFFFB ∷ []) ≡ 0x1237)
     × (turning (write velocity 8 ∷ []) ≡ 0x0637) × (turning (write velocity 7 ∷ []) ≡ 0x0237) × (turning (write velocity 12 ∷ []) ≡ 0x0637)
     × (turning (write velocity 0x80000000 ∷ []) ≡ 0x0237)
 unfolding turning open-edges
 velocity-bits = (refl, refl, refl, refl, refl, refl, refl)
 
 -- "Enabled only": a limit mark or a window shows in no other state
-enabled-only : status true true (record { state = SwitchedOn; mode = ProfilePosition; store = Rested 50; taken = true; limit = true; cause = false }) (bench []) ≡ 0x0233
+enabled-only : status true true (record { state = SwitchedOn; mode = ProfilePosition; store = Rested 50; taken = true; limit = true; cause = false })
+    (bench []) ≡ 0x0233
 unfolding open-edges
 enabled-only = refl

@@ -9,7 +9,8 @@ use lib.Dec.{leb}
 use lib.IntN.{natAbs, +ℤ-idr}
 use Rattle.rules_dictionary.specs.Numbers.{integer}
 use Rattle.drive.specs.declared.DriveState.{DriveState}
-use Rattle.drive.specs.declared.DriveState.the-variants.{NotReady, SwitchOnDisabled, ReadyToSwitchOn, SwitchedOn, OperationEnabled, QuickStopActive, FaultReactionActive, Fault}
+use Rattle.drive.specs.declared.DriveState.the-variants.{NotReady, SwitchOnDisabled, ReadyToSwitchOn, SwitchedOn, OperationEnabled}
+use Rattle.drive.specs.declared.DriveState.the-variants.{QuickStopActive, FaultReactionActive, Fault}
 use Rattle.drive.specs.declared.Drive.{Drive}
 use Rattle.drive.specs.DriveStates.{isEnabled, stateWord}
 use Rattle.drive.specs.StatusWord.{shown, within, ackInMode, reachedInMode, enabledBits, status}

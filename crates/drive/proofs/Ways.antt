@@ -17,7 +17,8 @@ use Rattle.drive.specs.declared.Store.{Store}
 use Rattle.drive.specs.declared.Store.the-variants.{Moving}
 use Rattle.drive.specs.declared.Drive.{Drive}
 use Rattle.drive.specs.declared.Aim.the-variants.{At, Outside}
-use Rattle.drive.specs.SetPoints.{newSetPointBit, atOnceBit, relativeBit, withStore, withMarks, positions, isQueued, lastTarget, behind, target, withinLimits, setPoint, take, offered, setPointRule}
+use Rattle.drive.specs.SetPoints.{newSetPointBit, atOnceBit, relativeBit, withStore, withMarks, positions, isQueued, lastTarget, behind, target}
+use Rattle.drive.specs.SetPoints.{withinLimits, setPoint, offered, setPointRule, withTaken}
 use Rattle.drive.specs.Words.{aimed, aimOf, setPointTo}
 
 -- ---- through a test
@@ -56,12 +57,12 @@ aim-of-words d word held relative here start step low high er eh es et el eg =
 -- ---- the edge of bit 4
 
 module _ (word : ℕ) (a : SetPoint) (v : Drive) where
-  pub take-at-once : bit atOnceBit word ≡ true → withMarks true false (withStore (Moving a) v) ≡ take word a v
-  unfolding take
+  pub take-at-once : bit atOnceBit word ≡ true → withMarks true false (withStore (Moving a) v) ≡ withTaken word a v
+  unfolding withTaken
   take-at-once e = rw e
 
-  pub take-behind : bit atOnceBit word ≡ false → withMarks true false (withStore (behind (v .store) a) v) ≡ take word a v
-  unfolding take
+  pub take-behind : bit atOnceBit word ≡ false → withMarks true false (withStore (behind (v .store) a) v) ≡ withTaken word a v
+  unfolding withTaken
   take-behind e = rw e
 
 -- `once` and `none` are the code's flags: bit 5, and that there is no room
@@ -80,22 +81,23 @@ module _ (d : List ℕ) (word : ℕ) (v : Drive) (once none : Bool) (eo : once �
   unfolding offered
   offered-full e = where-true full _ _ (full-is e)
 
-  pub offered-at : none ≡ false → (w : ℕ) → At w ≡ aimOf d word (v .store) → take word (setPointTo d w) v ≡ offered d word v
+  pub offered-at : none ≡ false → (w : ℕ) → At w ≡ aimOf d word (v .store) → withTaken word (setPointTo d w) v ≡ offered d word v
   unfolding offered aimOf aimed withinLimits setPoint setPointTo
   offered-at e w h =
-      where-at fits w (ofZ w32 (target d word (v .store))) (λ x. take word (setPointTo d x) v) _ h ∙ where-false full _ _ (full-is e)
+      where-at fits w (ofZ w32 (target d word (v .store))) (λ x. withTaken word (setPointTo d x) v) _ h ∙ where-false full _ _ (full-is e)
 
   pub offered-outside : none ≡ false → Outside ≡ aimOf d word (v .store) → withMarks (v .taken) true v ≡ offered d word v
   unfolding offered aimOf aimed withinLimits setPoint setPointTo
   offered-outside e h =
-      where-outside fits (ofZ w32 (target d word (v .store))) (λ x. take word (setPointTo d x) v) _ h ∙ where-false full _ _ (full-is e)
+      where-outside fits (ofZ w32 (target d word (v .store))) (λ x. withTaken word (setPointTo d x) v) _ h ∙ where-false full _ _ (full-is e)
 
 module _ (d : List ℕ) (old word : ℕ) (v : Drive) where
   pub rule-falls : bit newSetPointBit word ≡ false → withMarks false (v .limit) v ≡ setPointRule d old word v
   unfolding setPointRule
   rule-falls e = rw e
 
-  pub rule-offers : bit newSetPointBit word ≡ true → bit newSetPointBit old ≡ false → positions v ≡ true → offered d word v ≡ setPointRule d old word v
+  pub rule-offers : bit newSetPointBit word ≡ true → bit newSetPointBit old ≡ false → positions v ≡ true → offered d word v
+      ≡ setPointRule d old word v
   unfolding setPointRule
   rule-offers e f p = rw (e, f, p)
 

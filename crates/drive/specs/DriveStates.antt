@@ -3,7 +3,8 @@
 use Prim.Native.Nat.{ℕ}
 use mathlib.Core.Bool.{Bool, true, false, cond, not, _&&_, _||_}
 use Rattle.drive.specs.declared.DriveState.{DriveState}
-use Rattle.drive.specs.declared.DriveState.the-variants.{NotReady, SwitchOnDisabled, ReadyToSwitchOn, SwitchedOn, OperationEnabled, QuickStopActive, FaultReactionActive, Fault}
+use Rattle.drive.specs.declared.DriveState.the-variants.{NotReady, SwitchOnDisabled, ReadyToSwitchOn, SwitchedOn, OperationEnabled}
+use Rattle.drive.specs.declared.DriveState.the-variants.{QuickStopActive, FaultReactionActive, Fault}
 use Rattle.drive.specs.declared.Command.{Command}
 use Rattle.drive.specs.declared.Command.the-variants.{None, FaultReset, DisableVoltage, QuickStop, Shutdown, SwitchOn, Enable}
 use Rattle.rules_dictionary.specs.Numbers.{bit}

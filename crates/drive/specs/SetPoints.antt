@@ -17,7 +17,8 @@ use Rattle.drive.specs.declared.Store.the-variants.{Empty, Rested, Movin
 use Rattle.drive.specs.declared.Drive.{Drive}
 use Rattle.drive.specs.declared.Controlled.{Controlled}
 use Rattle.rules_dictionary.specs.Numbers.{bit, integer}
-use Rattle.rules_dictionary.specs.Table.{controlWord, mode, position, targetPosition, minimumPosition, maximumPosition, profileVelocity, profileAcceleration, profileDeceleration}
+use Rattle.rules_dictionary.specs.Table.{controlWord, mode, position, targetPosition, minimumPosition, maximumPosition, profileVelocity}
+use Rattle.rules_dictionary.specs.Table.{profileAcceleration, profileDeceleration}
 use Rattle.rules_dictionary.specs.Values.{read}
 use Rattle.rules_dictionary.specs.Legal.{modeNumber}
 use Rattle.drive.specs.DriveStates.{isEnabled, command, next, resets}
@@ -120,11 +121,16 @@ withinLimits d t = leZ (integer (read d minimumPosition)) t && leZ t (integer (r
 -- "taken with 6081h, 6083h, 6084h"
 unfoldable pub setPoint : List ℕ → ℤ → SetPoint
 setPoint d t =
-    record { target = ofZ w32 t; velocity = read d profileVelocity; acceleration = read d profileAcceleration; deceleration = read d profileDeceleration }
+    record {
+      target = ofZ w32 t;
+      velocity = read d profileVelocity;
+      acceleration = read d profileAcceleration;
+      deceleration = read d profileDeceleration;
+    }
 
 -- "bit 5 replaces all, else Moving, or Queued behind one. Taken sets the taken mark and clears the limit mark"
-unfoldable pub take : ℕ → SetPoint → Drive → Drive
-take word a v =
+unfoldable pub withTaken : ℕ → SetPoint → Drive → Drive
+withTaken word a v =
     withMarks true false (withStore (cond (bit atOnceBit word) (Moving a) (behind (v .store) a)) v)
 
 -- "with bit 5 zero and Queued, not taken; .. outside 607Dh or i32, not taken, limit mark set. Otherwise taken"
@@ -132,7 +138,7 @@ unfoldable pub offered : List ℕ → ℕ → Drive → Drive
 offered d word v =
     let t = target d word (v .store) in
     cond (not (bit atOnceBit word) && isQueued (v .store)) v
-    (cond (withinLimits d t) (take word (setPoint d t) v) (withMarks (v .taken) true v))
+    (cond (withinLimits d t) (withTaken word (setPoint d t) v) (withMarks (v .taken) true v))
 
 -- "if enabled in mode 1 and bit 4 rose against the old 6040h"; "bit 4 zero clears the taken mark"
 unfoldable pub setPointRule : List ℕ → ℕ → ℕ → Drive → Drive
@@ -164,5 +170,5 @@ controlWritten d old v =
 
 -- opens every definition of this module, where a proof computes
 unfoldable pub open-set-points : Unit {0}
-unfolding emptied target withinLimits setPoint take offered setPointRule enters modeWritten controlWritten
+unfolding emptied target withinLimits setPoint withTaken offered setPointRule enters modeWritten controlWritten
 open-set-points = tt

@@ -4,7 +4,7 @@ ghost use mathlib.Core.Path.{_≡_};
 ghost use mathlib.Core.Bool.{true, false, cond, not, _&&_};
 ghost use lib.ListN.{length};
 ghost use Rattle.rules_dictionary.specs.Table.{dictionaryLength};
-ghost use Rattle.drive.specs.SetPoints.{withState, withMode, withCause, withStore, withMarks, isPosition, positions, emptied, isEmpty, isQueued, isMoving, lastTarget, behind, reached, take, offered, setPointRule, enters, modeOf, modeWritten, controlWritten};
+ghost use Rattle.drive.specs.SetPoints.{withState, withMode, withCause, withStore, withMarks, isPosition, positions, emptied, isEmpty, isQueued, isMoving, lastTarget, behind, reached, offered, setPointRule, enters, modeOf, modeWritten, controlWritten, withTaken};
 ghost use Rattle.drive.specs.Words.{aimOf, setPointTo};
 use crate::Aim;
 use crate::Controlled;
@@ -293,7 +293,7 @@ impl Drive {
 
     // "bit 5 replaces all, else Moving, or Queued behind one".
     fn take(self, word: u16, p: SetPoint) -> Drive
-        ensures { λ r. ⌜ r ≡ take word p self ⌝ }
+        ensures { λ r. ⌜ r ≡ withTaken word p self ⌝ }
     {
         let held = self.store;
         if has(word, AT_ONCE) {

@@ -10,7 +10,7 @@ use Rattle.state.specs.declared.State.{State}
 use Rattle.rules_dictionary.specs.Table.{Row, table, pdos}
 use Rattle.rules_dictionary.specs.Values.{read, stored}
 use Rattle.rules_dictionary.specs.Plans.{mapped, planFor, plansOf, readyOf}
-use Rattle.rules_dictionary.proofs.Tests.{In, here, there}
+use Rattle.rules_dictionary.specs.Members.{In, here, there}
 use Rattle.rules_services.specs.Effects.{Effect, isOperational}
 use Rattle.rules.specs.Outcome.{End, ended, settled, statusOf, paceFor, enters, changes, transmissions}
 use Rattle.rules_services.specs.PdoTraffic.{works}

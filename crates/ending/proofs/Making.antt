@@ -17,7 +17,8 @@ use Rattle.rules_dictionary.specs.Values.{read, store}
 use Rattle.rules_dictionary.specs.Aborts.{isGood}
 use Rattle.rules_dictionary.specs.Legal.{modeNumber, entryVerdict, isBelow, isAbove, badChoice}
 use Rattle.rules_dictionary.specs.Plans.{mapped, planFor, readyFor, readyOf}
-use Rattle.rules_dictionary.proofs.Tests.{In, each-in, and-left, and-right, and-both}
+use Rattle.rules_dictionary.specs.Members.{In}
+use Rattle.rules_dictionary.proofs.Tests.{each-in, and-left, and-right, and-both}
 use Rattle.rules_dictionary.proofs.Packing.{within}
 use Rattle.rules_dictionary.proofs.Members.{all-of, count-in}
 use Rattle.drive.specs.StatusWord.{status}

@@ -14,7 +14,7 @@ use Rattle.state.specs.declared.State.{State}
 use Rattle.rules_dictionary.specs.Table.{eachWay}
 use Rattle.rules_dictionary.specs.Legal.{isCyclic}
 use Rattle.rules_dictionary.specs.Plans.{readyOf}
-use Rattle.rules_dictionary.proofs.Tests.{In, here, there}
+use Rattle.rules_dictionary.specs.Members.{In, here, there}
 use Rattle.rules_services.specs.Effects.{Frame, isOperational}
 use Rattle.rules_services.specs.PdoTraffic.{Pace, pace, works, typeOf, noData}
 use Rattle.rules_services.specs.Nmt.{noCounts, noneDue}

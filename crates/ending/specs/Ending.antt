@@ -16,7 +16,7 @@ use Rattle.rules_dictionary.specs.Table.{dictionaryLength, eachWay, identifier,
 use Rattle.rules_dictionary.specs.Values.{read, store}
 use Rattle.rules_dictionary.specs.Legal.{isValid, isCyclic, modeNumber}
 use Rattle.rules_dictionary.specs.Plans.{mapped, planFor, plansOf, readyOf}
-use Rattle.rules_dictionary.proofs.Tests.{In}
+use Rattle.rules_dictionary.specs.Members.{In}
 use Rattle.drive.specs.StatusWord.{status}
 use Rattle.rules_services.specs.Effects.{Frame, isStopped, isOperational}
 use Rattle.rules_services.specs.PdoTraffic.{Pace, pace, paceOf, works, typeOf, transmitted, noneHeld}

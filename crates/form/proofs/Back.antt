@@ -18,7 +18,8 @@ use Rattle.rules_dictionary.specs.declared.PdoData.{PdoData}
 use Rattle.rules_dictionary.specs.Numbers.{value, bytes, part}
 use Rattle.rules_dictionary.specs.Table.{eachWay, mostMoves}
 use Rattle.rules_dictionary.specs.Legal.{modeNumber}
-use Rattle.rules_dictionary.proofs.Tests.{and-both, Each}
+use Rattle.rules_dictionary.specs.Members.{Each}
+use Rattle.rules_dictionary.proofs.Tests.{and-both}
 use Rattle.drive.specs.declared.DriveState.{DriveState}
 use Rattle.drive.specs.declared.DriveState.the-variants.{NotReady, SwitchOnDisabled, ReadyToSwitchOn, SwitchedOn, OperationEnabled, QuickStopActive, FaultReactionActive, Fault}
 use Rattle.drive.specs.declared.SetPoint.{SetPoint}
@@ -30,7 +31,7 @@ use Rattle.state.specs.declared.NmtState.{NmtState}
 use Rattle.state.specs.declared.NmtState.the-variants.{PreOperational, Operational, Stopped}
 use Rattle.state.specs.declared.Node.{Node}
 use Rattle.state.specs.declared.State.{State}
-use Rattle.dictionary.proofs.Bytes.{value-bytes}
+use Rattle.rules_dictionary.proofs.Rows.{value-bytes}
 use Rattle.form.specs.Form.{flagNumber, flagOf, nmtNumber, nmtOf, stateNumber, driveStateOf, each, joined, nodeForm, nodeAt, setPointForm, setPointAt, storeKind, firstOf, secondOf, storeForm, storeAt, driveForm, driveAt, dataForm, dataAt, half, moveForm, moveAt, planForm, planAt, headForm, form, stateOf, nmtOffset, voltageOffset, heartbeatOffset, nodeLength, velocityOffset, accelerationOffset, decelerationOffset, setPointLength, modeOffset, takenOffset, limitOffset, causeOffset, storeOffset, driveLength, dataLength, moveLength, planLength, nodePlace, drivePlace, storePlace, readyPlace, heldPlace, countsPlace, duePlace, plansPlace}
 use Rattle.form.specs.Own.{ownFlag, nodeOwn, sameSetPoint, storeOwn, driveOwn, every, dueOwn, small, planOwn, plansOwn, isOwn}
 use Rattle.form.specs.Typed.{Many, SetPointTyped, StoreTyped, DataTyped, MoveTyped, PlanTyped, Typed}

@@ -12,7 +12,8 @@ use lib.ListN.{length, getD, drop}
 use lib.Seq.{drop-at}
 use Rattle.rules_dictionary.specs.Numbers.{value, bytes, part}
 use Rattle.rules_dictionary.specs.Table.{eachWay, mostMoves}
-use Rattle.rules_dictionary.proofs.Tests.{and-left, and-right, Each}
+use Rattle.rules_dictionary.specs.Members.{Each}
+use Rattle.rules_dictionary.proofs.Tests.{and-left, and-right}
 use Rattle.drive.specs.declared.SetPoint.{SetPoint}
 use Rattle.drive.specs.declared.Store.the-variants.{Empty, Rested, Moving, Queued}
 use Rattle.state.specs.declared.State.{State}

@@ -9,14 +9,14 @@ use mathlib.Core.List.{List, [], _∷_, _++_, map}
 use borrow.Author.Count.{below-more}
 use lib.ListN.{length, getD, set, take, drop, length-append, length-drop, length-map, drop-of-length-le}
 use lib.Seq.{sets, sets-eq, length-sets, drop-cons, take-all}
-use Rattle.rules_dictionary.proofs.Tests.{Each}
+use Rattle.rules_dictionary.specs.Members.{Each}
 use Rattle.rules_dictionary.specs.Numbers.{bytes}
 use Rattle.rules_dictionary.specs.Table.{eachWay}
 use Rattle.rules_dictionary.specs.declared.Move.{Move}
 use Rattle.rules_dictionary.specs.declared.PdoData.{PdoData}
 use Rattle.rules_dictionary.specs.declared.Plan.{Plan}
 use Rattle.rules.specs.Outcome.{mostData}
-use Rattle.dictionary.proofs.Bytes.{part-same}
+use Rattle.rules_dictionary.proofs.Rows.{part-same}
 use Rattle.drive.specs.declared.SetPoint.{SetPoint}
 use Rattle.drive.specs.declared.Store.{Store}
 use Rattle.drive.specs.declared.Drive.{Drive}

@@ -11,7 +11,7 @@ use Rattle.drive.specs.declared.SetPoint.{SetPoint}
 use Rattle.drive.specs.declared.Store.{Store}
 use Rattle.state.specs.declared.State.{State}
 use Rattle.rules_dictionary.specs.Table.{eachWay, mostMoves}
-use Rattle.rules_dictionary.proofs.Tests.{Each}
+use Rattle.rules_dictionary.specs.Members.{Each}
 use Rattle.rules.specs.Outcome.{mostData}
 use Rattle.form.specs.Form.{half, firstOf, secondOf}
 

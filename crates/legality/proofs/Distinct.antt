@@ -7,7 +7,8 @@ use mathlib.Core.List.{List, [], _∷_, _++_, map}
 use borrow.Author.Tests.{eq-eqb}
 use lib.Dec.{eqb}
 use Rattle.rules_dictionary.specs.Numbers.{all}
-use Rattle.rules_dictionary.proofs.Tests.{and-left, and-right, and-both, In, here, there, all-in}
+use Rattle.rules_dictionary.specs.Members.{In, here, there}
+use Rattle.rules_dictionary.proofs.Tests.{and-left, and-right, and-both, all-in}
 use Rattle.rules_dictionary.proofs.Members.{in-map}
 use Rattle.theorems.proofs.Booleans.{clash, not-false, false-not, eqb-comm}
 use Rattle.legality.specs.Keys.{isOther, distinct, fourPass, fourDiffer, eightDiffer}

@@ -12,7 +12,8 @@ use Rattle.rules_dictionary.specs.Numbers.{all, areBytes}
 use Rattle.rules_dictionary.specs.Table.{pdos, receivePdos, transmitPdos, identifier, dictionaryLength}
 use Rattle.rules_dictionary.specs.Values.{read}
 use Rattle.rules_dictionary.specs.Legal.{isValid, frameIdentifier, identifiers, badIdentifier}
-use Rattle.rules_dictionary.proofs.Tests.{and-left, and-right, and-both, In, all-in}
+use Rattle.rules_dictionary.specs.Members.{In}
+use Rattle.rules_dictionary.proofs.Tests.{and-left, and-right, and-both, all-in}
 use Rattle.rules_dictionary.proofs.Packing.{within}
 use Rattle.rules_dictionary.proofs.Rows.{read-fits}
 use Rattle.rules_dictionary.proofs.Members.{all-of, in-map, identifier-in}

@@ -12,7 +12,8 @@ use Rattle.rules_dictionary.specs.Numbers.{all, areBytes}
 use Rattle.rules_dictionary.specs.Table.{Row, table, nodeRows, driveRows, receivePdos, transmitPdos, communicationRows, mappingRows, eachWay, sizeOf, largest, isConstant, dictionaryLength}
 use Rattle.rules_dictionary.specs.Values.{Write, write, read, defaultOf}
 use Rattle.rules_dictionary.specs.Legal.{isBelow, isAbove, badChoice}
-use Rattle.rules_dictionary.proofs.Tests.{and-both, In, here, there}
+use Rattle.rules_dictionary.specs.Members.{In, here, there}
+use Rattle.rules_dictionary.proofs.Tests.{and-both}
 use Rattle.rules_dictionary.proofs.Packing.{within}
 use Rattle.rules_dictionary.proofs.Rows.{read-fits}
 use Rattle.rules_dictionary.proofs.Members.{unpacked-table}

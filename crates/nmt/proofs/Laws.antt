@@ -14,12 +14,11 @@ use Rattle.drive.specs.declared.Drive.{Drive}
 use Rattle.rules_dictionary.specs.declared.PdoData.{PdoData}
 use Rattle.rules_dictionary.specs.Numbers.{filter}
 use Rattle.rules_dictionary.specs.Plans.{pdoData}
-use Rattle.rules_dictionary.specs.Table.{table, heartbeatTime}
+use Rattle.rules_dictionary.specs.Table.{table, heartbeatTime, isReset}
 use Rattle.rules_dictionary.specs.Values.{read, stored, toDefaults}
 use Rattle.rules_services.specs.Effects.{Frame, frame, becomes, sends, isPreOperational, isOperational, withHeld, withPacing, withNmt, withHeartbeat}
 use Rattle.rules_services.specs.PdoTraffic.{noneHeld}
-use Rattle.rules_services.specs.Nmt.{isReset, left, noCounts, noneDue, voltageDisabled, start, enterPreOperational, resetCommunication, commandOf, commanded, bootUp, heartbeat, heartbeatBase, stateByte, tick}
-use Rattle.dictionary.specs.Communication.{communicationObjects}
+use Rattle.rules_services.specs.Nmt.{left, noCounts, noneDue, voltageDisabled, start, enterPreOperational, resetCommunication, commandOf, commanded, bootUp, heartbeat, heartbeatBase, stateByte, tick}
 use Rattle.output.specs.Laying.{IsData, frameOf, emitted}
 use Rattle.output.proofs.Laws.{is-data, frame-of-data}
 use Rattle.effects.specs.declared.Parts.{Parts}
@@ -80,12 +79,7 @@ goes-there s t r e f g = rw (e, ← f) (ap becomes g)
 
 -- ---- 82h
 
--- THE LAW: the objects that 82h sets back
-pub reset-rows : filter isReset table ≡ communicationObjects
-unfolding isReset table communicationObjects
-reset-rows = refl
-
-pub resets : (s : State) (v : Drive) (h : List PdoData) (k : ℕ) (d o d′ o′ : List ℕ) → d′ ≡ stored (toDefaults (s .node .id) communicationObjects) d →
+pub resets : (s : State) (v : Drive) (h : List PdoData) (k : ℕ) (d o d′ o′ : List ℕ) → d′ ≡ stored (toDefaults (s .node .id) (filter isReset table)) d →
     (k ≡ 1) × (o′ ≡ emitted 0 (bootUp (s .node .id)) o) → v ≡ disabled (s .axis .drive) → h ≡ noneHeld →
     Renewed (commanded resetCommunication s) d o
     (record {
@@ -106,7 +100,7 @@ resets s v h k d o d′ o′ w b e f =
       remapped = refl;
       synced = refl;
       quiet = refl;
-      dictionary = rw (append-nil, reset-rows) w;
+      dictionary = rw append-nil w;
       output = b .1;
     }
 

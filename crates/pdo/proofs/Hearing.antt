@@ -12,7 +12,7 @@ use Rattle.state.specs.declared.NmtState.the-variants.{Operational}
 use Rattle.rules_dictionary.specs.Table.{eachWay, receivePdos, identifier, mapCount}
 use Rattle.rules_dictionary.specs.Values.{read}
 use Rattle.rules_dictionary.specs.Legal.{isValid, frameIdentifier}
-use Rattle.rules_dictionary.proofs.Tests.{In, here, there}
+use Rattle.rules_dictionary.specs.Members.{In, here, there}
 use Rattle.rules_services.specs.Effects.{Effect, becomes, isOperational}
 use Rattle.rules_services.specs.PdoTraffic.{works, listens, received, receivedBy}
 use Rattle.theorems.proofs.Writes.{idle}

@@ -15,8 +15,9 @@ use Rattle.rules_dictionary.specs.declared.PdoData.{PdoData}
 use Rattle.rules_dictionary.specs.Table.{Row, table, eachWay, receivePdos, transmitPdos, errorRegister, controlWord, mode, heartbeatTime}
 use Rattle.rules_dictionary.specs.Values.{Write, write, read, stored, unpacked}
 use Rattle.rules_dictionary.specs.Plans.{mapped}
-use Rattle.rules_dictionary.proofs.Tests.{In, none-in}
-use Rattle.rules_dictionary.proofs.Members.{in-append, in-left}
+use Rattle.rules_dictionary.specs.Members.{In}
+use Rattle.rules_dictionary.proofs.Tests.{none-in}
+use Rattle.rules_dictionary.proofs.Members.{in-append, in-left, in-cons}
 use Rattle.rules_dictionary.proofs.Rows.{length-stored}
 use Rattle.drive.specs.SetPoints.{modeWritten, controlWritten}
 use Rattle.drive.specs.declared.Controlled.{Controlled}
@@ -27,7 +28,6 @@ use Rattle.rules_services.specs.PdoTraffic.{noData, isHeld, release, releaseAll
 use Rattle.rules.specs.Outcome.{frameSize, mostFrames}
 use Rattle.theorems.proofs.Alike.{isPdo, mapped-in, mapped-alike}
 use Rattle.theorems.proofs.Mapped.{unpacked-rows}
-use Rattle.theorems.proofs.NmtKept.{in-cons}
 use Rattle.theorems.proofs.Writes.{InTable, NoPdo, no-pdo-alike, register-in, stored-append}
 use Rattle.output.specs.Laying.{emitted}
 use Rattle.output.proofs.Laws.{emitted-then, emitted-none}

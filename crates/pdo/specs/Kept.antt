@@ -10,7 +10,7 @@ use Rattle.rules_dictionary.specs.declared.Plan.{Plan}
 use Rattle.rules_dictionary.specs.TheNode.{lastNode}
 use Rattle.rules_dictionary.specs.Table.{dictionaryLength, eachWay, receivePdos}
 use Rattle.rules_dictionary.specs.Plans.{mapped}
-use Rattle.rules_dictionary.proofs.Tests.{In}
+use Rattle.rules_dictionary.specs.Members.{In}
 use Rattle.rules.specs.Calls.{outputLength}
 use Rattle.transfer.proofs.Laws.{Receives}
 use Rattle.effects.specs.declared.Parts.{Parts}

@@ -18,14 +18,14 @@ use Rattle.rules_dictionary.specs.Values.{read, unpacked}
 use Rattle.rules_dictionary.specs.Aborts.{isGood, good, bad, firstOf, notMappable, overLength}
 use Rattle.rules_dictionary.specs.Legal.{entryVerdict, countVerdict, mapWords, mostBits}
 use Rattle.rules_dictionary.specs.Plans.{andThen, targets, mapped, move, noMove, planFor}
-use Rattle.rules_dictionary.proofs.Tests.{and-left, and-right, all-in}
+use Rattle.rules_dictionary.proofs.Tests.{and-left, and-right, all-in, or-right, or-none}
 use Rattle.rules_dictionary.proofs.Members.{pdo-in}
 use Rattle.dictionary.specs.Sizes.{IsPdo}
 use Rattle.rules.specs.Outcome.{sameBy, sameMove, samePlan, mostData}
 use Rattle.rules.specs.Sound.{mappingLegal}
 use Rattle.plans.specs.Words.{wordMove, wayOf}
 use Rattle.plans.specs.Slots.{wordsFrom, slotSound, slotsSound}
-use Rattle.plans.proofs.Naming.{Names, facts, one-or-none, names-one, names-none, or-right, or-none, verdict}
+use Rattle.plans.proofs.Naming.{Names, facts, one-or-none, names-one, names-none, verdict}
 
 -- ---- tests in another order
 

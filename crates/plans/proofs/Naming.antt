@@ -10,33 +10,15 @@ use borrow.Author.Tests.{eqb-true, eqb-false, eq-eqb, ne-eqb, not-true}
 use lib.Arith.{mod-mul}
 use lib.Dec.{eqb, lit<}
 use Rattle.rules_dictionary.specs.Numbers.{all, filter}
-use Rattle.rules_dictionary.specs.Table.{Row, ValueType, u8, u16, u32, i8, i32, size, table, sizeOf, Direction, receive, transmit, directionOf, mappingWord, wordIndex, wordSubindex, wordLength, Found, found, noObject, noSubindex, search, lookup, open-table}
+use Rattle.rules_dictionary.specs.Table.{Row, ValueType, u8, u16, u32, i8, i32, size, table, sizeOf, Direction, receive, transmit, directionOf, mappingWord, wordIndex, wordSubindex, wordLength, Found, found, noObject, noSubindex, lookup, open-table}
 use Rattle.rules_dictionary.specs.Aborts.{good, bad, isGood, firstOf, notMappable}
 use Rattle.rules_dictionary.specs.Legal.{suits, targetVerdict, entryVerdict}
 use Rattle.rules_dictionary.specs.Plans.{move, noMove}
-use Rattle.rules_dictionary.proofs.Tests.{and-left, and-right, In, here, there, all-in}
-use Rattle.rules_dictionary.proofs.Packing.{found-in}
+use Rattle.rules_dictionary.specs.Members.{In, here, there}
+use Rattle.rules_dictionary.proofs.Tests.{and-left, and-right, all-in, or-none}
+use Rattle.rules_dictionary.proofs.LookUp.{found-in, is-found}
+use Rattle.rules_dictionary.proofs.Members.{map-in, filter-in}
 use Rattle.plans.specs.Words.{mappables, named, wordMove, namesOne}
-
--- ---- lists
-
-module _ {ℓ κ} {A : Type ℓ} {B : Type κ} (f g : A → B) where
-  -- what two functions make alike of a list, they make alike of each of it
-  map-in : {x : A} {xs : List A} → In x xs → map f xs ≡ map g xs → f x ≡ g x
-  map-in here h = cc
-  map-in (there i) h = map-in i (cc)
-
-in-filter : {A : Type 0} (f : A → Bool) {x : A} {xs : List A} → In x xs → f x ≡ true → In x (filter f xs)
-in-filter f {x} (here {xs = xs}) h = go (f x) h
-  where
-    go : (b : Bool) → b ≡ true → In x (elim b [ true ↦ x ∷ filter f xs | false ↦ filter f xs ])
-    go true e = here
-    go false e = absurd (false≢true e)
-in-filter f {x} (there {y = y} {xs = xs} i) h = go (f y) (in-filter f i h)
-  where
-    go : (b : Bool) → In x (filter f xs) → In x (elim b [ true ↦ y ∷ filter f xs | false ↦ filter f xs ])
-    go true j = there j
-    go false j = j
 
 -- ---- the objects that may be mapped, each by one computed test
 
@@ -133,29 +115,6 @@ one-or-none way w = go (from-rows (w % 2 ^ 32) (mappables way))
     go (inl e) = inl e
     go (inr (x, (i, e))) = inr (x, record { among = i; word = e })
 
--- ---- what the rules' look-up finds is of that index and subindex
-
-searched : (seen : Bool) (i s : ℕ) (xs : List Row) {x : Row} → search seen i s xs ≡ found x → (x .index ≡ i) × (x .subindex ≡ s)
-unfolding search
-searched true i s [] h = let z : _≡_ {A = ℕ} 0 1 = cc in absurd (omega arith)
-searched false i s [] h = let z : _≡_ {A = ℕ} 0 1 = cc in absurd (omega arith)
-searched seen i s (y ∷ ys) {x} h =
-    go (eqb (y .index) i) (eqb (y .subindex) s) refl refl (λ b e. searched b i s ys e) h
-  where
-    go : (a b : Bool) → eqb (y .index) i ≡ a → eqb (y .subindex) s ≡ b →
-        ((c : Bool) → search c i s ys ≡ found x → (x .index ≡ i) × (x .subindex ≡ s)) →
-        (elim a [ true ↦ elim b [ true ↦ found y | false ↦ search true i s ys ] | false ↦ search seen i s ys ]) ≡ found x →
-        (x .index ≡ i) × (x .subindex ≡ s)
-    go true true p q r e =
-        let same : y ≡ x = cc in
-        (rw (← same) (eqb-true _ _ p), rw (← same) (eqb-true _ _ q))
-    go true false p q r e = r true e
-    go false b p q r e = r seen e
-
-looked-up : (i s : ℕ) {x : Row} → lookup i s ≡ found x → (x .index ≡ i) × (x .subindex ≡ s)
-unfolding lookup
-looked-up i s h = searched false i s table h
-
 -- ---- the verdict on a word
 
 low-bits : (w : ℕ) → w % 2 ^ 8 ≡ wordLength w
@@ -178,21 +137,13 @@ good-names way w (found x) e h = go (suits way (x .mappable)) (eqb (wordLength w
     go : (a b : Bool) → suits way (x .mappable) ≡ a → eqb (wordLength w) (8 * sizeOf x) ≡ b →
         isGood (elim (not a || not b) [ true ↦ bad notMappable | false ↦ good ]) ≡ true → (y : Row) × Names way w y
     go true true p q k =
-        let r = looked-up _ _ e in
-        let i : In x (mappables way) = rw (← mappables-are way) (in-filter (λ y. suits way (y .mappable)) (found-in _ _ e) p) in
+        let r = is-found _ _ e in
+        let i : In x (mappables way) = rw (← mappables-are way) (filter-in (λ y. suits way (y .mappable)) (found-in _ _ e) p) in
         (x, record { among = i; word = is-word w x (r .0) (r .1) (eqb-true _ _ q) })
     go true false p q k = absurd (false≢true k)
     go false b p q k = absurd (false≢true k)
 good-names way w noObject e h = absurd (false≢true h)
 good-names way w noSubindex e h = absurd (false≢true h)
-
-pub or-right : (a b : Bool) → b ≡ true → (a || b) ≡ true
-or-right true b h = refl
-or-right false b h = h
-
-pub or-none : (a b : Bool) → b ≡ false → (a || b) ≡ a
-or-none true b h = refl
-or-none false b h = h
 
 suited-good : (way : Direction) (w : ℕ) (x : Row) → suits way (x .mappable) ≡ true → eqb (wordLength w) (8 * sizeOf x) ≡ true →
     targetVerdict way w (found x) ≡ good

@@ -13,16 +13,19 @@ use lib.ListN.{length, take, getD, set, replicate, length-map}
 use Rattle.rules_dictionary.specs.declared.Move.{Move}
 use Rattle.rules_dictionary.specs.declared.Plan.{Plan}
 use Rattle.rules_dictionary.specs.Numbers.{value, part, all, any, sum, padded}
-use Rattle.rules_dictionary.specs.Table.{Row, Direction, eachWay, wordsPlace, ValueType, u8, u16, u32, i8, i32, size, table, sizeOf, directionOf, wordIndex, wordSubindex, wordLength, Found, found, noObject, noSubindex, lookup, mapCount, mostMoves}
+use Rattle.rules_dictionary.specs.Table.{Row, Direction, eachWay, wordsPlace, size, table, directionOf, wordIndex, wordSubindex, wordLength, Found, found, noObject, noSubindex, lookup, mapCount, mostMoves}
 use Rattle.rules_dictionary.specs.Values.{read}
 use Rattle.rules_dictionary.specs.Aborts.{isGood}
 use Rattle.rules_dictionary.specs.Legal.{entryVerdict, mapWords, mostBits}
 use Rattle.rules_dictionary.specs.Plans.{andThen, targets, mapped, move, noMove, planFor, joined, readyFor}
-use Rattle.rules_dictionary.proofs.Tests.{and-left, and-right, In, here, there, none-in}
-use Rattle.rules_dictionary.proofs.Packing.{found-in, within}
+use Rattle.rules_dictionary.specs.Members.{In, here, there}
+use Rattle.rules_dictionary.proofs.Tests.{and-left, and-right, none-in}
+use Rattle.rules_dictionary.proofs.LookUp.{found-in}
+use Rattle.rules_dictionary.proofs.Packing.{within}
+use Rattle.rules_dictionary.proofs.Members.{in-cons}
+use Rattle.dictionary.proofs.Bytes.{is-size}
 use Rattle.rules.specs.Outcome.{sameBy, sameMove, samePlan}
 use Rattle.rules.specs.Sound.{mappingLegal}
-use Rattle.dictionary.specs.Sizes.{IsSize}
 use Rattle.plans.specs.Words.{wordMove, wayOf}
 use Rattle.plans.specs.Slots.{wordsFrom, movesNamed}
 use Rattle.plans.specs.Moves.{joinedMoves, readyBy, MoveFits, MovesFit}
@@ -113,27 +116,13 @@ module _ {A : Type 0} (s : A) where
 
 -- ---- the moves of mapped rows fit
 
-is-size : (x : Row) → IsSize (sizeOf x)
-is-size x = go (x .type)
-  where
-    go : (t : ValueType) → IsSize (size t)
-    go u8 = inl refl
-    go u16 = inr (inl refl)
-    go u32 = inr (inr refl)
-    go i8 = inl refl
-    go i32 = inr (inr refl)
-
-in-tail : {x y : Row} {xs : List Row} → In x (y ∷ xs) → (x ≡ y) ⊎ In x xs
-in-tail here = inl refl
-in-tail (there i) = inr i
-
 targets-in : (ws : List ℕ) {x : Row} → In x (targets ws) → In x table
 unfolding targets andThen
 targets-in [] i = absurd (none-in i)
 targets-in (w ∷ ws) {x} i = go (lookup (wordIndex w) (wordSubindex w)) refl i (λ j. targets-in ws j)
   where
     go : (f : Found) → lookup (wordIndex w) (wordSubindex w) ≡ f → In x (andThen f (targets ws)) → (In x (targets ws) → In x table) → In x table
-    go (found y) e j rest = cases (in-tail j)
+    go (found y) e j rest = cases (in-cons j)
       where
         cases : (x ≡ y) ⊎ In x (targets ws) → In x table
         cases (inl q) = subst (λ (z : Row). In z table) (sym q) (found-in _ _ e)
@@ -143,7 +132,7 @@ targets-in (w ∷ ws) {x} i = go (lookup (wordIndex w) (wordSubindex w)) refl i 
 
 each-fits : (xs : List Row) → ((x : Row) → In x xs → In x table) → (i : ℕ) → i < length xs → MoveFits (getD (map move xs) i noMove)
 each-fits [] h i l = absurd (omega arith)
-each-fits (x ∷ xs) h zero l = record { size = is-size x; inside = within (h x here) }
+each-fits (x ∷ xs) h zero l = record { size = is-size (x .type); inside = within (h x here) }
 each-fits (x ∷ xs) h (suc i) l = each-fits xs (λ y j. h y (there j)) i (omega arith)
 
 joined-rows : (d : List ℕ) (xs : List Row) → joinedMoves d (map move xs) ≡ joined d xs

@@ -15,8 +15,7 @@ use Rattle.rules_dictionary.specs.declared.PdoData.{PdoData}
 use Rattle.state.specs.declared.State.{State}
 use Rattle.rules_dictionary.specs.TheNode.{firstNode, lastNode}
 use Rattle.rules_dictionary.specs.Table.{table, deviceType, positionWindow, transmissionType, mapEntry, identifier, statusWord, modeDisplay, mode, controlWord, heartbeatTime, position, dictionaryLength, open-table}
-use Rattle.rules_dictionary.specs.Values.{Write, write, store, stored}
-use Rattle.rules_dictionary.proofs.Defaults.{packedDefaults}
+use Rattle.rules_dictionary.specs.Values.{Write, write, store, stored, packedDefaults}
 use Rattle.drive.specs.SetPoints.{withStore, withMarks, withCause}
 use Rattle.rules_services.specs.Effects.{frame, writes, becomes, withNode, withDrive, withHeld, withPacing, withNmt, withHeartbeat}
 use Rattle.rules_services.specs.PdoTraffic.{noData}

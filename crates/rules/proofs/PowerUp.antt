@@ -10,8 +10,8 @@ use Rattle.state.specs.declared.State.{State}
 use Rattle.rules_dictionary.specs.TheNode.{lastNode, isNodeId}
 use Rattle.rules_dictionary.specs.Table.{table, dictionaryLength}
 use Rattle.rules_dictionary.proofs.Tests.{and-left, and-right, allBelow, on-nodes}
-use Rattle.rules_dictionary.proofs.Defaults.{packedDefaults, all-defaults}
-use Rattle.rules_dictionary.specs.Values.{stored}
+use Rattle.rules_dictionary.proofs.Defaults.{all-defaults}
+use Rattle.rules_dictionary.specs.Values.{stored, packedDefaults}
 use Rattle.rules_services.specs.Nmt.{powerUp, freshState, bootUp}
 use Rattle.rules_services.specs.Effects.{sends, becomes}
 use Rattle.rules.specs.Outcome.{End, ended, settled}

@@ -12,19 +12,15 @@ use lib.Seq.{sets, sets-eq, take-at, drop-append-add, drop-drop}
 use Rattle.rules_dictionary.specs.Numbers.{bytes, all}
 use Rattle.rules_dictionary.specs.TheNode.{lastNode, isNodeId}
 use Rattle.rules_dictionary.specs.Table.{Row, table, sizeOf, total, bytesBefore, placeOf, dictionaryLength}
-use Rattle.rules_dictionary.specs.Values.{store, stored, toDefaults, defaultOf}
+use Rattle.rules_dictionary.specs.Values.{store, stored, toDefaults, defaultOf, packedDefaults}
 use Rattle.rules_dictionary.specs.Legal.{isBelow, isAbove, badChoice}
-use Rattle.rules_dictionary.proofs.Tests.{and-left, and-right, allBelow, on-nodes, In, all-in}
+use Rattle.rules_dictionary.specs.Members.{In}
+use Rattle.rules_dictionary.proofs.Tests.{and-left, and-right, allBelow, on-nodes, all-in}
 
 pub length-bytes : (size v : ℕ) → length (bytes size v) ≡ size
 unfolding bytes
 length-bytes zero v = refl
 length-bytes (suc size) v = ap suc (length-bytes size (v / 256))
-
--- the defaults of rows, packed
-unfoldable pub packedDefaults : ℕ → List Row → List ℕ
-packedDefaults n [] = []
-packedDefaults n (x ∷ xs) = bytes (sizeOf x) (defaultOf n x) ++ packedDefaults n xs
 
 -- each row begins where the one before ends
 abbrev pub packedFrom : ℕ → List Row → Bool

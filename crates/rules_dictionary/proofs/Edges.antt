@@ -3,17 +3,21 @@
 -- Assumes nothing.
 use Prim.Native.Nat.{ℕ}
 use mathlib.Core.Path.{_≡_, refl}
+use mathlib.Core.Bool.{true, false}
 use mathlib.Core.List.{List, [], _∷_, map}
 use lib.ListN.{getD}
 use Rattle.rules_dictionary.specs.declared.Plan.{Plan}
 use Rattle.rules_dictionary.specs.declared.PdoData.{PdoData}
 use Rattle.rules_dictionary.specs.Numbers.{value, bytes, open-numbers}
-use Rattle.rules_dictionary.specs.Table.{Row, table, lookup, found, noObject, noSubindex, positionWindow, profileAcceleration, mode, transmissionType, identifier, mapCount, mapEntry, mappingWord, targetPosition, velocity, position, modeDisplay, controlWord, statusWord, emergencyIdentifier, pdos, entries, placeOf, dictionaryLength, open-table}
-use Rattle.rules_dictionary.specs.Values.{read, store, stored, write, defaultOf, open-values}
-use Rattle.rules_dictionary.specs.Aborts.{Verdict, good, bad, belowRange, aboveRange, badValue, notMappable, overLength, noObject as absent, noSubindex as absentSub, open-aborts}
+use Rattle.rules_dictionary.specs.Table.{Row, table, lookup, found, noObject, noSubindex, positionWindow, profileAcceleration, mode}
+use Rattle.rules_dictionary.specs.Table.{transmissionType, identifier, mapCount, mapEntry, mappingWord, targetPosition, velocity, position}
+use Rattle.rules_dictionary.specs.Table.{modeDisplay, controlWord, statusWord, emergencyIdentifier, pdos, entries, placeOf, dictionaryLength}
+use Rattle.rules_dictionary.specs.Table.{deviceType, errorRegister, errorCode, isReset, open-table}
+use Rattle.rules_dictionary.specs.Values.{read, store, stored, write, defaultOf, open-values, packedDefaults}
+use Rattle.rules_dictionary.specs.Aborts.{Verdict, good, bad, belowRange, aboveRange, badValue, notMappable, overLength, noObject as absent}
+use Rattle.rules_dictionary.specs.Aborts.{noSubindex as absentSub, open-aborts}
 use Rattle.rules_dictionary.specs.Legal.{valueVerdict, mapWords, open-legal}
 use Rattle.rules_dictionary.specs.Plans.{plansOf, planFor, readyOf, pdoData, open-plans}
-use Rattle.rules_dictionary.proofs.Defaults.{packedDefaults}
 
 -- node 5 after power-up, before 6041h is made
 fresh : List ℕ
@@ -60,6 +64,11 @@ looked-up : (lookup 0x1002 0 ≡ noObject) × (lookup 0x1018 2 ≡ noSubindex) �
 unfolding open-edges
 looked-up = (refl, refl, refl)
 
+-- 82h sets back the first communication object and the last; 1001h stays, and the drive's first
+set-back : map isReset (deviceType ∷ mapEntry 7 8 ∷ errorRegister ∷ errorCode ∷ []) ≡ true ∷ true ∷ false ∷ false ∷ []
+unfolding open-edges
+set-back = refl
+
 -- ---- ranges: the ends are legal
 
 verdicts : Row → List ℕ → List Verdict
@@ -87,7 +96,8 @@ type-choice = refl
 off : List ℕ
 off = store (identifier 0) 0x80000205 fresh
 
-identifier-choice : map (valueVerdict off (identifier 0)) (0x180 ∷ 0x181 ∷ 0x57F ∷ 0x580 ∷ 0x40000205 ∷ 0x20000205 ∷ 0xA05 ∷ 0x305 ∷ 0x185 ∷ 0x80000000 ∷ 0x80000185 ∷ [])
+identifier-choice : map (valueVerdict off (identifier 0))
+    (0x180 ∷ 0x181 ∷ 0x57F ∷ 0x580 ∷ 0x40000205 ∷ 0x20000205 ∷ 0xA05 ∷ 0x305 ∷ 0x185 ∷ 0x80000000 ∷ 0x80000185 ∷ [])
     ≡ bad badValue ∷ good ∷ good ∷ bad badValue ∷ bad badValue ∷ bad badValue ∷ bad badValue ∷ bad badValue ∷ bad badValue ∷ good ∷ good ∷ []
 unfolding off open-edges
 identifier-choice = refl
@@ -107,7 +117,10 @@ entry-choice = refl
 
 -- 6064h, 606Ch and 6061h: 8 bytes and 9; then a zero; more than eight
 wide : List ℕ
-wide = stored (write (mapEntry 4 1) (mappingWord position) ∷ write (mapEntry 4 2) (mappingWord velocity) ∷ write (mapEntry 4 3) (mappingWord modeDisplay) ∷ []) fresh
+wide =
+    stored
+    (write (mapEntry 4 1) (mappingWord position) ∷ write (mapEntry 4 2) (mappingWord velocity) ∷ write (mapEntry 4 3) (mappingWord modeDisplay) ∷ [])
+    fresh
 
 count-choice : map (valueVerdict wide (mapCount 4)) (0 ∷ 2 ∷ 3 ∷ 4 ∷ 8 ∷ 9 ∷ [])
     ≡ good ∷ good ∷ bad overLength ∷ bad notMappable ∷ bad notMappable ∷ bad aboveRange ∷ []

@@ -3,17 +3,20 @@
 use Prim.Native.Nat.{ℕ, _+_, _*_, _<_}
 use mathlib.Core.Path.{_≡_, refl, sym, _∙_, ap, ap₂, subst}
 use mathlib.Core.Logic.{_⊎_, inl, inr}
-use mathlib.Core.Bool.{Bool, true}
+use mathlib.Core.Bool.{Bool, true, false, false≢true}
 use mathlib.Core.List.{List, [], _∷_, _++_, map, flatMap}
 use borrow.Author.Tests.{eqb-true}
 use lib.Dec.{eqb}
 use lib.ListN.{take, drop, getD}
 use lib.Seq.{drop-drop}
-use Rattle.rules_dictionary.specs.Numbers.{value, all}
-use Rattle.rules_dictionary.specs.Table.{Row, table, nodeRows, driveRows, sizeOf, placeOf, eachWay, pdos, receivePdos, transmitPdos, communicationRows, mappingRows, communicationCount, identifier, transmissionType, mapCount, mapEntry, mapSlots, wordsPlace, open-table}
+use Rattle.rules_dictionary.specs.Numbers.{value, all, filter}
+use Rattle.rules_dictionary.specs.Table.{Row, table, nodeRows, driveRows, sizeOf, placeOf, eachWay, pdos, receivePdos, transmitPdos}
+use Rattle.rules_dictionary.specs.Table.{communicationRows, mappingRows, communicationCount, identifier, transmissionType, mapCount, mapEntry}
+use Rattle.rules_dictionary.specs.Table.{mapSlots, wordsPlace, open-table}
 use Rattle.rules_dictionary.specs.Values.{write, read, unpacked}
 use Rattle.rules_dictionary.specs.Legal.{mapWords}
-use Rattle.rules_dictionary.proofs.Tests.{and-left, and-right, In, here, there, all-in, getD-in, below}
+use Rattle.rules_dictionary.specs.Members.{In, here, there}
+use Rattle.rules_dictionary.proofs.Tests.{and-left, and-right, all-in, getD-in, below, none-in}
 use Rattle.rules_dictionary.proofs.Defaults.{packedFrom, table-packed}
 
 -- ---- membership
@@ -44,6 +47,40 @@ module _ {ℓ} {A : Type ℓ} where
 pub in-map {ℓ κ} : {A : Type ℓ} {B : Type κ} (f : A → B) {x : A} {xs : List A} → In x xs → In (f x) (map f xs)
 in-map f here = here
 in-map f (there i) = there (in-map f i)
+
+-- what two functions make alike of a list, they make alike of each of it
+pub map-in {ℓ κ} : {A : Type ℓ} {B : Type κ} (f g : A → B) {x : A} {xs : List A} → In x xs → map f xs ≡ map g xs → f x ≡ g x
+map-in f g here h = cc
+map-in f g (there i) h = map-in f g i (cc)
+
+pub in-cons {ℓ} : {A : Type ℓ} {x y : A} {ys : List A} → In x (y ∷ ys) → (x ≡ y) ⊎ In x ys
+in-cons here = inl refl
+in-cons (there i) = inr i
+
+pub filtered {ℓ} : {A : Type ℓ} (f : A → Bool) {x : A} (xs : List A) → In x (filter f xs) → In x xs × (f x ≡ true)
+filtered f [] i = absurd (none-in i)
+filtered f {x} (y ∷ ys) i = go (f y) refl i (λ j. filtered f ys j)
+  where
+    head : f y ≡ true → (In x (filter f ys) → In x ys × (f x ≡ true)) → (x ≡ y) ⊎ In x (filter f ys) → In x (y ∷ ys) × (f x ≡ true)
+    head e rest (inl q) = (subst (λ z. In x (z ∷ ys)) q here, ap f q ∙ e)
+    head e rest (inr j) = let r = rest j in (there (r .0), r .1)
+
+    go : (b : Bool) → f y ≡ b → In x (elim b [ true ↦ y ∷ filter f ys | false ↦ filter f ys ]) →
+        (In x (filter f ys) → In x ys × (f x ≡ true)) → In x (y ∷ ys) × (f x ≡ true)
+    go true e j rest = head e rest (in-cons j)
+    go false e j rest = let r = rest j in (there (r .0), r .1)
+
+pub filter-in {ℓ} : {A : Type ℓ} (f : A → Bool) {x : A} {xs : List A} → In x xs → f x ≡ true → In x (filter f xs)
+filter-in f {x} (here {xs = ys}) h = go (f x) h
+  where
+    go : (b : Bool) → b ≡ true → In x (elim b [ true ↦ x ∷ filter f ys | false ↦ filter f ys ])
+    go true e = here
+    go false e = absurd (false≢true e)
+filter-in f {x} (there {y = y} {xs = ys} i) h = go (f y) (filter-in f i h)
+  where
+    go : (b : Bool) → In x (filter f ys) → In x (elim b [ true ↦ y ∷ filter f ys | false ↦ filter f ys ])
+    go true j = there j
+    go false j = j
 
 in-flatMap {ℓ} : {A B : Type ℓ} (f : A → List B) {x : A} {xs : List A} {y : B} → In y (f x) → In x xs → In y (flatMap f xs)
 unfolding flatMap
@@ -108,7 +145,8 @@ entry-in {p} i j = mappings i (there (in-map (mapEntry p) j))
 
 -- ---- unpacked in order, or read row by row
 
-pub unpacked-read : (xs : List Row) (place : ℕ) (d : List ℕ) → packedFrom place xs ≡ true → unpacked xs (drop place d) ≡ map (λ x. write x (read d x)) xs
+pub unpacked-read : (xs : List Row) (place : ℕ) (d : List ℕ) → packedFrom place xs ≡ true →
+    unpacked xs (drop place d) ≡ map (λ x. write x (read d x)) xs
 unfolding unpacked read
 unpacked-read [] place d h = refl
 unpacked-read (x ∷ xs) place d h =
@@ -128,4 +166,5 @@ pub words-read : {p : ℕ} (d : List ℕ) → In p pdos → mapWords d p ≡ map
 unfolding mapWords
 words-read {p} d i =
     ap (map (λ w. w .value))
-    (unpacked-read (map (mapEntry p) mapSlots) (wordsPlace p) d (all-in (λ p. packedFrom (wordsPlace p) (map (mapEntry p) mapSlots)) i entries-packed))
+    (unpacked-read (map (mapEntry p) mapSlots) (wordsPlace p) d
+    (all-in (λ p. packedFrom (wordsPlace p) (map (mapEntry p) mapSlots)) i entries-packed))

@@ -1,17 +1,21 @@
 -- The table's rules, each by one computed test over its rows, and the laws that follow.
 -- Assumes nothing.
-use Prim.Native.Nat.{ℕ, zero, suc, _+_, _-_, _*_, _^_, _<_, _≤_}
-use mathlib.Core.Path.{_≡_, refl, _∙_, subst}
+use Prim.Native.Nat.{ℕ, zero, suc, _+_, _-_, _^_, _<_, _≤_}
+use mathlib.Core.Path.{_≡_, refl, _∙_}
 use mathlib.Core.Bool.{Bool, true, false, not, _&&_, _||_, false≢true}
 use mathlib.Core.Logic.{_⊎_, inl, inr}
 use mathlib.Core.List.{List, [], _∷_}
 use native.Mathlib.Omega.{arith}
-use borrow.Author.Tests.{ltb-true, eqb-true, eq-eqb, le-leb}
-use lib.Dec.{eqb, leb, ltb}
+use borrow.Author.Tests.{ltb-true, eq-eqb, le-leb}
+use lib.Dec.{leb, ltb}
 use lib.ListN.{length, getD}
 use Rattle.rules_dictionary.specs.Numbers.{all}
-use Rattle.rules_dictionary.specs.Table.{Row, deviceType, table, rowAt, key, same, sizeOf, total, bytesBefore, placeOf, dictionaryLength, entries, pdos, communicationCount, identifier, transmissionType, mapCount, communicationPlace, mappingPlace, wordsPlace, communicationLength, mappingLength, recordPlace, lookup, search, found, open-table}
-use Rattle.rules_dictionary.proofs.Tests.{and-left, and-right, or-left, or-right, allBelow, below, In, here, there, all-in, getD-in}
+use Rattle.rules_dictionary.specs.Table.{Row, deviceType, table, rowAt, key, same, sizeOf, total, bytesBefore, placeOf, dictionaryLength}
+use Rattle.rules_dictionary.specs.Table.{entries, pdos, communicationCount, identifier, transmissionType, mapCount, communicationPlace}
+use Rattle.rules_dictionary.specs.Table.{mappingPlace, wordsPlace, communicationLength, mappingLength, recordPlace, open-table}
+use Rattle.rules_dictionary.specs.Members.{In, here, there}
+use Rattle.rules_dictionary.proofs.Members.{map-in}
+use Rattle.rules_dictionary.proofs.Tests.{and-left, and-right, or-left, or-right, allBelow, below, all-in, getD-in}
 
 -- ---- by rank
 
@@ -122,7 +126,8 @@ unfolding placeOf bytesBefore table entries dictionaryLength
 last-end = refl
 
 -- a place is a number of 16 bits
-pub short : dictionaryLength < 2 ^ 16
+-- a place is a number of 16 bits, and none of the greatest two
+pub short : dictionaryLength < 2 ^ 16 - 2
 unfolding dictionaryLength table
 short = ltb-true _ _ refl
 
@@ -140,22 +145,8 @@ same-or-apart {x} {y} i j = go (one-or-apart table differ-test i j)
     go (inr (inl l)) = inr (or-left (leb (placeOf x + sizeOf x) (placeOf y)) _ (le-leb _ _ l))
     go (inr (inr l)) = inr (or-right (leb (placeOf x + sizeOf x) (placeOf y)) _ (le-leb _ _ l))
 
--- ---- the PDOs' records are regular
+-- ---- the PDOs' records: each stands so many on from the first of its direction, its rows one behind another
 
--- the records of a kind stand one after another in each direction
-regularAt : ℕ → Bool
-regularAt p =
-    eqb (communicationPlace p) (recordPlace communicationPlace communicationLength p)
-    && (eqb (mappingPlace p) (recordPlace mappingPlace mappingLength p)
-    && (eqb (placeOf (identifier p)) (communicationPlace p + sizeOf (communicationCount p))
-    && (eqb (placeOf (transmissionType p)) (placeOf (identifier p) + sizeOf (identifier p))
-    && eqb (wordsPlace p) (mappingPlace p + sizeOf (mapCount p)))))
-
-regular-test : all regularAt pdos ≡ true
-unfolding regularAt open-table
-regular-test = refl
-
--- what the test says of a PDO
 pub record Regular (p : ℕ) : Type 0 where
   pub communication : communicationPlace p ≡ recordPlace communicationPlace communicationLength p
   pub mapping : mappingPlace p ≡ recordPlace mappingPlace mappingLength p
@@ -164,40 +155,12 @@ pub record Regular (p : ℕ) : Type 0 where
   pub words : wordsPlace p ≡ mappingPlace p + sizeOf (mapCount p)
 
 pub regular : {p : ℕ} → In p pdos → Regular p
-unfolding regularAt
-regular {p} i =
-    let a = eqb (communicationPlace p) (recordPlace communicationPlace communicationLength p) in
-    let b = eqb (mappingPlace p) (recordPlace mappingPlace mappingLength p) in
-    let c = eqb (placeOf (identifier p)) (communicationPlace p + sizeOf (communicationCount p)) in
-    let d = eqb (placeOf (transmissionType p)) (placeOf (identifier p) + sizeOf (identifier p)) in
-    let e = eqb (wordsPlace p) (mappingPlace p + sizeOf (mapCount p)) in
-    let all-of = all-in regularAt i regular-test in
-    let from-b = and-right a (b && (c && (d && e))) all-of in
-    let from-c = and-right b (c && (d && e)) from-b in
-    let from-d = and-right c (d && e) from-c in
+unfolding open-table
+regular i =
     record {
-      communication = eqb-true _ _ (and-left a (b && (c && (d && e))) all-of);
-      mapping = eqb-true _ _ (and-left b (c && (d && e)) from-b);
-      identifies = eqb-true _ _ (and-left c (d && e) from-c);
-      types = eqb-true _ _ (and-left d e from-d);
-      words = eqb-true _ _ (and-right d e from-d);
+      communication = map-in communicationPlace (recordPlace communicationPlace communicationLength) i refl;
+      mapping = map-in mappingPlace (recordPlace mappingPlace mappingLength) i refl;
+      identifies = map-in (λ p. placeOf (identifier p)) (λ p. communicationPlace p + sizeOf (communicationCount p)) i refl;
+      types = map-in (λ p. placeOf (transmissionType p)) (λ p. placeOf (identifier p) + sizeOf (identifier p)) i refl;
+      words = map-in wordsPlace (λ p. mappingPlace p + sizeOf (mapCount p)) i refl;
     }
-
--- ---- the look-up finds rows of the table
-
-searched : (seen : Bool) (i s : ℕ) (xs : List Row) {x : Row} → search seen i s xs ≡ found x → In x xs
-unfolding search
-searched true i s [] h = let z : _≡_ {A = ℕ} 0 1 = cc in absurd (omega arith)
-searched false i s [] h = let z : _≡_ {A = ℕ} 0 1 = cc in absurd (omega arith)
-searched seen i s (y ∷ ys) {x} h =
-    go (eqb (y .index) i) (eqb (y .subindex) s) (λ b e. searched b i s ys e) h
-  where
-    go : (a b : Bool) → ((c : Bool) → search c i s ys ≡ found x → In x ys) →
-        (elim a [ true ↦ elim b [ true ↦ found y | false ↦ search true i s ys ] | false ↦ search seen i s ys ]) ≡ found x → In x (y ∷ ys)
-    go true true r e = subst (λ (z : Row). In z (y ∷ ys)) (cc) here
-    go true false r e = there (r true e)
-    go false b r e = there (r seen e)
-
-pub found-in : (i s : ℕ) {x : Row} → lookup i s ≡ found x → In x table
-unfolding lookup
-found-in i s h = searched false i s table h

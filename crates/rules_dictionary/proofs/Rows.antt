@@ -3,9 +3,9 @@
 use Prim.Native.Nat.{ℕ, zero, suc, _+_, _*_, _-_, _/_, _%_, _^_, _<_, _≤_}
 use native.Mathlib.Omega.{arith}
 use native.Mathlib.Nat.{pow-suc}
-use mathlib.Core.Path.{_≡_, refl, sym, _∙_, ap, subst}
+use mathlib.Core.Path.{_≡_, refl, _∙_, ap, subst}
 use mathlib.Core.Bool.{Bool, true, false, _||_}
-use mathlib.Core.List.{List, [], _∷_, append-assoc}
+use mathlib.Core.List.{List, [], _∷_, _++_, append-assoc}
 use borrow.Author.Tests.{leb-true, lt-ltb, ltb-true}
 use lib.Dec.{leb}
 use lib.ListN.{length, take, drop, set, length-drop}
@@ -97,11 +97,12 @@ part-apart vs d i at k h = go (leb (i + length vs) at) refl h
     go true e q = below vs d i at k (leb-true _ _ e)
     go false e q = above vs d i at k (leb-true _ _ q)
 
-part-same : (vs d : List ℕ) (i : ℕ) → i + length vs ≤ length d → part i (length vs) (sets d i vs) ≡ vs
-part-same vs d i h =
-    ap (λ (l : List ℕ). take (length vs) (drop i l)) (sets-eq vs d i h ∙ append-assoc (take i d) vs _)
-    ∙ ap (take (length vs)) (drop-at (take i d) _ i (length-take-le i d (omega arith)))
-    ∙ take-at vs _ (length vs) refl
+pub part-same : (d bs : List ℕ) (place n : ℕ) → length bs ≡ n → place + n ≤ length d → part place n (sets d place bs) ≡ bs
+part-same d bs place n l h =
+    let t = take place d in
+    let rest = drop (place + length bs) d in
+    rw (sets-eq bs d place (omega arith), append-assoc t bs, drop-at t (bs ++ rest) place (length-take-le place d (omega arith)))
+    (take-at bs rest n l)
 
 -- ---- rows
 
@@ -119,10 +120,7 @@ field-apart x y v d h = part-apart (bytes (sizeOf x) v) d (placeOf x) (placeOf y
 
 pub field-same : (x : Row) (v : ℕ) (d : List ℕ) → placeOf x + sizeOf x ≤ length d → field (store x v d) x ≡ bytes (sizeOf x) v
 unfolding store
-field-same x v d h =
-    let bs = bytes (sizeOf x) v in
-    let l : length bs ≡ sizeOf x = length-bytes (sizeOf x) v in
-    ap (λ (k : ℕ). part (placeOf x) k (sets d (placeOf x) bs)) (sym l) ∙ part-same bs d (placeOf x) (omega arith)
+field-same x v d h = part-same d (bytes (sizeOf x) v) (placeOf x) (sizeOf x) (length-bytes (sizeOf x) v) h
 
 pub read-apart : (x y : Row) (v : ℕ) (d : List ℕ) → apart x y ≡ true → read (store x v d) y ≡ read d y
 unfolding read

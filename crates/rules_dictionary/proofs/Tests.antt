@@ -9,6 +9,7 @@ use mathlib.Core.List.{List, [], _∷_}
 use borrow.Author.Tests.{leb-true}
 use lib.Dec.{leb}
 use lib.ListN.{length, getD}
+use Rattle.rules_dictionary.specs.Members.{In, here, there, Each}
 use Rattle.rules_dictionary.specs.Numbers.{all}
 use Rattle.rules_dictionary.specs.TheNode.{firstNode, lastNode, isNodeId}
 
@@ -32,12 +33,11 @@ pub or-right : (a b : Bool) → b ≡ true → (a || b) ≡ true
 or-right true b h = refl
 or-right false b h = h
 
--- ---- lists
+pub or-none : (a b : Bool) → b ≡ false → (a || b) ≡ a
+or-none true b h = refl
+or-none false b h = h
 
--- the element stands in the list
-pub data In {ℓ} {A : Type ℓ} (x : A) : List A → Type ℓ where
-  here : {xs : List A} → In x (x ∷ xs)
-  there : {y : A} {xs : List A} → In x xs → In x (y ∷ xs)
+-- ---- lists
 
 module _ {ℓ} {A : Type ℓ} (f : A → Bool) where
   pub all-in : {x : A} {xs : List A} → In x xs → all f xs ≡ true → f x ≡ true
@@ -60,11 +60,6 @@ some-in (there i) = tt
 
 pub none-in {ℓ} : {A : Type ℓ} {x : A} → In x [] → ⊥
 none-in i = some-in i
-
--- a fact of each element of a list that is written out
-abbrev pub Each {ℓ κ} : {A : Type ℓ} → (A → Type κ) → List A → Type κ
-Each P [] = Unit
-Each P (x ∷ xs) = P x × Each P xs
 
 pub each-in {ℓ κ} : {A : Type ℓ} (P : A → Type κ) {x : A} {xs : List A} → In x xs → Each P xs → P x
 each-in P here h = h .0

@@ -8,9 +8,14 @@ use lib.ListN.{take, drop, getD}
 use Rattle.rules_dictionary.specs.declared.Mode.{Mode}
 use Rattle.rules_dictionary.specs.declared.Mode.the-variants.{NoMode, ProfilePosition, ProfileVelocity}
 use Rattle.rules_dictionary.specs.Numbers.{bit, bits, between, any, sum}
-use Rattle.rules_dictionary.specs.Table.{Row, Role, plain, modeOfOperation, pdoIdentifier, pdoType, mappingCount, mappingEntry, Mappable, unmappable, toReceive, toTransmit, Direction, receive, transmit, directionOf, pdos, identifier, mapEntry, mapSlots, wordsPlace, wordIndex, wordSubindex, wordLength, sizeOf, Found, found, noObject as missing, noSubindex as missingSubindex, lookup}
+use Rattle.rules_dictionary.specs.declared.Role.{Role}
+use Rattle.rules_dictionary.specs.declared.Role.the-variants.{Plain, ModeOfOperation, PdoIdentifier, PdoType, MappingCount, MappingEntry}
+use Rattle.rules_dictionary.specs.Table.{Row, Mappable, unmappable, toReceive, toTransmit, Direction, receive, transmit, directionOf, pdos}
+use Rattle.rules_dictionary.specs.Table.{identifier, mapEntry, mapSlots, wordsPlace, wordIndex, wordSubindex, wordLength, sizeOf, Found, found}
+use Rattle.rules_dictionary.specs.Table.{noObject as missing, noSubindex as missingSubindex, lookup}
 use Rattle.rules_dictionary.specs.Values.{read, unpacked}
-use Rattle.rules_dictionary.specs.Aborts.{Verdict, good, bad, test, firstOf, noObject, noSubindex, belowRange, aboveRange, badValue, notMappable, overLength}
+use Rattle.rules_dictionary.specs.Aborts.{Verdict, good, bad, test, firstOf, noObject, noSubindex, belowRange, aboveRange, badValue}
+use Rattle.rules_dictionary.specs.Aborts.{notMappable, overLength}
 
 -- ---- modes: "Mode must be 0, 1 or 3"
 
@@ -134,28 +139,28 @@ countVerdict words n =
 
 -- a bad mode or transmission type
 abbrev pub badChoice : Role → ℕ → Bool
-badChoice plain v = false
-badChoice modeOfOperation v = not (isMode v)
-badChoice (pdoIdentifier p) v = false
-badChoice (pdoType p) v = not (isType v)
-badChoice (mappingCount p) v = false
-badChoice (mappingEntry p) v = false
+badChoice Plain v = false
+badChoice ModeOfOperation v = not (isMode v)
+badChoice (PdoIdentifier p) v = false
+badChoice (PdoType p) v = not (isType v)
+badChoice (MappingCount p) v = false
+badChoice (MappingEntry p) v = false
 
 unfoldable pub otherBadValue : List ℕ → Role → ℕ → Bool
-otherBadValue d plain v = false
-otherBadValue d modeOfOperation v = badChoice modeOfOperation v
-otherBadValue d (pdoIdentifier p) v = badIdentifier (identifiers d) p v
-otherBadValue d (pdoType p) v = badChoice (pdoType p) v
-otherBadValue d (mappingCount p) v = false
-otherBadValue d (mappingEntry p) v = false
+otherBadValue d Plain v = false
+otherBadValue d ModeOfOperation v = badChoice ModeOfOperation v
+otherBadValue d (PdoIdentifier p) v = badIdentifier (identifiers d) p v
+otherBadValue d (PdoType p) v = badChoice (PdoType p) v
+otherBadValue d (MappingCount p) v = false
+otherBadValue d (MappingEntry p) v = false
 
 unfoldable pub mappingVerdict : List ℕ → Role → ℕ → Verdict
-mappingVerdict d plain v = good
-mappingVerdict d modeOfOperation v = good
-mappingVerdict d (pdoIdentifier p) v = good
-mappingVerdict d (pdoType p) v = good
-mappingVerdict d (mappingCount p) v = countVerdict (mapWords d p) v
-mappingVerdict d (mappingEntry p) v = entryVerdict p v
+mappingVerdict d Plain v = good
+mappingVerdict d ModeOfOperation v = good
+mappingVerdict d (PdoIdentifier p) v = good
+mappingVerdict d (PdoType p) v = good
+mappingVerdict d (MappingCount p) v = countVerdict (mapWords d p) v
+mappingVerdict d (MappingEntry p) v = entryVerdict p v
 
 abbrev pub isBelow : Row → ℕ → Bool
 isBelow x v = ltb v (x .range .least)

@@ -1,3 +1,4 @@
+pub mod Members
 pub mod Numbers
 pub mod TheNode
 pub mod Table

@@ -7,7 +7,8 @@ use Rattle.rules_dictionary.specs.declared.Move.{Move}
 use Rattle.rules_dictionary.specs.declared.Plan.{Plan}
 use Rattle.rules_dictionary.specs.declared.PdoData.{PdoData}
 use Rattle.rules_dictionary.specs.Numbers.{padded}
-use Rattle.rules_dictionary.specs.Table.{Row, sizeOf, placeOf, mapCount, mostMoves, pdos, transmitPdos, wordIndex, wordSubindex, Found, found, noObject, noSubindex, lookup}
+use Rattle.rules_dictionary.specs.Table.{Row, sizeOf, placeOf, mapCount, mostMoves, pdos, transmitPdos, wordIndex, wordSubindex, Found, found}
+use Rattle.rules_dictionary.specs.Table.{noObject, noSubindex, lookup}
 use Rattle.rules_dictionary.specs.Values.{read, field}
 use Rattle.rules_dictionary.specs.Legal.{mapWords}
 

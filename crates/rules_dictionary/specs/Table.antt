@@ -2,10 +2,14 @@
 -- Assumes nothing.
 use Prim.Native.Nat.{ℕ, _+_, _-_, _*_, _%_, _^_}
 use mathlib.Core.List.{List, [], _∷_, _++_, map, flatMap}
-use mathlib.Core.Bool.{Bool, true, false, cond, _&&_}
+use mathlib.Core.Bool.{Bool, true, false, cond, not, _&&_}
 use lib.Dec.{eqb, ltb}
 use lib.ListN.{length, getD}
-use Rattle.rules_dictionary.specs.Numbers.{bits}
+use Rattle.rules_dictionary.specs.declared.Access.{Access}
+use Rattle.rules_dictionary.specs.declared.Access.the-variants.{Constant, NodeWritten, Writable}
+use Rattle.rules_dictionary.specs.declared.Role.{Role}
+use Rattle.rules_dictionary.specs.declared.Role.the-variants.{Plain, ModeOfOperation, PdoIdentifier, PdoType, MappingCount, MappingEntry}
+use Rattle.rules_dictionary.specs.Numbers.{bits, between}
 
 -- ---- the columns of a row
 
@@ -19,10 +23,6 @@ size u16 = 2
 size u32 = 4
 size i8 = 1
 size i32 = 4
-
--- (c) constant, (o) node-written, (w) writable
-pub data Access : Type 0 where
-  constant nodeWritten writable : Access
 
 -- R or T: mappable to receive or transmit
 pub data Mappable : Type 0 where
@@ -49,24 +49,57 @@ from low t = record { least = low; greatest = largest t }
 abbrev pub upTo : ℕ → Range
 upTo high = record { least = 0; greatest = high }
 
--- what further rule a value obeys; of a PDO's rows also which PDO
-pub data Role : Type 0 where
-  plain modeOfOperation : Role
-  pdoIdentifier pdoType mappingCount mappingEntry : ℕ → Role
-
 pub record Row : Type 0 where
   pub index : ℕ
   pub subindex : ℕ
   pub type : ValueType
+  -- (c) constant, (o) node-written, (w) writable
   pub access : Access
   pub mappable : Mappable
   pub range : Range
   pub default : Default
   pub role : Role
 
-abbrev pub row : Role → ℕ → ℕ → ValueType → Access → Mappable → Range → Default → Row
-row o i s t a m r v =
-    record { index = i; subindex = s; type = t; access = a; mappable = m; range = r; default = v; role = o }
+-- a row that holds any value of its type, in the document's order
+abbrev pub row : (index subindex : ℕ) → ValueType → Access → Mappable → Default → Row
+row index subindex type access mappable default =
+    record {
+      index = index;
+      subindex = subindex;
+      type = type;
+      access = access;
+      mappable = mappable;
+      range = whole type;
+      default = default;
+      role = Plain;
+    }
+
+-- the row, and what narrows its values: a range, a further rule
+abbrev pub ranging : Range → Row → Row
+ranging r x =
+    record {
+      index = x .index;
+      subindex = x .subindex;
+      type = x .type;
+      access = x .access;
+      mappable = x .mappable;
+      range = r;
+      default = x .default;
+      role = x .role;
+    }
+
+abbrev pub obeying : Role → Row → Row
+obeying o x =
+    record {
+      index = x .index;
+      subindex = x .subindex;
+      type = x .type;
+      access = x .access;
+      mappable = x .mappable;
+      range = x .range;
+      default = x .default;
+      role = o;
+    }
 
 abbrev pub sizeOf : Row → ℕ
 sizeOf x = size (x .type)
@@ -80,97 +113,97 @@ abbrev pub key : Row → ℕ
 key x = x .index * 256 + x .subindex
 
 abbrev pub isConstant : Access → Bool
-isConstant constant = true
-isConstant nodeWritten = false
-isConstant writable = false
+isConstant Constant = true
+isConstant NodeWritten = false
+isConstant Writable = false
 
 abbrev pub isWritable : Access → Bool
-isWritable constant = false
-isWritable nodeWritten = false
-isWritable writable = true
+isWritable Constant = false
+isWritable NodeWritten = false
+isWritable Writable = true
 
--- ---- the node's rows: index, subindex, type, access, mappable, range, default
+-- ---- the node's rows: index, subindex, type, access, mappable, default
 
 abbrev pub deviceType : Row
-deviceType = row plain 0x1000 0 u32 constant unmappable (whole u32) (fixed 0x00020192)
+deviceType = row 0x1000 0 u32 Constant unmappable (fixed 0x00020192)
 
 abbrev pub errorRegister : Row
-errorRegister = row plain 0x1001 0 u8 nodeWritten toTransmit (whole u8) (fixed 0)
+errorRegister = row 0x1001 0 u8 NodeWritten toTransmit (fixed 0)
 
 abbrev pub syncIdentifier : Row
-syncIdentifier = row plain 0x1005 0 u32 constant unmappable (whole u32) (fixed 0x80)
+syncIdentifier = row 0x1005 0 u32 Constant unmappable (fixed 0x80)
 
 abbrev pub emergencyIdentifier : Row
-emergencyIdentifier = row plain 0x1014 0 u32 constant unmappable (whole u32) (plusNode 0x80)
+emergencyIdentifier = row 0x1014 0 u32 Constant unmappable (plusNode 0x80)
 
 abbrev pub heartbeatTime : Row
-heartbeatTime = row plain 0x1017 0 u16 writable unmappable (whole u16) (fixed 0)
+heartbeatTime = row 0x1017 0 u16 Writable unmappable (fixed 0)
 
 abbrev pub identityCount : Row
-identityCount = row plain 0x1018 0 u8 constant unmappable (whole u8) (fixed 1)
+identityCount = row 0x1018 0 u8 Constant unmappable (fixed 1)
 
 abbrev pub vendor : Row
-vendor = row plain 0x1018 1 u32 constant unmappable (whole u32) (fixed 0)
+vendor = row 0x1018 1 u32 Constant unmappable (fixed 0)
 
 -- ---- the drive's rows
 
 abbrev pub errorCode : Row
-errorCode = row plain 0x603F 0 u16 nodeWritten toTransmit (whole u16) (fixed 0)
+errorCode = row 0x603F 0 u16 NodeWritten toTransmit (fixed 0)
 
 abbrev pub controlWord : Row
-controlWord = row plain 0x6040 0 u16 writable toReceive (whole u16) (fixed 0)
+controlWord = row 0x6040 0 u16 Writable toReceive (fixed 0)
 
 abbrev pub statusWord : Row
-statusWord = row plain 0x6041 0 u16 nodeWritten toTransmit (whole u16) (fixed 0)
+statusWord = row 0x6041 0 u16 NodeWritten toTransmit (fixed 0)
 
 abbrev pub mode : Row
-mode = row modeOfOperation 0x6060 0 i8 writable toReceive (whole i8) (fixed 0)
+mode = obeying ModeOfOperation (row 0x6060 0 i8 Writable toReceive (fixed 0))
 
 abbrev pub modeDisplay : Row
-modeDisplay = row plain 0x6061 0 i8 nodeWritten toTransmit (whole i8) (fixed 0)
+modeDisplay = row 0x6061 0 i8 NodeWritten toTransmit (fixed 0)
 
 abbrev pub position : Row
-position = row plain 0x6064 0 i32 nodeWritten toTransmit (whole i32) (fixed 0)
+position = row 0x6064 0 i32 NodeWritten toTransmit (fixed 0)
 
 abbrev pub positionWindow : Row
-positionWindow = row plain 0x6067 0 u32 writable unmappable (upTo 0x7FFFFFFF) (fixed 0)
+positionWindow = ranging (upTo 0x7FFFFFFF) (row 0x6067 0 u32 Writable unmappable (fixed 0))
 
 abbrev pub velocity : Row
-velocity = row plain 0x606C 0 i32 nodeWritten toTransmit (whole i32) (fixed 0)
+velocity = row 0x606C 0 i32 NodeWritten toTransmit (fixed 0)
 
 abbrev pub velocityWindow : Row
-velocityWindow = row plain 0x606D 0 u16 writable unmappable (whole u16) (fixed 0)
+velocityWindow = row 0x606D 0 u16 Writable unmappable (fixed 0)
 
 abbrev pub velocityThreshold : Row
-velocityThreshold = row plain 0x606F 0 u16 writable unmappable (whole u16) (fixed 0)
+velocityThreshold = row 0x606F 0 u16 Writable unmappable (fixed 0)
 
 abbrev pub targetPosition : Row
-targetPosition = row plain 0x607A 0 i32 writable toReceive (whole i32) (fixed 0)
+targetPosition = row 0x607A 0 i32 Writable toReceive (fixed 0)
 
 abbrev pub limitCount : Row
-limitCount = row plain 0x607D 0 u8 constant unmappable (whole u8) (fixed 2)
+limitCount = row 0x607D 0 u8 Constant unmappable (fixed 2)
 
 -- -2^31 and 2^31-1, in their words
 abbrev pub minimumPosition : Row
-minimumPosition = row plain 0x607D 1 i32 writable unmappable (whole i32) (fixed 0x80000000)
+minimumPosition = row 0x607D 1 i32 Writable unmappable (fixed 0x80000000)
 
 abbrev pub maximumPosition : Row
-maximumPosition = row plain 0x607D 2 i32 writable unmappable (whole i32) (fixed 0x7FFFFFFF)
+maximumPosition = row 0x607D 2 i32 Writable unmappable (fixed 0x7FFFFFFF)
 
 abbrev pub profileVelocity : Row
-profileVelocity = row plain 0x6081 0 u32 writable toReceive (whole u32) (fixed 0)
+profileVelocity = row 0x6081 0 u32 Writable toReceive (fixed 0)
 
 abbrev pub profileAcceleration : Row
-profileAcceleration = row plain 0x6083 0 u32 writable toReceive (from 1 u32) (fixed 1)
+profileAcceleration = ranging (from 1 u32) (row 0x6083 0 u32 Writable toReceive (fixed 1))
 
 abbrev pub profileDeceleration : Row
-profileDeceleration = row plain 0x6084 0 u32 writable toReceive (from 1 u32) (fixed 1)
+profileDeceleration = ranging (from 1 u32) (row 0x6084 0 u32 Writable toReceive (fixed 1))
 
 abbrev pub targetVelocity : Row
-targetVelocity = row plain 0x60FF 0 i32 writable toReceive (whole i32) (fixed 0)
+targetVelocity = row 0x60FF 0 i32 Writable toReceive (fixed 0)
 
 abbrev pub supportedModes : Row
-supportedModes = row plain 0x6502 0 u32 constant unmappable (whole u32) (fixed 5)
+supportedModes = row 0x6502 0 u32 Constant unmappable (fixed 5)
 
 -- ---- the PDOs: 0 to 3 receive, 4 to 7 transmit
 
@@ -205,17 +238,14 @@ abbrev pub communicationIndex : ℕ → ℕ
 communicationIndex p = ofPdo p 0x1400 0x1800 1
 
 abbrev pub communicationCount : ℕ → Row
-communicationCount p = row plain (communicationIndex p) 0 u8 constant unmappable (whole u8) (fixed 2)
+communicationCount p = row (communicationIndex p) 0 u8 Constant unmappable (fixed 2)
 
 -- "PDO identifiers default to 200h-500h and, with bit 30, 180h-480h, in steps of 100h, plus N"
 abbrev pub identifier : ℕ → Row
-identifier p =
-    row (pdoIdentifier p) (communicationIndex p) 1 u32 writable unmappable (whole u32)
-    (plusNode (ofPdo p 0x200 (2 ^ 30 + 0x180) 0x100))
+identifier p = obeying (PdoIdentifier p) (row (communicationIndex p) 1 u32 Writable unmappable (plusNode (ofPdo p 0x200 (2 ^ 30 + 0x180) 0x100)))
 
 abbrev pub transmissionType : ℕ → Row
-transmissionType p =
-    row (pdoType p) (communicationIndex p) 2 u8 writable unmappable (whole u8) (fixed 255)
+transmissionType p = obeying (PdoType p) (row (communicationIndex p) 2 u8 Writable unmappable (fixed 255))
 
 -- "Default maps: receive 6040; 6040+6060; 6040+607A; 6040+60FF; transmit 6041; 6041+6061; 6041+6064; 6041+606C"
 abbrev pub defaultMaps : List (List Row)
@@ -254,14 +284,11 @@ abbrev pub mappingIndex : ℕ → ℕ
 mappingIndex p = ofPdo p 0x1600 0x1A00 1
 
 abbrev pub mapCount : ℕ → Row
-mapCount p =
-    row (mappingCount p) (mappingIndex p) 0 u8 writable unmappable (upTo mostMoves) (fixed (length (defaultMap p)))
+mapCount p = obeying (MappingCount p) (ranging (upTo mostMoves) (row (mappingIndex p) 0 u8 Writable unmappable (fixed (length (defaultMap p)))))
 
 -- entry 1 to 8
 abbrev pub mapEntry : ℕ → ℕ → Row
-mapEntry p k =
-    row (mappingEntry p) (mappingIndex p) k u32 writable unmappable (whole u32)
-    (fixed (getD (map mappingWord (defaultMap p)) (k - 1) 0))
+mapEntry p k = obeying (MappingEntry p) (row (mappingIndex p) k u32 Writable unmappable (fixed (getD (map mappingWord (defaultMap p)) (k - 1) 0)))
 
 abbrev pub mapSlots : List ℕ
 mapSlots = 1 ∷ 2 ∷ 3 ∷ 4 ∷ 5 ∷ 6 ∷ 7 ∷ 8 ∷ []
@@ -342,6 +369,18 @@ mappingLength p = total (mappingRows p)
 abbrev pub recordPlace : (ℕ → ℕ) → (ℕ → ℕ) → ℕ → ℕ
 recordPlace place size p = let first = byDirection (directionOf p) 0 eachWay in place first + size first * (p % eachWay)
 
+-- ---- the communication objects
+
+abbrev pub firstCommunication : ℕ
+firstCommunication = 0x1000
+
+abbrev pub lastCommunication : ℕ
+lastCommunication = 0x1FFF
+
+-- what 82h sets back: "objects 1000h-1FFFh .. except that 1001h stays"
+unfoldable pub isReset : Row → Bool
+isReset x = between firstCommunication lastCommunication (x .index) && not (same x errorRegister)
+
 -- ---- the look-up
 
 pub data Found : Type 0 where
@@ -360,5 +399,5 @@ lookup i s = search false i s table
 
 -- opens every definition of this module, where a proof computes
 unfoldable pub open-table : Unit {0}
-unfolding communicationRows mappingRows table entries bytesBefore placeOf dictionaryLength communicationLength mappingLength search lookup
+unfolding communicationRows mappingRows table entries bytesBefore placeOf dictionaryLength communicationLength mappingLength isReset search lookup
 open-table = tt

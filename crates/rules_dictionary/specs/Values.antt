@@ -1,7 +1,7 @@
 -- Document 01, 'The dictionary': the values of the rows in the packed bytes, and what a call writes.
 -- Assumes nothing.
 use Prim.Native.Nat.{ℕ, _+_}
-use mathlib.Core.List.{List, [], _∷_, map}
+use mathlib.Core.List.{List, [], _∷_, _++_, map}
 use lib.ListN.{take, drop}
 use lib.Seq.{sets}
 use Rattle.rules_dictionary.specs.Numbers.{value, bytes, part}
@@ -51,7 +51,12 @@ defaultOf n x = defaultFor n (x .default)
 abbrev pub toDefaults : ℕ → List Row → List Write
 toDefaults n xs = map (λ x. write x (defaultOf n x)) xs
 
+-- their bytes, packed
+unfoldable pub packedDefaults : ℕ → List Row → List ℕ
+packedDefaults n [] = []
+packedDefaults n (x ∷ xs) = bytes (sizeOf x) (defaultOf n x) ++ packedDefaults n xs
+
 -- opens every definition of this module, where a proof computes
 unfoldable pub open-values : Unit {0}
-unfolding read store stored unpacked
+unfolding read store stored unpacked packedDefaults
 open-values = tt

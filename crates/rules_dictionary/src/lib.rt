@@ -8,6 +8,23 @@ pub enum Mode {
     ProfileVelocity,
 }
 
+// Who writes a row's value: nobody, the node, or an SDO or PDO too.
+pub enum Access {
+    Constant,
+    NodeWritten,
+    Writable,
+}
+
+// What further rule a row's value obeys; of a PDO's rows also which PDO, 0 to 7.
+pub enum Role {
+    Plain,
+    ModeOfOperation,
+    PdoIdentifier(u8),
+    PdoType(u8),
+    MappingCount(u8),
+    MappingEntry(u8),
+}
+
 // A mapped object: its place and size in the dictionary. A spare slot is all zero.
 pub struct Move {
     pub place: u16,

@@ -13,11 +13,10 @@ use Rattle.drive.specs.declared.DriveState.the-variants.{NotReady, SwitchOnDisa
 use Rattle.state.specs.declared.State.{State}
 use Rattle.rules_dictionary.specs.Numbers.{bytes, value, part, open-numbers}
 use Rattle.rules_dictionary.specs.Table.{table, errorRegister, errorCode, controlWord, heartbeatTime, targetPosition, position, velocity, transmissionType, mapEntry, mapCount, mappingWord, identifier, open-table}
-use Rattle.rules_dictionary.specs.Values.{write, store, stored, read, open-values}
+use Rattle.rules_dictionary.specs.Values.{write, store, stored, read, open-values, packedDefaults}
 use Rattle.rules_dictionary.specs.Aborts.{abortCode, unknownCommand, noObject, noSubindex, noWriting, tooLong, tooShort, wrongTime, belowRange, aboveRange, badValue, open-aborts}
 use Rattle.rules_dictionary.specs.Legal.{open-legal}
 use Rattle.rules_dictionary.specs.Plans.{open-plans}
-use Rattle.rules_dictionary.proofs.Defaults.{packedDefaults}
 use Rattle.drive.specs.DriveStates.{open-drive-states}
 use Rattle.drive.specs.SetPoints.{withState, withCause, open-set-points}
 use Rattle.drive.specs.StatusWord.{open-status-word}

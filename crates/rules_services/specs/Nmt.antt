@@ -2,7 +2,7 @@
 -- Assumes nothing.
 use Prim.Native.Nat.{ℕ, suc, _+_}
 use mathlib.Core.List.{List, [], _∷_}
-use mathlib.Core.Bool.{Bool, false, cond, not, _&&_, _||_}
+use mathlib.Core.Bool.{Bool, false, cond, _&&_, _||_}
 use lib.Dec.{eqb, ltb}
 use lib.ListN.{getD, length}
 use Rattle.state.specs.declared.NmtState.{NmtState}
@@ -11,8 +11,8 @@ use Rattle.rules_dictionary.specs.declared.Mode.the-variants.{NoMode}
 use Rattle.drive.specs.declared.DriveState.the-variants.{NotReady}
 use Rattle.drive.specs.declared.Store.the-variants.{Empty}
 use Rattle.state.specs.declared.State.{State}
-use Rattle.rules_dictionary.specs.Numbers.{between, filter}
-use Rattle.rules_dictionary.specs.Table.{Row, table, same, errorRegister, heartbeatTime}
+use Rattle.rules_dictionary.specs.Numbers.{filter}
+use Rattle.rules_dictionary.specs.Table.{table, heartbeatTime, isReset}
 use Rattle.rules_dictionary.specs.Values.{read, toDefaults}
 use Rattle.drive.specs.declared.Command.the-variants.{DisableVoltage}
 use Rattle.drive.specs.DriveStates.{next}
@@ -105,16 +105,6 @@ voltageDisabled s =
     let v = s .axis .drive in
     withDrive (enters (next (v .cause) (v .state) DisableVoltage) v) s
 
-abbrev pub firstCommunication : ℕ
-firstCommunication = 0x1000
-
-abbrev pub lastCommunication : ℕ
-lastCommunication = 0x1FFF
-
--- "objects 1000h-1FFFh .. except that 1001h stays"
-unfoldable pub isReset : Row → Bool
-isReset x = between firstCommunication lastCommunication (x .index) && not (same x errorRegister)
-
 -- "01h and 80h to the present state do nothing."
 unfoldable pub commanded : Command → State → Effect
 commanded start s = cond (isOperational (s .node .nmt)) (becomes s) (becomes (withNmt Operational s))
@@ -134,5 +124,5 @@ nmt bs s =
 
 -- opens every definition of this module, where a proof computes
 unfoldable pub open-nmt : Unit {0}
-unfolding tick freshState powerUp commandOf left voltageDisabled isReset commanded nmt
+unfolding tick freshState powerUp commandOf left voltageDisabled commanded nmt
 open-nmt = tt

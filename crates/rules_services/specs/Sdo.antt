@@ -8,7 +8,9 @@ use lib.ListN.{getD}
 use Rattle.state.specs.declared.NmtState.{NmtState}
 use Rattle.state.specs.declared.State.{State}
 use Rattle.rules_dictionary.specs.Numbers.{bit, bits, bytes, value, part}
-use Rattle.rules_dictionary.specs.Table.{Row, Role, plain, modeOfOperation, pdoIdentifier, pdoType, mappingCount, mappingEntry, ValueType, u8, u16, u32, i8, i32, isWritable, sizeOf, identifier, mapCount, Found, found, noObject as missing, noSubindex as missingSubindex, lookup}
+use Rattle.rules_dictionary.specs.declared.Role.{Role}
+use Rattle.rules_dictionary.specs.declared.Role.the-variants.{Plain, ModeOfOperation, PdoIdentifier, PdoType, MappingCount, MappingEntry}
+use Rattle.rules_dictionary.specs.Table.{Row, ValueType, u8, u16, u32, i8, i32, isWritable, sizeOf, identifier, mapCount, Found, found, noObject as missing, noSubindex as missingSubindex, lookup}
 use Rattle.rules_dictionary.specs.Values.{read, write}
 use Rattle.rules_dictionary.specs.Aborts.{Abort, abortCode, Verdict, good, bad, test, firstOf, unknownCommand, noObject, noSubindex, noWriting, tooLong, tooShort, wrongTime}
 use Rattle.rules_dictionary.specs.Legal.{valueVerdict, isValid}
@@ -98,12 +100,12 @@ uploaded i32 = 0x43
 -- ---- "Wrong time: 14xx, 18xx and mappings outside Pre-operational; mappings while that PDO is valid; entries while :0 is not 0."
 
 unfoldable pub isWrongTime : NmtState → List ℕ → Role → Bool
-isWrongTime nmt d plain = false
-isWrongTime nmt d modeOfOperation = false
-isWrongTime nmt d (pdoIdentifier p) = not (isPreOperational nmt)
-isWrongTime nmt d (pdoType p) = not (isPreOperational nmt)
-isWrongTime nmt d (mappingCount p) = not (isPreOperational nmt) || isValid (read d (identifier p))
-isWrongTime nmt d (mappingEntry p) = not (isPreOperational nmt) || isValid (read d (identifier p)) || not (eqb (read d (mapCount p)) 0)
+isWrongTime nmt d Plain = false
+isWrongTime nmt d ModeOfOperation = false
+isWrongTime nmt d (PdoIdentifier p) = not (isPreOperational nmt)
+isWrongTime nmt d (PdoType p) = not (isPreOperational nmt)
+isWrongTime nmt d (MappingCount p) = not (isPreOperational nmt) || isValid (read d (identifier p))
+isWrongTime nmt d (MappingEntry p) = not (isPreOperational nmt) || isValid (read d (identifier p)) || not (eqb (read d (mapCount p)) 0)
 
 -- "download to c or o 06010002h; longer 06070012h, shorter 06070013h; wrong time 08000022h;" and then the value's own tests
 unfoldable pub downloadVerdict : List ℕ → NmtState → List ℕ → Row → Verdict

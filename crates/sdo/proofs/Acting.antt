@@ -11,7 +11,8 @@ use Rattle.rules_dictionary.specs.Numbers.{all}
 use Rattle.rules_dictionary.specs.Table.{Row, table, placeOf, isWritable, transmit, mode, controlWord, heartbeatTime, open-table}
 use Rattle.rules_dictionary.specs.Values.{write}
 use Rattle.rules_dictionary.specs.Legal.{suits}
-use Rattle.rules_dictionary.proofs.Tests.{and-left, and-right, In, all-in}
+use Rattle.rules_dictionary.specs.Members.{In}
+use Rattle.rules_dictionary.proofs.Tests.{and-left, and-right, all-in}
 use Rattle.rules_services.specs.Effects.{Effect, becomes, writes, withDrive, withHeartbeat}
 use Rattle.rules_services.specs.Written.{wrote, applied, countRestarted, modeActed, controlActed, faultReset}
 use Rattle.drive.specs.declared.Controlled.{Controlled}

@@ -16,15 +16,15 @@ use Rattle.rules_services.specs.Effects.{Effect, sends, becomes}
 use Rattle.rules_services.specs.Sdo as sdo
 use Rattle.dictionary.specs.declared.Entry.{Entry}
 use Rattle.dictionary.specs.Sizes.{IsPdo}
-use Rattle.dictionary.proofs.Stands.{Stands}
+use Rattle.dictionary.specs.Entries.{Stands}
 use Rattle.output.specs.Laying.{emitted}
 use Rattle.output.proofs.Laws.{emitted-none}
 use Rattle.effects.specs.declared.Done.{Done}
 use Rattle.effects.specs.Leaves.{partsOf, Did}
 use Rattle.effects.specs.Acts.{acts}
 use Rattle.effects.proofs.Laws.{calm-said}
-use Rattle.verdicts.specs.Verdicts.{verdictCode, roleBack, pdoOf}
-use Rattle.verdicts.proofs.Laws.{good-code, is-good, role-back, pdo-below}
+use Rattle.verdicts.specs.Verdicts.{verdictCode, pdoOf}
+use Rattle.verdicts.proofs.Laws.{good-code, is-good, pdo-below}
 use Rattle.theorems.proofs.SdoKept.{good-passes}
 use Rattle.sdo.specs.declared.Command.{Command}
 use Rattle.sdo.specs.declared.Command.the-variants.{Object, ClientAbort, Unknown}
@@ -131,7 +131,7 @@ module _ (rq : List ℕ) (s : State) (d o : List ℕ) (e : Entry) (st : Stands (
   -- a good one, replied to and stored
   module _ (fine : downloadVerdictOf rq (s .node .nmt) d e ≡ good) (v : ℕ) (is : v ≡ value (part sdo.dataPlace (e .size) rq))
       (d₁ o₁ : List ℕ) (put : d₁ ≡ sets d (e .place) (bytes (e .size) v)) (told : o₁ ≡ emitted 0 (replyOf sdo.downloaded 0 rq (s .node .id)) o)
-      (b : Bool) (named : b ≡ isMapping (roleBack (e .role))) where
+      (b : Bool) (named : b ≡ isMapping (e .role)) where
     fine-row : sdo.downloadVerdict rq (s .node .nmt) d x ≡ good
     fine-row = sym verdict-is ∙ fine
 
@@ -141,7 +141,7 @@ module _ (rq : List ℕ) (s : State) (d o : List ℕ) (e : Entry) (st : Stands (
 
     role-is : b ≡ isMapping (x .role)
     unfolding x
-    role-is = named ∙ ap (λ (y : Entry). isMapping (roleBack (y .role))) (st .is-entry) ∙ ap isMapping (role-back (st .row .role))
+    role-is = named ∙ ap (λ (y : Entry). isMapping (y .role)) (st .is-entry)
 
     written : isWritable (x .access) ≡ true
     unfolding sdo.downloadVerdict

@@ -10,7 +10,7 @@ use Rattle.state.specs.declared.State.{State}
 use Rattle.rules_dictionary.specs.Numbers.{bytes}
 use Rattle.rules_dictionary.specs.Table.{Row, table, placeOf, isWritable, controlWord, mode}
 use Rattle.rules_dictionary.specs.Values.{write, read, store, stored}
-use Rattle.rules_dictionary.proofs.Tests.{In}
+use Rattle.rules_dictionary.specs.Members.{In}
 use Rattle.rules_services.specs.Effects.{Effect, sends, writes}
 use Rattle.rules_services.specs.Sdo.{reply, downloaded, dataSize}
 use Rattle.rules_services.specs.Written.{applied, countRestarted}

@@ -8,17 +8,15 @@ use lib.Dec.{eqb, ltb}
 use Rattle.state.specs.declared.State.{State}
 use Rattle.state.specs.declared.NmtState.{NmtState}
 use Rattle.rules_dictionary.specs.Numbers.{value, bit, bytes, part}
-use Rattle.rules_dictionary.specs.Table.{u8, u16, u32, size, lookup}
+use Rattle.rules_dictionary.specs.Table.{u8, u16, u32, size, isWritable, lookup}
 use Rattle.rules_dictionary.specs.Aborts.{Verdict, test, firstOf, noWriting, tooLong, tooShort, wrongTime}
 use Rattle.rules_services.specs.Effects.{Effect, Frame, frame}
 use Rattle.rules_services.specs.Sdo as sdo
 use Rattle.output.specs.Laying.{emitted}
 use Rattle.effects.specs.declared.Done.{Done}
 use Rattle.effects.specs.Leaves.{partsOf}
-use Rattle.dictionary.specs.declared.Access.{Access}
-use Rattle.dictionary.specs.declared.Access.the-variants.{Constant, NodeWritten, Writable}
 use Rattle.dictionary.specs.declared.Entry.{Entry}
-use Rattle.verdicts.specs.Verdicts.{roleBack, valueVerdictOf}
+use Rattle.verdicts.specs.Verdicts.{valueVerdictOf}
 use Rattle.sdo.specs.declared.Command.{Command}
 use Rattle.sdo.specs.declared.Command.the-variants.{Object, ClientAbort, Unknown}
 
@@ -59,19 +57,14 @@ uploadedBy n = cond (eqb n (size u8)) (sdo.uploaded u8) (cond (eqb n (size u16))
 abbrev pub toldBy : ℕ → ℕ → ℕ
 toldBy c n = cond (bit sdo.sizeToldBit c) (sdo.dataSize - sdo.unusedBytes c) n
 
-abbrev pub mayWrite : Access → Bool
-mayWrite Constant = false
-mayWrite NodeWritten = false
-mayWrite Writable = true
-
 -- what a download gives of an entry: `downloadVerdict`, of the entry's row
 unfoldable pub downloadVerdictOf : List ℕ → NmtState → List ℕ → Entry → Verdict
 downloadVerdictOf rq nmt d e =
     let told = toldBy (sdo.commandByte rq) (e .size) in
     firstOf
-    (test (not (mayWrite (e .access))) noWriting
+    (test (not (isWritable (e .access))) noWriting
     ∷ test (ltb (e .size) told) tooLong
     ∷ test (ltb told (e .size)) tooShort
-    ∷ test (sdo.isWrongTime nmt d (roleBack (e .role))) wrongTime
+    ∷ test (sdo.isWrongTime nmt d (e .role)) wrongTime
     ∷ [])
     (valueVerdictOf d e (value (part sdo.dataPlace (e .size) rq)))

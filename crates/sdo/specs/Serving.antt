@@ -9,7 +9,9 @@ use lib.ListN.{length}
 use Rattle.state.specs.declared.State.{State}
 use Rattle.rules_dictionary.specs.TheNode.{lastNode}
 use Rattle.rules_dictionary.specs.Numbers.{any}
-use Rattle.rules_dictionary.specs.Table.{Role, plain, modeOfOperation, pdoIdentifier, pdoType, mappingCount, mappingEntry, heartbeatTime, placeOf, dictionaryLength}
+use Rattle.rules_dictionary.specs.declared.Role.{Role}
+use Rattle.rules_dictionary.specs.declared.Role.the-variants.{Plain, ModeOfOperation, PdoIdentifier, PdoType, MappingCount, MappingEntry}
+use Rattle.rules_dictionary.specs.Table.{heartbeatTime, placeOf, dictionaryLength}
 use Rattle.rules_dictionary.specs.Values.{Write, stored}
 use Rattle.rules_services.specs.Effects.{Effect, withHeartbeat}
 use Rattle.rules.specs.Calls.{outputLength}
@@ -23,12 +25,12 @@ restartedAt place s = cond (eqb place (placeOf heartbeatTime)) (withHeartbeat 0 
 
 -- the row is of a PDO's mapping
 abbrev pub isMapping : Role → Bool
-isMapping plain = false
-isMapping modeOfOperation = false
-isMapping (pdoIdentifier p) = false
-isMapping (pdoType p) = false
-isMapping (mappingCount p) = true
-isMapping (mappingEntry p) = true
+isMapping Plain = false
+isMapping ModeOfOperation = false
+isMapping (PdoIdentifier p) = false
+isMapping (PdoType p) = false
+isMapping (MappingCount p) = true
+isMapping (MappingEntry p) = true
 
 -- a mapping row is among the written ones
 abbrev pub remaps : List Write → Bool

@@ -9,10 +9,9 @@ ghost use Rattle.rules_dictionary.specs.Table.{controlWord, mode, placeOf, dict
 ghost use Rattle.rules_dictionary.specs.Aborts.{good};
 ghost use Rattle.rules_services.specs.Sdo.{askedIndex, askedSubindex};
 ghost use Rattle.rules.specs.Calls.{outputLength};
-ghost use Rattle.dictionary.proofs.Stands.{Stands};
+ghost use Rattle.dictionary.specs.Entries.{Stands};
 ghost use Rattle.effects.specs.Acts.{acts};
 ghost use Rattle.effects.specs.Leaves.{bare, Did};
-ghost use Rattle.verdicts.specs.Verdicts.{roleBack};
 ghost use Rattle.sdo.specs.Requests.{objectAsked, downloadVerdictOf};
 ghost use Rattle.sdo.specs.Serving.{isMapping, restartedAt, Servable, Served};
 use crate::places::DATA_PLACE;
@@ -21,7 +20,6 @@ use crate::replies::answer;
 use crate::replies::reply;
 use crate::tests::download_verdict;
 use dictionary::Entry;
-use dictionary::Role;
 use dictionary::objects;
 use dictionary::places;
 use dictionary::read;
@@ -29,6 +27,7 @@ use dictionary::write;
 use effects::Done;
 use effects::Parts;
 use effects::acted;
+use rules_dictionary::Role;
 use verdicts::aborts::GOOD;
 
 // 60h, the reply's command.
@@ -36,7 +35,7 @@ const DOWNLOADED: u8 = 0x60;
 
 // Whether an entry is of a PDO's mapping.
 fn is_mapping(role: Role) -> bool
-    ensures { λ r. ⌜ r ≡ isMapping (roleBack role) ⌝ }
+    ensures { λ r. ⌜ r ≡ isMapping role ⌝ }
 {
     match role {
         Role::Plain => false,

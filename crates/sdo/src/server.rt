@@ -1,7 +1,7 @@
 // Requests of eight bytes: the command, the object, and what is asked of it.
 ghost use mathlib.Core.Path.{_≡_};
 ghost use Rattle.rules_services.specs.Sdo.{commandOf, askedIndex, askedSubindex, sdo};
-ghost use Rattle.dictionary.proofs.Stands.{Stands};
+ghost use Rattle.dictionary.specs.Entries.{Stands};
 ghost use Rattle.effects.specs.Leaves.{bare};
 ghost use Rattle.sdo.specs.Requests.{asCommand, objectAsked};
 ghost use Rattle.sdo.specs.Serving.{Servable, Served};

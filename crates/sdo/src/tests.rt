@@ -2,21 +2,22 @@
 ghost use mathlib.Core.Path.{_≡_};
 ghost use mathlib.Core.Bool.{not, _||_};
 ghost use lib.ListN.{length};
-ghost use Rattle.rules_dictionary.specs.Table.{identifier, mappingEntry, dictionaryLength};
+ghost use Rattle.rules_dictionary.specs.declared.Role.the-variants.{MappingEntry};
+ghost use Rattle.rules_dictionary.specs.Table.{identifier, dictionaryLength, isWritable};
 ghost use Rattle.rules_dictionary.specs.Values.{read};
 ghost use Rattle.rules_dictionary.specs.Legal.{isValid};
 ghost use Rattle.rules_services.specs.Effects.{isPreOperational};
 ghost use Rattle.rules_services.specs.Sdo.{isWrongTime};
 ghost use Rattle.dictionary.specs.Sizes.{IsSize, IsPdo};
-ghost use Rattle.verdicts.specs.Verdicts.{verdictCode, roleBack, pdoOf};
-ghost use Rattle.sdo.specs.Requests.{mayWrite, toldBy, downloadVerdictOf};
+ghost use Rattle.verdicts.specs.Verdicts.{verdictCode, pdoOf};
+ghost use Rattle.sdo.specs.Requests.{toldBy, downloadVerdictOf};
 use crate::places::COMMAND_PLACE;
 use crate::places::DATA_PLACE;
-use dictionary::Access;
 use dictionary::Entry;
-use dictionary::Role;
 use dictionary::read;
 use dictionary::records;
+use rules_dictionary::Access;
+use rules_dictionary::Role;
 use state::NmtState;
 use verdicts::aborts::NO_WRITING;
 use verdicts::aborts::TOO_LONG;
@@ -30,7 +31,7 @@ const DATA_SIZE: u8 = 4;
 
 // Whether an entry may be written.
 fn may_write(access: Access) -> bool
-    ensures { λ r. ⌜ r ≡ mayWrite access ⌝ }
+    ensures { λ r. ⌜ r ≡ isWritable access ⌝ }
 {
     match access {
         Access::Constant => false,
@@ -74,7 +75,7 @@ fn is_mapping_shut(nmt: NmtState, d: &[u8], p: usize) -> bool
 // "entries while :0 is not 0".
 fn is_entry_shut(nmt: NmtState, d: &[u8], p: usize) -> bool
     requires { ⌜ (length (now d) ≡ dictionaryLength) × IsPdo p ⌝ }
-    ensures { λ r. ⌜ r ≡ isWrongTime nmt (now (d .entry)) (mappingEntry p) ⌝ }
+    ensures { λ r. ⌜ r ≡ isWrongTime nmt (now (d .entry)) (MappingEntry p) ⌝ }
 {
     if is_mapping_shut(nmt, d, p) {
         return true;
@@ -85,7 +86,7 @@ fn is_entry_shut(nmt: NmtState, d: &[u8], p: usize) -> bool
 // Whether an entry of that role may not be written now.
 fn is_wrong_time(nmt: NmtState, d: &[u8], role: Role) -> bool
     requires { ⌜ (length (now d) ≡ dictionaryLength) × IsPdo (pdoOf role) ⌝ }
-    ensures { λ r. ⌜ r ≡ isWrongTime nmt (now (d .entry)) (roleBack role) ⌝ }
+    ensures { λ r. ⌜ r ≡ isWrongTime nmt (now (d .entry)) role ⌝ }
 {
     match role {
         Role::Plain => false,

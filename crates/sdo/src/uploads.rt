@@ -2,7 +2,7 @@
 ghost use mathlib.Core.Path.{_≡_};
 ghost use mathlib.Core.Bool.{false};
 ghost use Rattle.rules_services.specs.Sdo.{askedIndex, askedSubindex};
-ghost use Rattle.dictionary.proofs.Stands.{Stands};
+ghost use Rattle.dictionary.specs.Entries.{Stands};
 ghost use Rattle.effects.specs.Leaves.{bare};
 ghost use Rattle.sdo.specs.Requests.{objectAsked, uploadedBy};
 ghost use Rattle.sdo.specs.Serving.{Servable, Served};

@@ -13,7 +13,8 @@ use Rattle.rules_dictionary.specs.Table.{table, pdos, transmitPdos, mapCount, m
 use Rattle.rules_dictionary.specs.Values.{read, write, unpacked}
 use Rattle.rules_dictionary.specs.Legal.{isBelow, isAbove}
 use Rattle.rules_dictionary.specs.Plans.{mapped, planFor, plansOf, readyFor, readyOf}
-use Rattle.rules_dictionary.proofs.Tests.{and-left, and-right, In, all-in}
+use Rattle.rules_dictionary.specs.Members.{In}
+use Rattle.rules_dictionary.proofs.Tests.{and-left, and-right, all-in}
 use Rattle.rules_dictionary.proofs.Members.{all-of, in-map, count-in, unpacked-table}
 use Rattle.rules.specs.Outcome.{sameBy, samePlan, sameData}
 use Rattle.rules.specs.Sound.{pairwise, constantsAsListed, inRange, valuesInRange, mappingLegal, mappingsLegal, identifiersLegal, dictionarySound, statusAsMade, modeAsMade, plansFresh, readyFresh, driveSound, heartbeatSound, waitingSound, sound}

@@ -8,13 +8,16 @@ use lib.ListN.{take, drop}
 use Rattle.rules_dictionary.specs.declared.PdoData.{PdoData}
 use Rattle.state.specs.declared.NmtState.{NmtState}
 use Rattle.rules_dictionary.specs.Numbers.{value}
-use Rattle.rules_dictionary.specs.Table.{Row, Role, plain, modeOfOperation, pdoIdentifier, pdoType, mappingCount, mappingEntry, table, sizeOf, pdos, identifier, transmissionType, mapCount, mapEntry, mapSlots, wordIndex, wordSubindex, Found, found, noObject, noSubindex, lookup}
+use Rattle.rules_dictionary.specs.declared.Role.{Role}
+use Rattle.rules_dictionary.specs.declared.Role.the-variants.{Plain, ModeOfOperation, PdoIdentifier, PdoType, MappingCount, MappingEntry}
+use Rattle.rules_dictionary.specs.Table.{Row, table, sizeOf, pdos, identifier, transmissionType, mapCount, mapEntry, mapSlots, wordIndex, wordSubindex, Found, found, noObject, noSubindex, lookup}
 use Rattle.rules_dictionary.specs.Values.{read, unpacked}
 use Rattle.rules_dictionary.specs.Aborts.{isGood}
 use Rattle.rules_dictionary.specs.Legal.{identifiers, mapWords, valueVerdict, otherBadValue, mappingVerdict}
 use Rattle.rules_dictionary.specs.Plans.{andThen, targets, mapped}
-use Rattle.rules_dictionary.proofs.Tests.{In, here, there, none-in}
-use Rattle.rules_dictionary.proofs.Packing.{found-in}
+use Rattle.rules_dictionary.specs.Members.{In, here, there}
+use Rattle.rules_dictionary.proofs.Tests.{none-in}
+use Rattle.rules_dictionary.proofs.LookUp.{found-in}
 use Rattle.rules_dictionary.proofs.Members.{words-read, identifier-in, type-in, count-in, entry-in}
 use Rattle.rules_services.specs.PdoTraffic.{works, typeOf, areLegal}
 use Rattle.rules.specs.Sound.{heldSound}
@@ -22,12 +25,12 @@ use Rattle.theorems.proofs.Dictionary.{map-same, pdo-of, byCount}
 
 -- the row is of a PDO
 abbrev pub isPdo : Role → Bool
-isPdo plain = false
-isPdo modeOfOperation = false
-isPdo (pdoIdentifier p) = true
-isPdo (pdoType p) = true
-isPdo (mappingCount p) = true
-isPdo (mappingEntry p) = true
+isPdo Plain = false
+isPdo ModeOfOperation = false
+isPdo (PdoIdentifier p) = true
+isPdo (PdoType p) = true
+isPdo (MappingCount p) = true
+isPdo (MappingEntry p) = true
 
 -- ---- what a mapping names stands in the table
 
@@ -73,21 +76,21 @@ module _ (d d′ : List ℕ) (alike : (y : Row) → In y table → isPdo (y .rol
 
   other-alike : (x : Row) → In x table → (v : ℕ) (r : Role) → x .role ≡ r → otherBadValue d′ r v ≡ otherBadValue d r v
   unfolding otherBadValue
-  other-alike x i v plain e = refl
-  other-alike x i v modeOfOperation e = refl
-  other-alike x i v (pdoIdentifier p) e = rw identifiers-alike
-  other-alike x i v (pdoType p) e = refl
-  other-alike x i v (mappingCount p) e = refl
-  other-alike x i v (mappingEntry p) e = refl
+  other-alike x i v Plain e = refl
+  other-alike x i v ModeOfOperation e = refl
+  other-alike x i v (PdoIdentifier p) e = rw identifiers-alike
+  other-alike x i v (PdoType p) e = refl
+  other-alike x i v (MappingCount p) e = refl
+  other-alike x i v (MappingEntry p) e = refl
 
   mapping-alike : (x : Row) → In x table → (v : ℕ) (r : Role) → x .role ≡ r → mappingVerdict d′ r v ≡ mappingVerdict d r v
   unfolding mappingVerdict
-  mapping-alike x i v plain e = refl
-  mapping-alike x i v modeOfOperation e = refl
-  mapping-alike x i v (pdoIdentifier p) e = refl
-  mapping-alike x i v (pdoType p) e = refl
-  mapping-alike x i v (mappingCount p) e = rw (words-alike (pdo-of i e byCount))
-  mapping-alike x i v (mappingEntry p) e = refl
+  mapping-alike x i v Plain e = refl
+  mapping-alike x i v ModeOfOperation e = refl
+  mapping-alike x i v (PdoIdentifier p) e = refl
+  mapping-alike x i v (PdoType p) e = refl
+  mapping-alike x i v (MappingCount p) e = rw (words-alike (pdo-of i e byCount))
+  mapping-alike x i v (MappingEntry p) e = refl
 
   pub verdict-alike : (x : Row) → In x table → (v : ℕ) → valueVerdict d′ x v ≡ valueVerdict d x v
   unfolding valueVerdict

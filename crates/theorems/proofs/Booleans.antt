@@ -8,7 +8,7 @@ use mathlib.Core.List.{List, [], _∷_}
 use lib.Dec.{eqb}
 use borrow.Author.Tests.{eqb-true, eq-eqb}
 use Rattle.rules_dictionary.specs.Numbers.{any}
-use Rattle.rules_dictionary.proofs.Tests.{In, here, there}
+use Rattle.rules_dictionary.specs.Members.{In, here, there}
 
 -- a test passes or fails
 pub either : (b : Bool) → (b ≡ true) ⊎ (b ≡ false)

@@ -16,13 +16,14 @@ use Rattle.state.specs.declared.NmtState.the-variants.{PreOperational, Operatio
 use Rattle.state.specs.declared.Refusal.the-variants.{DictionaryLength, OutputLength, NodeId, BadFrame, BadEvent, OutOfPlace}
 use Rattle.rules_dictionary.specs.Numbers.{any, filter, bytes}
 use Rattle.rules_dictionary.specs.TheNode.{isNodeId}
-use Rattle.rules_dictionary.specs.Table.{Row, table, same, sizeOf, dictionaryLength, statusWord, modeDisplay, controlWord, errorRegister, heartbeatTime, receivePdos, transmitPdos, Found, found, noObject, noSubindex, lookup, open-table, placeOf}
+use Rattle.rules_dictionary.specs.Table.{Row, table, same, sizeOf, dictionaryLength, statusWord, modeDisplay, controlWord, errorRegister, heartbeatTime, receivePdos, transmitPdos, Found, found, noObject, noSubindex, lookup, open-table, placeOf, isReset}
 use Rattle.rules_dictionary.specs.Values.{Write, write, read, store, stored, unpacked, toDefaults, defaultOf}
 use Rattle.rules_dictionary.specs.Aborts.{Verdict, good, bad}
 use Rattle.rules_dictionary.specs.Legal.{isSynchronous}
 use Rattle.rules_dictionary.specs.Plans.{mapped, pdoData}
-use Rattle.rules_dictionary.proofs.Tests.{In, here, there, none-in}
-use Rattle.rules_dictionary.proofs.Members.{in-left, in-right, in-append}
+use Rattle.rules_dictionary.specs.Members.{In, here, there}
+use Rattle.rules_dictionary.proofs.Tests.{none-in}
+use Rattle.rules_dictionary.proofs.Members.{in-left, in-right, in-append, in-cons, filter-in}
 use Rattle.rules_dictionary.proofs.Defaults.{length-bytes}
 use Rattle.drive.specs.declared.Controlled.{Controlled}
 use Rattle.drive.specs.SetPoints.{controlWritten}
@@ -31,7 +32,7 @@ use Rattle.rules_services.specs.Emergency.{emergency, pdoTooShort, pdoTooLong, 
 use Rattle.rules_services.specs.Written.{wrote, countRestarted, modeActed, faultReset, controlActed, applied}
 use Rattle.rules_services.specs.Sdo.{Command, download, upload, clientAbort, unknown, commandOf, commandByte, askedIndex, askedSubindex, askedValue, downloadVerdict, decided as sdoDecided, toRow, toObject, asked, sdo, abort, requestBase, requestLength}
 use Rattle.rules_services.specs.PdoTraffic.{typeOf, mappedLength, areLegal, heldOrApplied, received, listens, receivedBy, noData, isHeld, release, releaseAll, sync, syncBase}
-use Rattle.rules_services.specs.Nmt.{nmt, nmtIdentifier, nmtLength, everyNode, commanded, commandOf as nmtCommandOf, Command as NmtCommand, start, stop, enterPreOperational, resetNode, resetCommunication, unknown as unknownNmt, powerUp, tick as ticked, left, isReset, heartbeat}
+use Rattle.rules_services.specs.Nmt.{nmt, nmtIdentifier, nmtLength, everyNode, commanded, commandOf as nmtCommandOf, Command as NmtCommand, start, stop, enterPreOperational, resetNode, resetCommunication, unknown as unknownNmt, powerUp, tick as ticked, left, heartbeat}
 use Rattle.rules_services.specs.Events.{Told, event, badEvent, eventOf, Event, started, quickStopDone, reactionDone, setPointReached, tick, causeGone, fault, feedback, voltage, isInPlace, happens, faulted}
 use Rattle.rules.specs.Outcome.{ended, settled, statusOf, mostData}
 use Rattle.rules.specs.Sound.{sound}
@@ -43,8 +44,7 @@ use Rattle.theorems.proofs.Dictionary.{DictionaryOk}
 use Rattle.theorems.proofs.Mapped.{unpacked-rows, received-row, receive-mapped}
 use Rattle.theorems.proofs.Lawful.{Lawful, sound-lawful}
 use Rattle.theorems.proofs.Writes.{no-pdo-alike, one-row}
-use Rattle.theorems.proofs.NmtKept.{in-cons, filter-in}
-use Rattle.rules_dictionary.proofs.Packing.{found-in}
+use Rattle.rules_dictionary.proofs.LookUp.{found-in}
 use Rattle.theorems.proofs.Runs.{run-holds, passed}
 use Rattle.theorems.proofs.Settled.{status-in, display-in}
 

@@ -21,9 +21,10 @@ use Rattle.rules_dictionary.specs.Values.{field, read, unpacked}
 use Rattle.rules_dictionary.specs.Aborts.{Abort, abortCode, Verdict, bad}
 use Rattle.rules_dictionary.specs.Legal.{isValid, frameIdentifier, reservedBits, transmits, transmitBit, firstIdentifier, lastIdentifier as lastPdoIdentifier, identifiers}
 use Rattle.rules_dictionary.specs.Plans.{mapped, targets, readyFor, plansOf, readyOf, joined, pdoData}
-use Rattle.rules_dictionary.proofs.Tests.{and-left, and-right, and-both, In, here, there, each-in, none-in}
+use Rattle.rules_dictionary.specs.Members.{In, here, there}
+use Rattle.rules_dictionary.proofs.Tests.{and-left, and-right, and-both, each-in, none-in}
 use Rattle.rules_dictionary.proofs.Packing.{within}
-use Rattle.rules_dictionary.proofs.Members.{in-map, in-left, words-read}
+use Rattle.rules_dictionary.proofs.Members.{in-map, in-left, words-read, in-cons}
 use Rattle.rules_dictionary.proofs.Rows.{bytes-value, part-bytes, read-fits}
 use Rattle.rules_services.proofs.Tempting.{short-frame-dropped}
 use Rattle.rules_services.specs.Effects.{Frame, frame, Effect, becomes, sends, isStopped, isOperational}
@@ -39,7 +40,6 @@ use Rattle.theorems.proofs.Booleans.{clash, or-false-right, and-then-fa
 use Rattle.theorems.proofs.Identifiers.{Fits, fits, badAlone}
 use Rattle.theorems.proofs.Dictionary.{DictionaryOk, map-same}
 use Rattle.theorems.proofs.Settled.{status-in}
-use Rattle.theorems.proofs.NmtKept.{in-cons}
 use Rattle.theorems.proofs.Lawful.{sound-lawful, transmitter-in}
 use Rattle.theorems.proofs.Runs.{Holds, run-holds, step-holds, passed}
 use Rattle.theorems.proofs.Mapped.{mapped-short}

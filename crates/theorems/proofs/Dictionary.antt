@@ -10,11 +10,14 @@ use borrow.Author.Tests.{eqb-true, eq-eqb, ltb-true}
 use lib.Dec.{eqb, ltb}
 use lib.ListN.{length, getD}
 use Rattle.rules_dictionary.specs.Numbers.{all}
-use Rattle.rules_dictionary.specs.Table.{Row, Role, plain, modeOfOperation, pdoIdentifier, pdoType, mappingCount, mappingEntry, table, sizeOf, dictionaryLength, isConstant, pdos, identifier, mapCount, mapEntry, mapSlots}
+use Rattle.rules_dictionary.specs.declared.Role.{Role}
+use Rattle.rules_dictionary.specs.declared.Role.the-variants.{Plain, ModeOfOperation, PdoIdentifier, PdoType, MappingCount, MappingEntry}
+use Rattle.rules_dictionary.specs.Table.{Row, table, sizeOf, dictionaryLength, isConstant, pdos, identifier, mapCount, mapEntry, mapSlots}
 use Rattle.rules_dictionary.specs.Values.{Write, write, read, store, defaultOf, unpacked}
 use Rattle.rules_dictionary.specs.Aborts.{isGood, firstOf}
 use Rattle.rules_dictionary.specs.Legal.{entryVerdict, countVerdict, mapWords, identifiers, badIdentifier}
-use Rattle.rules_dictionary.proofs.Tests.{and-left, and-right, and-both, In, here, there, all-in}
+use Rattle.rules_dictionary.specs.Members.{In, here, there}
+use Rattle.rules_dictionary.proofs.Tests.{and-left, and-right, and-both, all-in}
 use Rattle.rules_dictionary.proofs.Packing.{apart, within, same-or-apart}
 use Rattle.rules_dictionary.proofs.Rows.{read-apart, read-same}
 use Rattle.rules_dictionary.proofs.Members.{all-of, unpacked-table, words-read, identifier-in, count-in, entry-in}
@@ -87,9 +90,9 @@ pub record MayHold (n : ℕ) (d : List ℕ) (x : Row) (v : ℕ) : Type 0 where
   pub fits : v < 256 ^ sizeOf x
   pub listed : isConstant (x .access) ≡ true → v ≡ defaultOf n x
   pub ranged : inRange x v ≡ true
-  pub entry : (p : ℕ) → x .role ≡ mappingEntry p → (isGood (entryVerdict p v) ≡ true) × (read d (mapCount p) ≡ 0)
-  pub count : (p : ℕ) → x .role ≡ mappingCount p → isGood (countVerdict (mapWords d p) v) ≡ true
-  pub named : (p : ℕ) → x .role ≡ pdoIdentifier p → badIdentifier (identifiers d) p v ≡ false
+  pub entry : (p : ℕ) → x .role ≡ MappingEntry p → (isGood (entryVerdict p v) ≡ true) × (read d (mapCount p) ≡ 0)
+  pub count : (p : ℕ) → x .role ≡ MappingCount p → isGood (countVerdict (mapWords d p) v) ≡ true
+  pub named : (p : ℕ) → x .role ≡ PdoIdentifier p → badIdentifier (identifiers d) p v ≡ false
 
 pub map-same {ℓ κ} : {A : Type ℓ} {B : Type κ} (f g : A → B) (xs : List A) → ((x : A) → In x xs → f x ≡ g x) → map f xs ≡ map g xs
 map-same f g [] h = refl
@@ -97,12 +100,12 @@ map-same f g (x ∷ xs) h = ap₂ _∷_ (h x here) (map-same f g xs (λ y i. h y
 
 -- a PDO's row belongs to one of the eight
 ofPdo : Role → Bool
-ofPdo plain = true
-ofPdo modeOfOperation = true
-ofPdo (pdoIdentifier p) = ltb p 8
-ofPdo (pdoType p) = ltb p 8
-ofPdo (mappingCount p) = ltb p 8
-ofPdo (mappingEntry p) = ltb p 8
+ofPdo Plain = true
+ofPdo ModeOfOperation = true
+ofPdo (PdoIdentifier p) = ltb p 8
+ofPdo (PdoType p) = ltb p 8
+ofPdo (MappingCount p) = ltb p 8
+ofPdo (MappingEntry p) = ltb p 8
 
 roles-test : all (λ x. ofPdo (x .role)) table ≡ true
 unfolding ofPdo table
@@ -121,10 +124,10 @@ in-pdos (suc (suc (suc (suc (suc (suc (suc (suc p)))))))) h = absurd (omega arit
 
 -- the PDO that a role names
 pub data Names (p : ℕ) : Role → Type 0 where
-  byIdentifier : Names p (pdoIdentifier p)
-  byType : Names p (pdoType p)
-  byCount : Names p (mappingCount p)
-  byEntry : Names p (mappingEntry p)
+  byIdentifier : Names p (PdoIdentifier p)
+  byType : Names p (PdoType p)
+  byCount : Names p (MappingCount p)
+  byEntry : Names p (MappingEntry p)
 
 pub pdo-of : {x : Row} {r : Role} {p : ℕ} → In x table → x .role ≡ r → Names p r → In p pdos
 unfolding ofPdo
@@ -136,18 +139,18 @@ pdo-of {x} {r} {p} i e names = in-pdos p (ltb-true p 8 (go names (ap ofPdo (sym 
     go byCount h = h
     go byEntry h = h
 
-no-both : {p q : ℕ} → mappingCount p ≡ mappingEntry q → ⊥
+no-both : {p q : ℕ} → MappingCount p ≡ MappingEntry q → ⊥
 no-both e = let c : _≡_ {A = ℕ} 0 1 = cc in omega arith
 
 isName : Role → Bool
-isName plain = false
-isName modeOfOperation = false
-isName (pdoIdentifier p) = true
-isName (pdoType p) = false
-isName (mappingCount p) = false
-isName (mappingEntry p) = false
+isName Plain = false
+isName ModeOfOperation = false
+isName (PdoIdentifier p) = true
+isName (PdoType p) = false
+isName (MappingCount p) = false
+isName (MappingEntry p) = false
 
-same-pdo : {p q : ℕ} → pdoIdentifier p ≡ pdoIdentifier q → q ≡ p
+same-pdo : {p q : ℕ} → PdoIdentifier p ≡ PdoIdentifier q → q ≡ p
 same-pdo e = cc
 
 -- no mapping at all is legal, whatever the words
@@ -214,20 +217,20 @@ module _ (n : ℕ) (d : List ℕ) (x : Row) (v : ℕ) (here-in : In x table) (lo
           ∙ ok .counts p i
 
   -- the identifiers stay where none of them was written
-  names-stay : ((q : ℕ) → x .role ≡ pdoIdentifier q → ⊥) → (q : ℕ) → In q pdos → read d′ (identifier q) ≡ read d (identifier q)
+  names-stay : ((q : ℕ) → x .role ≡ PdoIdentifier q → ⊥) → (q : ℕ) → In q pdos → read d′ (identifier q) ≡ read d (identifier q)
   names-stay other q j = go (after (identifier q) (identifier-in j))
     where
       go : ((x ≡ identifier q) × (read d′ (identifier q) ≡ v)) ⊎ (read d′ (identifier q) ≡ read d (identifier q)) → read d′ (identifier q) ≡ read d (identifier q)
       go (inl s) = absurd (other q (ap (λ (z : Row). z .role) (s .0)))
       go (inr s) = s
 
-  names-kept : ((q : ℕ) → x .role ≡ pdoIdentifier q → ⊥) → (q : ℕ) → In q pdos → badIdentifier (identifiers d′) q (read d′ (identifier q)) ≡ false
+  names-kept : ((q : ℕ) → x .role ≡ PdoIdentifier q → ⊥) → (q : ℕ) → In q pdos → badIdentifier (identifiers d′) q (read d′ (identifier q)) ≡ false
   unfolding identifiers
   names-kept other q j =
       ap₂ (λ (ws : List ℕ) (w : ℕ). badIdentifier ws q w) (map-same (λ q. read d′ (identifier q)) (λ q. read d (identifier q)) pdos (names-stay other)) (names-stay other q j)
       ∙ ok .named q j
 
-  one-named : (p : ℕ) → x .role ≡ pdoIdentifier p → (q : ℕ) → In q pdos → badIdentifier (identifiers d′) q (read d′ (identifier q)) ≡ false
+  one-named : (p : ℕ) → x .role ≡ PdoIdentifier p → (q : ℕ) → In q pdos → badIdentifier (identifiers d′) q (read d′ (identifier q)) ≡ false
   unfolding identifiers
   one-named p e q j =
       identifiers-stay (λ q. read d (identifier q)) (λ q. read d′ (identifier q)) p v (pdo-of here-in e byIdentifier)
@@ -243,12 +246,12 @@ module _ (n : ℕ) (d : List ℕ) (x : Row) (v : ℕ) (here-in : In x table) (lo
   named-after q j = go (x .role) refl
     where
       go : (r : Role) → x .role ≡ r → badIdentifier (identifiers d′) q (read d′ (identifier q)) ≡ false
-      go plain e = names-kept (λ p h. clash (isName (x .role)) (ap isName h) (ap isName e)) q j
-      go modeOfOperation e = names-kept (λ p h. clash (isName (x .role)) (ap isName h) (ap isName e)) q j
-      go (pdoIdentifier p) e = one-named p e q j
-      go (pdoType p) e = names-kept (λ p h. clash (isName (x .role)) (ap isName h) (ap isName e)) q j
-      go (mappingCount p) e = names-kept (λ p h. clash (isName (x .role)) (ap isName h) (ap isName e)) q j
-      go (mappingEntry p) e = names-kept (λ p h. clash (isName (x .role)) (ap isName h) (ap isName e)) q j
+      go Plain e = names-kept (λ p h. clash (isName (x .role)) (ap isName h) (ap isName e)) q j
+      go ModeOfOperation e = names-kept (λ p h. clash (isName (x .role)) (ap isName h) (ap isName e)) q j
+      go (PdoIdentifier p) e = one-named p e q j
+      go (PdoType p) e = names-kept (λ p h. clash (isName (x .role)) (ap isName h) (ap isName e)) q j
+      go (MappingCount p) e = names-kept (λ p h. clash (isName (x .role)) (ap isName h) (ap isName e)) q j
+      go (MappingEntry p) e = names-kept (λ p h. clash (isName (x .role)) (ap isName h) (ap isName e)) q j
 
 pub store-ok : (n : ℕ) (d : List ℕ) (x : Row) (v : ℕ) → In x table → length d ≡ dictionaryLength → DictionaryOk n d → MayHold n d x v → DictionaryOk n (store x v d)
 unfolding d′

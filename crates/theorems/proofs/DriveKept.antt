@@ -16,7 +16,7 @@ use Rattle.rules_dictionary.proofs.Tests.{and-left, and-right, and-both}
 use Rattle.drive.specs.declared.Command.{Command}
 use Rattle.drive.specs.declared.Command.the-variants.{None, FaultReset, DisableVoltage, QuickStop, Shutdown, SwitchOn, Enable}
 use Rattle.drive.specs.DriveStates.{isFaulty, command, next}
-use Rattle.drive.specs.SetPoints.{positions, emptied, enters, withState, withMode, withStore, withMarks, isEmpty, isMoving, isQueued, reached, take, offered, target, withinLimits, setPoint, setPointRule, modeWritten, modeOf, controlWritten, newSetPointBit, atOnceBit}
+use Rattle.drive.specs.SetPoints.{positions, emptied, enters, withState, withMode, withStore, withMarks, isEmpty, isMoving, isQueued, reached, offered, target, withinLimits, setPoint, setPointRule, modeWritten, modeOf, controlWritten, newSetPointBit, atOnceBit, withTaken}
 use Rattle.rules.specs.Sound.{storeInPlace, takenInPlace, causeInPlace, driveSound}
 use Rattle.theorems.proofs.Booleans.{clash, implied, implies}
 
@@ -110,10 +110,10 @@ pub record SameDrive (v w : Drive) : Type 0 where
   pub cause : w .cause ≡ v .cause
 
 offered-same : (d : List ℕ) (word : ℕ) (v : Drive) → SameDrive v (offered d word v)
-unfolding offered take
+unfolding offered withTaken
 offered-same d word v = go (not (bit atOnceBit word) && isQueued (v .store)) (withinLimits d (target d word (v .store)))
   where
-    go : (a b : Bool) → SameDrive v (cond a v (cond b (take word (setPoint d (target d word (v .store))) v) (withMarks (v .taken) true v)))
+    go : (a b : Bool) → SameDrive v (cond a v (cond b (withTaken word (setPoint d (target d word (v .store))) v) (withMarks (v .taken) true v)))
     go true b = record { state = refl; mode = refl; cause = refl }
     go false true = record { state = refl; mode = refl; cause = refl }
     go false false = record { state = refl; mode = refl; cause = refl }

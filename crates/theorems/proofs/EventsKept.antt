@@ -4,7 +4,7 @@ use Prim.Native.Nat.{ℕ, zero, suc, _*_, _^_, _<_}
 use native.Mathlib.Omega.{arith}
 use native.Mathlib.Nat.{pow-suc}
 use mathlib.Core.Path.{_≡_, refl, _∙_, ap}
-use mathlib.Core.Bool.{Bool, true, false, cond, _&&_, _||_}
+use mathlib.Core.Bool.{true, false, cond, _&&_, _||_}
 use mathlib.Core.List.{List, [], _∷_}
 use borrow.Author.Tests.{ltb-true}
 use lib.Bits.{bitOr, or-lt}
@@ -14,10 +14,13 @@ use Rattle.drive.specs.declared.DriveState.the-variants.{NotReady, SwitchOnDisa
 use Rattle.drive.specs.declared.Drive.{Drive}
 use Rattle.state.specs.declared.State.{State}
 use Rattle.rules_dictionary.specs.Numbers.{value, isByte, areBytes}
-use Rattle.rules_dictionary.specs.Table.{Row, plain, whole, table, sizeOf, isConstant, errorCode, errorRegister, position, velocity, mode, controlWord, heartbeatTime, open-table}
+use Rattle.rules_dictionary.specs.declared.Role.the-variants.{Plain}
+use Rattle.rules_dictionary.specs.Table.{Row, whole, table, sizeOf, isConstant, errorCode, errorRegister, position, velocity, mode, controlWord, heartbeatTime, open-table}
 use Rattle.rules_dictionary.specs.Values.{read, store, stored}
-use Rattle.rules_dictionary.proofs.Tests.{and-left, and-right, and-both, In}
-use Rattle.rules_dictionary.proofs.Packing.{apart, found-in, within}
+use Rattle.rules_dictionary.specs.Members.{In}
+use Rattle.rules_dictionary.proofs.Tests.{and-left, and-right, and-both, or-left, or-right}
+use Rattle.rules_dictionary.proofs.LookUp.{found-in}
+use Rattle.rules_dictionary.proofs.Packing.{apart, within}
 use Rattle.rules_dictionary.proofs.Rows.{read-fits}
 use Rattle.drive.specs.DriveStates.{isNotReady, isQuickStop, isFaulty}
 use Rattle.drive.specs.SetPoints.{enters, withStore, withCause, reached}
@@ -54,7 +57,7 @@ pub record PlainRow (x : Row) : Type 0 where
   pub quiet : isPdo (x .role) ≡ false
   pub variable : isConstant (x .access) ≡ false
   pub unread : (apart x mode ≡ true) × (apart x controlWord ≡ true) × (apart x heartbeatTime ≡ true)
-  pub free : (x .range ≡ whole (x .type)) × (x .role ≡ plain)
+  pub free : (x .range ≡ whole (x .type)) × (x .role ≡ Plain)
 
 pub plain-lawful : (s : State) (d : List ℕ) (x : Row) (v : ℕ) → Lawful s d → PlainRow x → v < 256 ^ sizeOf x → Lawful s (store x v d)
 plain-lawful s d x v law r f =
@@ -99,13 +102,6 @@ unfaulty OperationEnabled h = refl
 unfaulty QuickStopActive h = refl
 unfaulty FaultReactionActive h = clash false h refl
 unfaulty Fault h = clash false h refl
-
-or-left : (a b : Bool) → a ≡ true → (a || b) ≡ true
-or-left a b h = rw h
-
-or-right : (a b : Bool) → b ≡ true → (a || b) ≡ true
-or-right true b h = refl
-or-right false b h = h
 
 module _ (s : State) (d : List ℕ) (law : Lawful s d) where
   v0 : Drive

@@ -11,7 +11,8 @@ use lib.ListN.{getD}
 use Rattle.rules_dictionary.specs.Numbers.{bit, between, any}
 use Rattle.rules_dictionary.specs.Table.{pdos, directionOf}
 use Rattle.rules_dictionary.specs.Legal.{badIdentifier, clashes, isValid, frameIdentifier, reservedBits, transmits, transmitBit, firstIdentifier, lastIdentifier}
-use Rattle.rules_dictionary.proofs.Tests.{In, each-in, and-left, and-right, and-both}
+use Rattle.rules_dictionary.specs.Members.{In}
+use Rattle.rules_dictionary.proofs.Tests.{each-in, and-left, and-right, and-both}
 use Rattle.theorems.proofs.Booleans.{clash, or-false-left, or-false-right, or-both-false, and-false-if, and-then-false, not-false, any-false-in, any-false-of, eqb-comm}
 
 -- the eight PDOs are 0 to 7 in order

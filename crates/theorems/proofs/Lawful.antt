@@ -17,7 +17,8 @@ use Rattle.rules_dictionary.specs.Table.{Row, table, dictionaryLength, eachWay,
 use Rattle.rules_dictionary.specs.Values.{read, stored}
 use Rattle.rules_dictionary.specs.Legal.{modeNumber, isCyclic}
 use Rattle.rules_dictionary.specs.Plans.{plansOf, readyOf}
-use Rattle.rules_dictionary.proofs.Tests.{and-left, and-right, and-both, In, here, there, each-in}
+use Rattle.rules_dictionary.specs.Members.{In, here, there}
+use Rattle.rules_dictionary.proofs.Tests.{and-left, and-right, and-both, each-in}
 use Rattle.rules_dictionary.proofs.Members.{in-left, in-right}
 use Rattle.rules_services.specs.Effects.{Effect, isStopped}
 use Rattle.rules_services.specs.PdoTraffic.{Pace, pace, paceOf, cyclic, acyclic, eventDriven, works, typeOf}

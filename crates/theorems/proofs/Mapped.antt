@@ -15,8 +15,9 @@ use Rattle.rules_dictionary.specs.Values.{Write, write, read, store, stored, un
 use Rattle.rules_dictionary.specs.Aborts.{Verdict, good, bad, isGood}
 use Rattle.rules_dictionary.specs.Legal.{suits, targetVerdict, entryVerdict, countVerdict, mapWords, mostBits, valueVerdict, isAbove}
 use Rattle.rules_dictionary.specs.Plans.{andThen, targets, mapped}
-use Rattle.rules_dictionary.proofs.Tests.{and-left, and-right, and-both, In, here, there, none-in, all-in, each-in}
-use Rattle.rules_dictionary.proofs.Members.{all-of, in-left}
+use Rattle.rules_dictionary.specs.Members.{In, here, there}
+use Rattle.rules_dictionary.proofs.Tests.{and-left, and-right, and-both, none-in, all-in, each-in}
+use Rattle.rules_dictionary.proofs.Members.{all-of, in-left, in-cons}
 use Rattle.rules_dictionary.proofs.Rows.{length-store}
 use Rattle.rules_services.specs.PdoTraffic.{mappedLength, areLegal}
 use Rattle.rules_dictionary.specs.Table.{dictionaryLength}
@@ -24,7 +25,6 @@ use Rattle.theorems.proofs.Booleans.{clash, implied, or-false-left, or-
 use Rattle.theorems.proofs.Dictionary.{DictionaryOk, store-ok, entries-good}
 use Rattle.theorems.proofs.Alike.{isPdo, mapped-in}
 use Rattle.theorems.proofs.Settled.{drive-may}
-use Rattle.theorems.proofs.NmtKept.{in-cons}
 use Rattle.theorems.proofs.SdoKept.{good-passes, good-value, good-range}
 
 -- ---- a legal word is zero, or names a row of its direction by its length

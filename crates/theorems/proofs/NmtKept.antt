@@ -15,21 +15,23 @@ use Rattle.state.specs.declared.NmtState.the-variants.{PreOperational, Operatio
 use Rattle.state.specs.declared.State.{State}
 use Rattle.rules_dictionary.specs.Numbers.{all, filter, value}
 use Rattle.rules_dictionary.specs.TheNode.{lastNode, isNodeId}
-use Rattle.rules_dictionary.specs.Table.{Row, table, same, sizeOf, dictionaryLength, isConstant, pdos, receivePdos, transmitPdos, eachWay, mode, controlWord, heartbeatTime, identifier, mapCount, mapEntry, mapSlots, open-table}
+use Rattle.rules_dictionary.specs.Table.{Row, table, same, sizeOf, dictionaryLength, isConstant, pdos, receivePdos, transmitPdos, eachWay, mode, controlWord, heartbeatTime, identifier, mapCount, mapEntry, mapSlots, open-table, isReset}
 use Rattle.rules_dictionary.specs.Values.{read, store, stored, defaultOf, toDefaults}
 use Rattle.rules_dictionary.specs.Aborts.{isGood, open-aborts}
 use Rattle.rules_dictionary.specs.Legal.{isCyclic, modeNumber, entryVerdict, countVerdict, mapWords, identifiers, badIdentifier, open-legal}
-use Rattle.rules_dictionary.proofs.Tests.{and-left, and-right, and-both, In, here, there, each-in, all-in, allBelow, on-nodes, none-in}
-use Rattle.rules_dictionary.proofs.Members.{words-read, identifier-in, count-in, entry-in}
+use Rattle.rules_dictionary.specs.Members.{In, here, there}
+use Rattle.rules_dictionary.proofs.Tests.{and-left, and-right, and-both, each-in, all-in, allBelow, on-nodes}
+use Rattle.rules_dictionary.proofs.Members.{words-read, identifier-in, count-in, entry-in, filtered, filter-in}
 use Rattle.rules_dictionary.proofs.Rows.{length-store, length-stored, read-same, read-apart, field-stored}
-use Rattle.rules_dictionary.proofs.Packing.{apart, within, same-or-apart, found-in}
+use Rattle.rules_dictionary.proofs.LookUp.{found-in}
+use Rattle.rules_dictionary.proofs.Packing.{apart, within, same-or-apart}
 use Rattle.rules_dictionary.proofs.Defaults.{defaults-in-range}
 use Rattle.drive.specs.declared.Command.the-variants.{DisableVoltage}
 use Rattle.drive.specs.DriveStates.{next}
 use Rattle.drive.specs.SetPoints.{enters}
 use Rattle.rules_services.specs.Effects.{Effect, becomes, sends, withDrive, withNmt, withHeartbeat, isOperational, isPreOperational}
 use Rattle.rules_services.specs.PdoTraffic.{works, typeOf, noneHeld}
-use Rattle.rules_services.specs.Nmt.{left, voltageDisabled, isReset, commanded, Command, start, stop, enterPreOperational, resetNode, resetCommunication, unknown, noCounts, tick, heartbeat, powerUp, freshState}
+use Rattle.rules_services.specs.Nmt.{left, voltageDisabled, commanded, Command, start, stop, enterPreOperational, resetNode, resetCommunication, unknown, noCounts, tick, heartbeat, powerUp, freshState}
 use Rattle.rules.specs.Outcome.{transmitters}
 use Rattle.rules.specs.Sound.{sound, inRange, driveSound, storeInPlace, takenInPlace, causeInPlace, heartbeatSound, waitingSound, countSound, dueSound, heldSound, pairwise}
 use Rattle.theorems.proofs.Booleans.{either, clash, not-false}
@@ -173,34 +175,6 @@ module _ (n : ℕ) (legal : isNodeId n ≡ true) (x : Row) (i : In x table) wher
   default-read (r ∷ rs) d rows l (there j) = default-read rs (store r (defaultOf n r) d) (λ y k. rows y (there k)) (length-store r (defaultOf n r) d ∙ l) j
 
 -- ---- 82h
-
-pub in-cons {ℓ} : {A : Type ℓ} {x y : A} {ys : List A} → In x (y ∷ ys) → (x ≡ y) ⊎ In x ys
-in-cons here = inl refl
-in-cons (there i) = inr i
-
-pub filtered {ℓ} : {A : Type ℓ} (f : A → Bool) {x : A} (xs : List A) → In x (filter f xs) → In x xs × (f x ≡ true)
-filtered f [] i = absurd (none-in i)
-filtered f {x} (y ∷ ys) i = go (f y) refl i (λ j. filtered f ys j)
-  where
-    head : f y ≡ true → (In x (filter f ys) → In x ys × (f x ≡ true)) → (x ≡ y) ⊎ In x (filter f ys) → In x (y ∷ ys) × (f x ≡ true)
-    head e rest (inl q) = (subst (λ z. In x (z ∷ ys)) q here, ap f q ∙ e)
-    head e rest (inr j) = let r = rest j in (there (r .0), r .1)
-
-    go : (b : Bool) → f y ≡ b → In x (elim b [ true ↦ y ∷ filter f ys | false ↦ filter f ys ]) → (In x (filter f ys) → In x ys × (f x ≡ true)) → In x (y ∷ ys) × (f x ≡ true)
-    go true e j rest = head e rest (in-cons j)
-    go false e j rest = let r = rest j in (there (r .0), r .1)
-
-pub filter-in {ℓ} : {A : Type ℓ} (f : A → Bool) {x : A} {xs : List A} → In x xs → f x ≡ true → In x (filter f xs)
-filter-in f {x} (here {xs = ys}) h = go (f x) h
-  where
-    go : (b : Bool) → b ≡ true → In x (elim b [ true ↦ x ∷ filter f ys | false ↦ filter f ys ])
-    go true e = here
-    go false e = clash false e refl
-filter-in f {x} (there {y = y} {xs = ys} i) h = go (f y) (filter-in f i h)
-  where
-    go : (b : Bool) → In x (filter f ys) → In x (elim b [ true ↦ y ∷ filter f ys | false ↦ filter f ys ])
-    go true j = there j
-    go false j = j
 
 -- the default identifiers are legal together, on every node
 names-test : allBelow (λ k. all (λ p. not (badIdentifier (map (λ p. defaultOf (suc k) (identifier p)) pdos) p (defaultOf (suc k) (identifier p)))) pdos) lastNode ≡ true

@@ -19,7 +19,8 @@ use Rattle.rules_dictionary.specs.Table.{Row, sizeOf, receivePdos, transmitPdos
 use Rattle.rules_dictionary.specs.Values.{Write, write, stored, unpacked}
 use Rattle.rules_dictionary.specs.Legal.{isSynchronous}
 use Rattle.rules_dictionary.specs.Plans.{mapped, pdoData}
-use Rattle.rules_dictionary.proofs.Tests.{and-left, and-right, and-both, In, here, there, each-in}
+use Rattle.rules_dictionary.specs.Members.{In, here, there}
+use Rattle.rules_dictionary.proofs.Tests.{and-left, and-right, and-both, each-in}
 use Rattle.rules_dictionary.proofs.Members.{in-left}
 use Rattle.rules_services.specs.Effects.{becomes, sends, syncs, andThen, withHeld, isStopped, isOperational}
 use Rattle.rules_services.specs.Emergency.{emergency, pdoTooShort, pdoTooLong, valueRefused, syncLength}

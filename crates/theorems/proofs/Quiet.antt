@@ -16,7 +16,8 @@ use Rattle.rules_dictionary.specs.Table.{Row, sizeOf, statusWord, modeDisplay, 
 use Rattle.rules_dictionary.specs.Values.{field, read, store, stored}
 use Rattle.rules_dictionary.specs.Legal.{isCyclic, modeNumber}
 use Rattle.rules_dictionary.specs.Plans.{readyOf}
-use Rattle.rules_dictionary.proofs.Tests.{and-left, and-right, In}
+use Rattle.rules_dictionary.specs.Members.{In}
+use Rattle.rules_dictionary.proofs.Tests.{and-left, and-right}
 use Rattle.rules_dictionary.proofs.Packing.{within}
 use Rattle.rules_dictionary.proofs.Rows.{bytes-value, part-bytes}
 use Rattle.rules_services.specs.Effects.{Frame, becomes, sends, isOperational}

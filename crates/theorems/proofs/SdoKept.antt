@@ -12,12 +12,17 @@ use Rattle.state.specs.declared.NmtState.{NmtState}
 use Rattle.state.specs.declared.NmtState.the-variants.{PreOperational, Operational, Stopped}
 use Rattle.state.specs.declared.State.{State}
 use Rattle.rules_dictionary.specs.Numbers.{areBytes}
-use Rattle.rules_dictionary.specs.Table.{Row, Role, plain, modeOfOperation, pdoIdentifier, pdoType, mappingCount, mappingEntry, Access, constant, nodeWritten, writable, table, sizeOf, isConstant, isWritable, identifier, mapCount, Found, found, noObject, noSubindex, lookup}
+use Rattle.rules_dictionary.specs.declared.Role.{Role}
+use Rattle.rules_dictionary.specs.declared.Role.the-variants.{Plain, ModeOfOperation, PdoIdentifier, PdoType, MappingCount, MappingEntry}
+use Rattle.rules_dictionary.specs.declared.Access.{Access}
+use Rattle.rules_dictionary.specs.declared.Access.the-variants.{Constant, NodeWritten, Writable}
+use Rattle.rules_dictionary.specs.Table.{Row, table, sizeOf, isConstant, isWritable, identifier, mapCount, Found, found, noObject, noSubindex, lookup}
 use Rattle.rules_dictionary.specs.Values.{write, read, stored}
 use Rattle.rules_dictionary.specs.Aborts.{Verdict, good, bad, isGood, Test, firstOf}
 use Rattle.rules_dictionary.specs.Legal.{valueVerdict, otherBadValue, mappingVerdict, badChoice, isValid, isBelow, isAbove}
-use Rattle.rules_dictionary.proofs.Tests.{and-both, In}
-use Rattle.rules_dictionary.proofs.Packing.{found-in}
+use Rattle.rules_dictionary.specs.Members.{In}
+use Rattle.rules_dictionary.proofs.Tests.{and-both}
+use Rattle.rules_dictionary.proofs.LookUp.{found-in}
 use Rattle.rules_dictionary.proofs.Rows.{all-drop}
 use Rattle.rules_services.specs.Effects.{isPreOperational, isOperational}
 use Rattle.rules_services.specs.Sdo.{Command, download, upload, clientAbort, unknown, commandOf, commandByte, askedIndex, askedSubindex, askedValue, isWrongTime, downloadVerdict, decided, toRow, toObject, asked, sdo, abort, dataPlace}
@@ -61,21 +66,21 @@ good-value d x v h =
 
 choice-known : (d : List ℕ) (r : Role) (v : ℕ) → otherBadValue d r v ≡ false → badChoice r v ≡ false
 unfolding otherBadValue
-choice-known d plain v h = refl
-choice-known d modeOfOperation v h = h
-choice-known d (pdoIdentifier p) v h = refl
-choice-known d (pdoType p) v h = h
-choice-known d (mappingCount p) v h = refl
-choice-known d (mappingEntry p) v h = refl
+choice-known d Plain v h = refl
+choice-known d ModeOfOperation v h = h
+choice-known d (PdoIdentifier p) v h = refl
+choice-known d (PdoType p) v h = h
+choice-known d (MappingCount p) v h = refl
+choice-known d (MappingEntry p) v h = refl
 
 pub good-range : (d : List ℕ) (x : Row) (v : ℕ) → GoodValue d x v → inRange x v ≡ true
 unfolding inRange
 good-range d x v g = and-both _ _ (and-both _ _ (false-not _ (g .notBelow)) (false-not _ (g .notAbove))) (false-not _ (choice-known d (x .role) v (g .choice)))
 
 writable-varies : (a : Access) → not (isWritable a) ≡ false → isConstant a ≡ false
-writable-varies constant h = clash true refl h
-writable-varies nodeWritten h = refl
-writable-varies writable h = refl
+writable-varies Constant h = clash true refl h
+writable-varies NodeWritten h = refl
+writable-varies Writable h = refl
 
 -- ---- what a good download may write
 
@@ -108,7 +113,7 @@ module _ (rq : List ℕ) (nmt : NmtState) (n : ℕ) (d : List ℕ) (x : Row) (by
         ranged = good-range d x (askedValue rq x) value;
         entry = λ p e. (
           ap isGood (ap (λ (r : Role). mappingVerdict d r (askedValue rq x)) (sym e) ∙ value .mapping),
-          eqb-true _ _ (sym (Bool·not-not _) ∙ false-not _ (or-false-right (not (isPreOperational nmt) || isValid (read d (identifier p))) (not (eqb (read d (mapCount p)) 0)) (time-of (mappingEntry p) e))),
+          eqb-true _ _ (sym (Bool·not-not _) ∙ false-not _ (or-false-right (not (isPreOperational nmt) || isValid (read d (identifier p))) (not (eqb (read d (mapCount p)) 0)) (time-of (MappingEntry p) e))),
         );
         count = λ p e. ap isGood (ap (λ (r : Role). mappingVerdict d r (askedValue rq x)) (sym e) ∙ value .mapping);
         named = λ p e. ap (λ (r : Role). otherBadValue d r (askedValue rq x)) (sym e) ∙ value .choice;
@@ -124,12 +129,12 @@ module _ (rq : List ℕ) (nmt : NmtState) (n : ℕ) (d : List ℕ) (x : Row) (by
   idle-or-quiet = go (x .role) refl
     where
       go : (r : Role) → x .role ≡ r → (isOperational nmt ≡ false) ⊎ (isPdo r ≡ false)
-      go plain e = inr refl
-      go modeOfOperation e = inr refl
-      go (pdoIdentifier p) e = inl (pre-idle nmt (time-of (pdoIdentifier p) e))
-      go (pdoType p) e = inl (pre-idle nmt (time-of (pdoType p) e))
-      go (mappingCount p) e = inl (pre-idle nmt (or-false-left (not (isPreOperational nmt)) _ (time-of (mappingCount p) e)))
-      go (mappingEntry p) e = inl (pre-idle nmt (or-false-left (not (isPreOperational nmt)) _ (or-false-left (not (isPreOperational nmt) || isValid (read d (identifier p))) _ (time-of (mappingEntry p) e))))
+      go Plain e = inr refl
+      go ModeOfOperation e = inr refl
+      go (PdoIdentifier p) e = inl (pre-idle nmt (time-of (PdoIdentifier p) e))
+      go (PdoType p) e = inl (pre-idle nmt (time-of (PdoType p) e))
+      go (MappingCount p) e = inl (pre-idle nmt (or-false-left (not (isPreOperational nmt)) _ (time-of (MappingCount p) e)))
+      go (MappingEntry p) e = inl (pre-idle nmt (or-false-left (not (isPreOperational nmt)) _ (or-false-left (not (isPreOperational nmt) || isValid (read d (identifier p))) _ (time-of (MappingEntry p) e))))
 
 -- ---- the server
 

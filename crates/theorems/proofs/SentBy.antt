@@ -25,7 +25,8 @@ use Rattle.rules_dictionary.specs.Aborts.{Abort, abortCode, Verdict, good, bad,
 use Rattle.rules_dictionary.specs.Legal.{isSynchronous, frameIdentifier}
 use Rattle.rules_dictionary.specs.Plans.{mapped, pdoData, joined, readyOf, readyFor}
 use Rattle.rules_dictionary.specs.Values.{Write, write, field, read, store, stored, unpacked}
-use Rattle.rules_dictionary.proofs.Tests.{and-both, In, here, there}
+use Rattle.rules_dictionary.specs.Members.{In, here, there}
+use Rattle.rules_dictionary.proofs.Tests.{and-both}
 use Rattle.rules_dictionary.proofs.Rows.{part-bytes, all-take, store-bytes, stored-bytes, length-store, length-stored}
 use Rattle.drive.specs.declared.Command.{Command}
 use Rattle.drive.specs.declared.Command.the-variants.{None, FaultReset, DisableVoltage, QuickStop, Shutdown, SwitchOn, Enable}

@@ -16,11 +16,13 @@ use Rattle.drive.specs.declared.Store.{Store}
 use Rattle.drive.specs.declared.Store.the-variants.{Empty, Rested, Moving, Queued}
 use Rattle.drive.specs.declared.Drive.{Drive}
 use Rattle.state.specs.declared.State.{State}
-use Rattle.rules_dictionary.specs.Table.{Row, plain, table, sizeOf, dictionaryLength, statusWord, modeDisplay, mode, controlWord, position, positionWindow, velocity, velocityWindow, velocityThreshold, targetVelocity, isConstant, whole, size, open-table}
+use Rattle.rules_dictionary.specs.declared.Role.the-variants.{Plain}
+use Rattle.rules_dictionary.specs.Table.{Row, table, sizeOf, dictionaryLength, statusWord, modeDisplay, mode, controlWord, position, positionWindow, velocity, velocityWindow, velocityThreshold, targetVelocity, isConstant, whole, size, open-table}
 use Rattle.rules_dictionary.specs.Values.{read, store}
 use Rattle.rules_dictionary.specs.Legal.{modeNumber}
-use Rattle.rules_dictionary.proofs.Tests.{In}
-use Rattle.rules_dictionary.proofs.Packing.{apart, same-or-apart, found-in, within}
+use Rattle.rules_dictionary.specs.Members.{In}
+use Rattle.rules_dictionary.proofs.LookUp.{found-in}
+use Rattle.rules_dictionary.proofs.Packing.{apart, same-or-apart, within}
 use Rattle.rules_dictionary.proofs.Rows.{read-apart, read-same, length-store}
 use Rattle.drive.specs.DriveStates.{stateWord, isEnabled}
 use Rattle.drive.specs.StatusWord.{status, enabledBits, ackInMode, reachedInMode, positionReached, velocityReached, standsStill, flag, slow, near}
@@ -167,7 +169,7 @@ drive-may n d x v r c f g =
     }
 
 -- of a type's whole range everything is in range
-pub whole-range : (x : Row) (v : ℕ) → x .range ≡ whole (x .type) → x .role ≡ plain → v < 256 ^ sizeOf x → inRange x v ≡ true
+pub whole-range : (x : Row) (v : ℕ) → x .range ≡ whole (x .type) → x .role ≡ Plain → v < 256 ^ sizeOf x → inRange x v ≡ true
 unfolding inRange
 whole-range x v e r h =
     rw (e, r, le-ltb v 0 (omega arith), le-ltb (256 ^ size (x .type) - 1) v (omega arith))

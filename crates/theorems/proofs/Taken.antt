@@ -19,7 +19,8 @@ use Rattle.rules_dictionary.specs.Table.{Row, table, same, sizeOf, dictionaryLe
 use Rattle.rules_dictionary.specs.Values.{Write, read, store, stored}
 use Rattle.rules_dictionary.proofs.Packing.{apart, within, same-or-apart}
 use Rattle.rules_dictionary.proofs.Rows.{length-store, read-same, read-apart}
-use Rattle.rules_dictionary.proofs.Tests.{and-left, and-right, In, here, there}
+use Rattle.rules_dictionary.specs.Members.{In, here, there}
+use Rattle.rules_dictionary.proofs.Tests.{and-left, and-right}
 use Rattle.drive.specs.DriveStates.{command, next}
 use Rattle.drive.specs.SetPoints.{positions, emptied, enters, withState, withStore, withMarks, behind, isQueued, target, withinLimits, setPoint, offered, setPointRule, modeWritten, controlWritten, reached, newSetPointBit, atOnceBit}
 use Rattle.drive.specs.SetPoints as SetPoints
@@ -100,7 +101,7 @@ takes-all (Moving q) p = (1, p ∷ [], refl, omega arith, inr refl)
 takes-all (Queued q r) p = (2, p ∷ [], refl, omega arith, inr refl)
 
 takes-offered : (d : List ℕ) (word : ℕ) (v : Drive) → Takes true (v .store) (offered d word v .store)
-unfolding offered SetPoints.take
+unfolding offered SetPoints.withTaken
 takes-offered d word v = go (not (bit atOnceBit word) && isQueued (v .store)) (withinLimits d (target d word (v .store))) (bit atOnceBit word)
   where
     p : SetPoint

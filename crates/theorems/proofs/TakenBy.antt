@@ -23,9 +23,10 @@ use Rattle.rules_dictionary.specs.Values.{Write, write, read, stored, unpacked}
 use Rattle.rules_dictionary.specs.Aborts.{Verdict, good, bad}
 use Rattle.rules_dictionary.specs.Legal.{isSynchronous}
 use Rattle.rules_dictionary.specs.Plans.{mapped, pdoData}
-use Rattle.rules_dictionary.proofs.Tests.{and-left, and-right, and-both, In, here, there, none-in}
+use Rattle.rules_dictionary.specs.Members.{In, here, there}
+use Rattle.rules_dictionary.proofs.Tests.{and-left, and-right, and-both, none-in}
 use Rattle.rules_dictionary.proofs.Members.{in-append}
-use Rattle.rules_dictionary.proofs.Packing.{found-in}
+use Rattle.rules_dictionary.proofs.LookUp.{found-in}
 use Rattle.drive.specs.DriveStates.{isFaulty}
 use Rattle.drive.specs.SetPoints.{newSetPointBit, controlWritten}
 use Rattle.drive.specs.declared.Controlled.{Controlled}

@@ -19,8 +19,10 @@ use Rattle.rules_dictionary.specs.TheNode.{isNodeId}
 use Rattle.rules_dictionary.specs.Table.{Row, table, same, receivePdos, transmitPdos, eachWay, controlWord, mode, heartbeatTime, errorRegister, open-table}
 use Rattle.rules_dictionary.specs.Values.{Write, write, read, store, stored}
 use Rattle.rules_dictionary.specs.Legal.{modeNumber, isMode, isCyclic, isBelow, isAbove}
-use Rattle.rules_dictionary.proofs.Tests.{and-left, and-right, and-both, In, here, there, none-in}
-use Rattle.rules_dictionary.proofs.Packing.{apart, same-or-apart, found-in}
+use Rattle.rules_dictionary.specs.Members.{In, here, there}
+use Rattle.rules_dictionary.proofs.Tests.{and-left, and-right, and-both, none-in}
+use Rattle.rules_dictionary.proofs.LookUp.{found-in}
+use Rattle.rules_dictionary.proofs.Packing.{apart, same-or-apart}
 use Rattle.rules_dictionary.proofs.Rows.{read-apart, length-store, length-stored, field-stored}
 use Rattle.rules_dictionary.proofs.Members.{all-of, in-left}
 use Rattle.drive.specs.SetPoints.{modeOf, modeWritten, controlWritten}

@@ -15,18 +15,18 @@ use Rattle.state.specs.declared.State.{State}
 use Rattle.state.specs.declared.Refusal.the-variants.{Accepted, DictionaryLength, NotSound}
 use Rattle.rules_dictionary.specs.Numbers.{all, any, areBytes, filter, bit}
 use Rattle.rules_dictionary.specs.TheNode.{isNodeId}
-use Rattle.rules_dictionary.specs.Table.{Row, table, sizeOf, same, dictionaryLength, statusWord, mode, modeDisplay, controlWord, errorCode, errorRegister, position, velocity, identifier, mappingRows, eachWay, pdos, receivePdos, transmitPdos, Found, found, noObject, noSubindex, lookup, placeOf}
+use Rattle.rules_dictionary.specs.Table.{Row, table, sizeOf, same, dictionaryLength, statusWord, mode, modeDisplay, controlWord, errorCode, errorRegister, position, velocity, identifier, mappingRows, eachWay, pdos, receivePdos, transmitPdos, Found, found, noObject, noSubindex, lookup, placeOf, isReset}
 use Rattle.rules_dictionary.specs.Values.{Write, read, field, unpacked}
 use Rattle.rules_dictionary.specs.Aborts.{Abort, bad}
 use Rattle.rules_dictionary.specs.Plans.{mapped, planFor, readyFor, plansOf, readyOf, joined, pdoData}
-use Rattle.rules_dictionary.proofs.Tests.{In}
+use Rattle.rules_dictionary.specs.Members.{In}
 use Rattle.drive.specs.SetPoints.{newSetPointBit, controlWritten}
 use Rattle.drive.specs.declared.Drive.{Drive}
 use Rattle.rules_services.specs.Effects.{Frame, frame, isStopped}
 use Rattle.rules_services.specs.Emergency.{emergency, emergencyBase, pdoTooShort}
 use Rattle.rules_services.specs.Sdo.{Command, download, upload, clientAbort, unknown, commandOf, commandByte, askedIndex, askedSubindex, downloadVerdict, requestBase, replyBase}
 use Rattle.rules_services.specs.PdoTraffic.{listens, mappedLength, areLegal, transmitted, noData, syncBase}
-use Rattle.rules_services.specs.Nmt.{nmtIdentifier, isReset, heartbeatBase, commandOf as nmtCommandOf, Command as NmtCommand, start, stop, enterPreOperational, resetNode, resetCommunication, unknown as unknownNmt}
+use Rattle.rules_services.specs.Nmt.{nmtIdentifier, heartbeatBase, commandOf as nmtCommandOf, Command as NmtCommand, start, stop, enterPreOperational, resetNode, resetCommunication, unknown as unknownNmt}
 use Rattle.rules_services.specs.Events.{Told, event, badEvent, eventOf, Event, started, quickStopDone, reactionDone, setPointReached, tick, causeGone, fault, feedback, voltage}
 use Rattle.rules.specs.Outcome.{statusOf, encoded, sentInto, frameSize, transmitters}
 use Rattle.rules.specs.Sound.{sound}

@@ -13,21 +13,22 @@ use lib.ListN.{length, take, drop, length-map}
 use Rattle.rules_dictionary.specs.declared.Plan.{Plan}
 use Rattle.rules_dictionary.specs.declared.Move.{Move}
 use Rattle.rules_dictionary.specs.Numbers.{value, isByte, areBytes, all, any, padded}
-use Rattle.rules_dictionary.specs.Table.{Row, plain, modeOfOperation, sizeOf, placeOf, same, Direction, receive, transmit, directionOf, pdos, receivePdos, transmitPdos, mapCount, mapEntry, mapSlots, eachWay, mostMoves, controlWord, mode, targetPosition, profileVelocity, profileAcceleration, profileDeceleration, targetVelocity, heartbeatTime, open-table}
+use Rattle.rules_dictionary.specs.declared.Role.the-variants.{Plain, ModeOfOperation}
+use Rattle.rules_dictionary.specs.Table.{Row, sizeOf, placeOf, same, Direction, receive, transmit, directionOf, pdos, receivePdos, transmitPdos, mapCount, mapEntry, mapSlots, eachWay, mostMoves, controlWord, mode, targetPosition, profileVelocity, profileAcceleration, profileDeceleration, targetVelocity, heartbeatTime, open-table}
 use Rattle.rules_dictionary.specs.Values.{read, store, stored, unpacked}
 use Rattle.rules_dictionary.specs.Aborts.{good, bad, isGood, firstOf, belowRange, badValue}
 use Rattle.rules_dictionary.specs.Legal.{isMode, suits, isBelow, isAbove, otherBadValue, mappingVerdict, valueVerdict, entryVerdict, mapWords}
 use Rattle.rules_dictionary.specs.Plans.{targets, mapped, move, noMove, planFor}
-use Rattle.rules_dictionary.proofs.Tests.{and-left, and-right, and-both, In, here, there, all-in, Each, each-in, none-in}
+use Rattle.rules_dictionary.specs.Members.{In, here, there, Each}
+use Rattle.rules_dictionary.proofs.Tests.{and-left, and-right, and-both, all-in, each-in, none-in}
 use Rattle.rules_dictionary.proofs.Rows.{all-drop}
-use Rattle.rules_dictionary.proofs.Members.{all-of, in-left, count-in}
+use Rattle.rules_dictionary.proofs.Members.{all-of, in-left, count-in, in-cons, map-in}
 use Rattle.rules_services.specs.PdoTraffic.{mappedLength, areLegal}
 use Rattle.rules_services.specs.Written.{wrote}
 use Rattle.rules.specs.Outcome.{mostData}
 use Rattle.rules.specs.Sound.{inRange, mappingLegal}
 use Rattle.theorems.proofs.Alike.{isPdo}
 use Rattle.theorems.proofs.Dictionary.{DictionaryOk, entries-good}
-use Rattle.theorems.proofs.NmtKept.{in-cons}
 use Rattle.plans.specs.Words.{mappables}
 use Rattle.plans.specs.Moves.{MovesFit}
 use Rattle.plans.proofs.Worked.{plan-fits, maps-count, legal-mapping, Tested}
@@ -43,7 +44,7 @@ nonzero (suc v) = rw (le-ltb (suc v) 1 (omega arith), ne-eqb (suc v) 0 (λ e. ab
 
 -- of a value that fits the row only the lower end of the range is left to test, and of 6060h that it is a mode
 module _ (x : Row) (wide : suc (x .range .greatest) ≡ 256 ^ sizeOf x) (d : List ℕ) (v : ℕ) (h : v < 256 ^ sizeOf x) where
-  ranged : x .role ≡ plain → isGood (valueVerdict d x v) ≡ not (ltb v (x .range .least))
+  ranged : x .role ≡ Plain → isGood (valueVerdict d x v) ≡ not (ltb v (x .range .least))
   unfolding valueVerdict firstOf otherBadValue mappingVerdict
   ranged e = rw (e, le-ltb (x .range .greatest) v (omega arith)) (go (ltb v (x .range .least)))
     where
@@ -51,13 +52,13 @@ module _ (x : Row) (wide : suc (x .range .greatest) ≡ 256 ^ sizeOf x) (d : Lis
       go true = refl
       go false = refl
 
-  free : x .role ≡ plain → x .range .least ≡ 0 → isGood (valueVerdict d x v) ≡ true
+  free : x .role ≡ Plain → x .range .least ≡ 0 → isGood (valueVerdict d x v) ≡ true
   free e z = ranged e ∙ rw (z, le-ltb v 0 (omega arith))
 
-  positive : x .role ≡ plain → x .range .least ≡ 1 → isGood (valueVerdict d x v) ≡ not (eqb v 0)
+  positive : x .role ≡ Plain → x .range .least ≡ 1 → isGood (valueVerdict d x v) ≡ not (eqb v 0)
   positive e z = ranged e ∙ rw z (nonzero v)
 
-  chosen : x .role ≡ modeOfOperation → x .range .least ≡ 0 → isGood (valueVerdict d x v) ≡ isMode v
+  chosen : x .role ≡ ModeOfOperation → x .range .least ≡ 0 → isGood (valueVerdict d x v) ≡ isMode v
   unfolding valueVerdict firstOf otherBadValue mappingVerdict
   chosen e z = rw (e, z, le-ltb v 0 (omega arith), le-ltb (x .range .greatest) v (omega arith)) (go (isMode v))
     where
@@ -105,11 +106,6 @@ value-fits (suc n) (b ∷ bs) h =
 -- every row may be mapped to receive
 abbrev pub Received : List Row → Type 0
 Received xs = (x : Row) → In x xs → In x (mappables receive)
-
--- what two functions make alike of a list, they make alike of each of it
-map-in : {A B : Type 0} (f g : A → B) {x : A} {xs : List A} → In x xs → map f xs ≡ map g xs → f x ≡ g x
-map-in f g here h = cc
-map-in f g (there i) h = map-in f g i (cc)
 
 -- each by a computed test: 6040h and 6060h are told by their places; 1017h is not among them, nor what may be mapped to transmit, nor a PDO's row
 module _ {x : Row} (i : In x (mappables receive)) where

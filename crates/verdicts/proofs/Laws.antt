@@ -6,13 +6,14 @@ use mathlib.Core.Bool.{Bool, true, false, _||_, false≢true}
 use mathlib.Core.List.{List}
 use borrow.Author.Tests.{ltb-true}
 use lib.Dec.{eqb, ltb}
-use Rattle.rules_dictionary.specs.Table.{Row, Role, plain, modeOfOperation, pdoIdentifier, pdoType, mappingCount, mappingEntry, eachWay, table}
+use Rattle.rules_dictionary.specs.Table.{Row, eachWay, table}
 use Rattle.rules_dictionary.specs.Aborts.{Abort, unknownCommand, noObject, noSubindex, noWriting, tooLong, tooShort, wrongTime, belowRange, aboveRange, badValue, notMappable, overLength, Verdict, good, bad, isGood, firstOf}
 use Rattle.rules_dictionary.specs.Legal.{valueVerdict}
-use Rattle.rules_dictionary.proofs.Tests.{In, all-in}
+use Rattle.rules_dictionary.specs.Members.{In}
+use Rattle.rules_dictionary.proofs.Tests.{all-in}
 use Rattle.dictionary.specs.Sizes.{IsPdo}
-use Rattle.dictionary.specs.Entries.{roleOf, entryOf}
-use Rattle.verdicts.specs.Verdicts.{verdictCode, roleBack, pdoOf, roleVerdict, valueVerdictOf}
+use Rattle.dictionary.specs.Entries.{entryOf}
+use Rattle.verdicts.specs.Verdicts.{verdictCode, pdoOf, roleVerdict, valueVerdictOf}
 
 -- THE LAW: a verdict is good where its code is 0
 pub good-code : (v : Verdict) → isGood v ≡ eqb (verdictCode v) 0
@@ -37,18 +38,10 @@ pub is-good : (v : Verdict) → isGood v ≡ true → v ≡ good
 is-good good h = refl
 is-good (bad a) h = absurd (false≢true h)
 
-pub role-back : (o : Role) → roleBack (roleOf o) ≡ o
-role-back plain = refl
-role-back modeOfOperation = refl
-role-back (pdoIdentifier p) = refl
-role-back (pdoType p) = refl
-role-back (mappingCount p) = refl
-role-back (mappingEntry p) = refl
-
 -- THE LAW: the verdict on a row's entry is the one on the row
 pub of-row : (d : List ℕ) (x : Row) (v : ℕ) → valueVerdictOf d (entryOf x) v ≡ valueVerdict d x v
 unfolding valueVerdictOf roleVerdict valueVerdict firstOf
-of-row d x v = rw (role-back (x .role))
+of-row d x v = refl
 
 -- the PDO of a row of the table is one of the eight: one computed test
 pub pdo-below : {x : Row} → In x table → IsPdo (pdoOf (entryOf x .role))

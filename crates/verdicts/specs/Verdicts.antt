@@ -8,26 +8,15 @@ use Rattle.rules_dictionary.specs.Numbers.{bit, between, any, sum}
 use Rattle.rules_dictionary.specs.Table as rows
 use Rattle.rules_dictionary.specs.Aborts.{Verdict, good, bad, abortCode, test, firstOf, belowRange, aboveRange, badValue, notMappable, overLength, noObject, noSubindex}
 use Rattle.rules_dictionary.specs.Legal.{transmitBit, firstIdentifier, lastIdentifier, isValid, frameIdentifier, reservedBits, transmits, mostBits, otherBadValue, mappingVerdict}
-use Rattle.dictionary.specs.declared.Role.{Role}
-use Rattle.dictionary.specs.declared.Role.the-variants.{Plain, ModeOfOperation, PdoIdentifier, PdoType, MappingCount, MappingEntry}
+use Rattle.rules_dictionary.specs.declared.Role.{Role}
+use Rattle.rules_dictionary.specs.declared.Role.the-variants.{Plain, ModeOfOperation, PdoIdentifier, PdoType, MappingCount, MappingEntry}
 use Rattle.dictionary.specs.declared.Entry.{Entry}
-use Rattle.dictionary.specs.declared.Presence.{Presence}
-use Rattle.dictionary.specs.declared.Presence.the-variants as presence
 
 abbrev pub verdictCode : Verdict → ℕ
 verdictCode good = 0
 verdictCode (bad a) = abortCode a
 
 -- ---- a value for an entry
-
--- a role as the rules have it
-abbrev pub roleBack : Role → rows.Role
-roleBack Plain = rows.plain
-roleBack ModeOfOperation = rows.modeOfOperation
-roleBack (PdoIdentifier p) = rows.pdoIdentifier p
-roleBack (PdoType p) = rows.pdoType p
-roleBack (MappingCount p) = rows.mappingCount p
-roleBack (MappingEntry p) = rows.mappingEntry p
 
 -- the PDO of a role; the first where it has none
 abbrev pub pdoOf : Role → ℕ
@@ -41,7 +30,7 @@ pdoOf (MappingEntry p) = p
 -- past the range: other bad values, and mapping faults
 unfoldable pub roleVerdict : List ℕ → Role → ℕ → Verdict
 roleVerdict d o v =
-    firstOf (test (otherBadValue d (roleBack o) v) badValue ∷ []) (mappingVerdict d (roleBack o) v)
+    firstOf (test (otherBadValue d o v) badValue ∷ []) (mappingVerdict d o v)
 
 -- `valueVerdict`, of an entry
 unfoldable pub valueVerdictOf : List ℕ → Entry → ℕ → Verdict
@@ -68,10 +57,10 @@ takes p q w v = not (eqb q p) && isValid v && eqb (frameIdentifier w) (frameIden
 -- ---- mappings
 
 -- why a mapping word that names no object is refused, by what its index and subindex find
-abbrev pub unnamed : Presence → Verdict
-unnamed presence.Listed = bad notMappable
-unnamed presence.NoObject = bad noObject
-unnamed presence.NoSubindex = bad noSubindex
+abbrev pub unnamed : rows.Found → Verdict
+unnamed (rows.found x) = bad notMappable
+unnamed rows.noObject = bad noObject
+unnamed rows.noSubindex = bad noSubindex
 
 -- words that are to be mapped, with so many bits before them
 unfoldable pub wordsVerdict : ℕ → List ℕ → Verdict

@@ -7,7 +7,7 @@ use crate::identifiers::bad_identifier;
 use crate::mapping::count_verdict;
 use crate::mapping::entry_verdict;
 use dictionary::Entry;
-use dictionary::Role;
+use rules_dictionary::Role;
 ghost use mathlib.Core.Path.{_≡_};
 ghost use lib.ListN.{length};
 ghost use Rattle.rules_dictionary.specs.Table.{dictionaryLength};

@@ -1,17 +1,10 @@
 -- The place in code is the row's, by computation. Assumes nothing.
+use borrow.Author.Needs.{needs}
 use Rattle.rules_dictionary.specs.Table.{open-table}
 use Rattle.rules_dictionary.specs.Values.{read}
-use native.Mathlib.Omega.{arith}
 use Rattle.dictionary.proofs.objects.limit_count.Statement.{statement}
 use Rattle.dictionary.proofs.objects.limit_count.Tie as tie
 
-read1-requires : tie.Need-read1-requires
-unfolding open-table
-read1-requires c κs = omega arith
-
-returns : tie.Need-returns
-unfolding open-table read
-returns c = c .read1 .ensures
-
 pub limit-count-spec : {M : Type 1} → statement M
-limit-count-spec = tie.close (tie.spec read1-requires returns)
+unfolding open-table read
+limit-count-spec = tie.close (tie.spec (λ c κs. search needs) (λ c. search needs))

@@ -1,18 +1,10 @@
 -- The place in code is the row's, by computation. Assumes nothing.
+use borrow.Author.Needs.{needs}
 use Rattle.rules_dictionary.specs.Table.{open-table}
 use Rattle.rules_dictionary.specs.Values.{store}
-use native.Mathlib.Omega.{arith}
-use borrow.Author.Needs.{needs}
 use Rattle.dictionary.proofs.objects.set_error_register.Statement.{statement}
 use Rattle.dictionary.proofs.objects.set_error_register.Tie as tie
 
-write1-requires : tie.Need-write1-requires
-unfolding open-table
-write1-requires c κs = omega arith
-
-returns : tie.Need-returns
-unfolding open-table store
-returns c = c .before .before .write1 .ensures
-
 pub set-error-register-spec : {M : Type 1} → statement M
-set-error-register-spec = tie.close (tie.spec write1-requires (λ c. search needs) returns)
+unfolding open-table store
+set-error-register-spec = tie.close (tie.spec (λ c κs. search needs) (λ c. search needs) (λ c. search needs))

@@ -1,17 +1,10 @@
 -- The place in code is the row's, by computation. Assumes nothing.
+use borrow.Author.Needs.{needs}
 use Rattle.rules_dictionary.specs.Table.{open-table}
 use Rattle.rules_dictionary.specs.Values.{read}
-use native.Mathlib.Omega.{arith}
 use Rattle.dictionary.proofs.objects.sync_identifier.Statement.{statement}
 use Rattle.dictionary.proofs.objects.sync_identifier.Tie as tie
 
-read4-requires : tie.Need-read4-requires
-unfolding open-table
-read4-requires c κs = omega arith
-
-returns : tie.Need-returns
-unfolding open-table read
-returns c = c .read4 .ensures
-
 pub sync-identifier-spec : {M : Type 1} → statement M
-sync-identifier-spec = tie.close (tie.spec read4-requires returns)
+unfolding open-table read
+sync-identifier-spec = tie.close (tie.spec (λ c κs. search needs) (λ c. search needs))

@@ -1,17 +1,10 @@
 -- The place in code is the row's, by computation. Assumes nothing.
+use borrow.Author.Needs.{needs}
 use Rattle.rules_dictionary.specs.Table.{open-table}
 use Rattle.rules_dictionary.specs.Values.{read}
-use native.Mathlib.Omega.{arith}
 use Rattle.dictionary.proofs.objects.velocity_window.Statement.{statement}
 use Rattle.dictionary.proofs.objects.velocity_window.Tie as tie
 
-read2-requires : tie.Need-read2-requires
-unfolding open-table
-read2-requires c κs = omega arith
-
-returns : tie.Need-returns
-unfolding open-table read
-returns c = c .read2 .ensures
-
 pub velocity-window-spec : {M : Type 1} → statement M
-velocity-window-spec = tie.close (tie.spec read2-requires returns)
+unfolding open-table read
+velocity-window-spec = tie.close (tie.spec (λ c κs. search needs) (λ c. search needs))

@@ -1,21 +1,15 @@
--- `dictionary::records::communication_count` meets its contract. Assumes nothing.
-use mathlib.Core.Path.{_∙_, ap}
-use Prim.Native.Nat.{ℕ}
+-- At the record's place. Assumes nothing.
 use native.Mathlib.Omega.{arith}
 use borrow.Author.Needs.{needs}
-use Rattle.rules_dictionary.specs.Numbers.{value, part}
 use Rattle.rules_dictionary.specs.Values.{read}
 use Rattle.rules_dictionary.proofs.Packing.{within}
 use Rattle.rules_dictionary.proofs.Members.{pdo-in, communication-in}
 use Rattle.dictionary.proofs.records.communication_count.Statement.{statement}
 use Rattle.dictionary.proofs.records.communication_count.Tie as tie
 
-read1-requires : tie.Need-read1-requires
-read1-requires c κs = omega (arith, within (communication-in (pdo-in (c .before .before .args .p) (c .before .before .pre .1))))
-
-returns : tie.Need-returns
-unfolding read
-returns c = c .read1 .ensures ∙ ap (λ (k : ℕ). value (part k 1 (c .before .before .before .args .d .now))) (c .before .communication-place .ensures .0)
-
 pub communication-count-spec : {M : Type 1} → statement M
-communication-count-spec = tie.close (tie.spec (λ c κs. search needs) read1-requires returns)
+unfolding read
+communication-count-spec =
+    tie.close (tie.spec (λ c κs. search needs)
+    (λ c κs. omega (arith, within (communication-in (pdo-in (c .before .before .args .p) (c .before .before .pre .1)))))
+    (λ c. rw (c .before .communication-place .ensures .0) at (c .read1 .ensures)))

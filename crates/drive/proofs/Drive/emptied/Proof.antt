@@ -7,16 +7,12 @@ use Rattle.drive.proofs.Ways.{where-true, where-false}
 use Rattle.drive.proofs.Drive.emptied.Statement.{statement}
 use Rattle.drive.proofs.Drive.emptied.Tie as tie
 
-returns : tie.Need-returns
+pub emptied-spec : {M : Type 1} → statement M
 unfolding emptied
-returns c = where-true _ _ _ (sym (c .before .positions .ensures) ∙ c .if1 .taken)
-
-returns-2 : tie.Need-returns-2
-unfolding emptied
-returns-2 c =
+emptied-spec =
+    tie.close (tie.spec (λ c κs. search needs) (λ c κs. search needs) (λ c κs. search needs)
+    (λ c. where-true _ _ _ (sym (c .before .positions .ensures) ∙ c .if1 .taken))
+    (λ c.
     c .with-marks .ensures
     ∙ ap (withMarks false false) (c .before .with-store .ensures)
-    ∙ where-false _ _ _ (sym (c .before .before .before .positions .ensures) ∙ c .before .before .if1 .left)
-
-pub emptied-spec : {M : Type 1} → statement M
-emptied-spec = tie.close (tie.spec (λ c κs. search needs) (λ c κs. search needs) (λ c κs. search needs) returns returns-2)
+    ∙ where-false _ _ _ (sym (c .before .before .before .positions .ensures) ∙ c .before .before .if1 .left)))

@@ -5,9 +5,7 @@ use Rattle.drive.specs.SetPoints.{emptied, enters}
 use Rattle.drive.proofs.Drive.enters.Statement.{statement}
 use Rattle.drive.proofs.Drive.enters.Tie as tie
 
-returns : tie.Need-returns
-unfolding enters
-returns c = c .emptied .ensures ∙ ap emptied (c .before .with-state .ensures)
-
 pub enters-spec : {M : Type 1} → statement M
-enters-spec = tie.close (tie.spec (λ c κs. search needs) (λ c κs. search needs) returns)
+unfolding enters
+enters-spec =
+    tie.close (tie.spec (λ c κs. search needs) (λ c κs. search needs) (λ c. c .emptied .ensures ∙ ap emptied (c .before .with-state .ensures)))

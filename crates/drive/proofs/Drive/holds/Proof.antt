@@ -6,8 +6,7 @@ use Rattle.drive.specs.SetPoints.{withMarks}
 use Rattle.drive.proofs.Drive.holds.Statement.{statement}
 use Rattle.drive.proofs.Drive.holds.Tie as tie
 
-returns : tie.Need-returns
-returns c = c .with-marks .ensures ∙ ap (withMarks true false) (c .before .with-store .ensures)
-
 pub holds-spec : {M : Type 1} → statement M
-holds-spec = tie.close (tie.spec (λ c κs. search needs) (λ c κs. search needs) returns)
+holds-spec =
+    tie.close (tie.spec (λ c κs. search needs) (λ c κs. search needs)
+    (λ c. c .with-marks .ensures ∙ ap (withMarks true false) (c .before .with-store .ensures)))

@@ -5,14 +5,13 @@ use Rattle.drive.proofs.Ways.{aim-of-words}
 use Rattle.drive.proofs.set_points.aim_of.Statement.{statement}
 use Rattle.drive.proofs.set_points.aim_of.Tie as tie
 
-returns : tie.Need-returns
-returns c =
-    let a = c .before .before .before .before .before .before .before .before .args in
-    c .aim .ensures
-    ∙ aim-of-words (a .d .now) (a .word) (a .held) _ _ _ _ _ _ (c .before .before .before .before .before .before .has .ensures) (c .before .before .before .before .before .position .ensures) (c .before .before .before .before .base .ensures)
-    (c .before .before .before .target-position .ensures) (c .before .before .minimum-position .ensures) (c .before .maximum-position .ensures)
-
 pub aim-of-spec : {M : Type 1} → statement M
 aim-of-spec =
     tie.close (tie.spec (λ c κs. search needs) (λ c κs. search needs) (λ c κs. search needs) (λ c κs. search needs) (λ c κs. search needs)
-    (λ c κs. search needs) (λ c κs. search needs) returns)
+    (λ c κs. search needs) (λ c κs. search needs)
+    (λ c.
+    let a = c .before .before .before .before .before .before .before .before .args in
+    c .aim .ensures
+    ∙ aim-of-words (a .d .now) (a .word) (a .held) _ _ _ _ _ _ (c .before .before .before .before .before .before .has .ensures)
+    (c .before .before .before .before .before .position .ensures) (c .before .before .before .before .base .ensures)
+    (c .before .before .before .target-position .ensures) (c .before .before .minimum-position .ensures) (c .before .maximum-position .ensures)))

@@ -5,8 +5,5 @@ use Rattle.drive.proofs.Ways.{where-true}
 use Rattle.drive.proofs.set_points.base.Statement.{statement}
 use Rattle.drive.proofs.set_points.base.Tie as tie
 
-returns : tie.Need-returns
-returns c = c .last-target .ensures ∙ where-true _ _ _ (c .before .if1 .taken)
-
 pub base-spec : {M : Type 1} → statement M
-base-spec = tie.close (tie.spec (λ c κs. search needs) returns (λ c. search needs))
+base-spec = tie.close (tie.spec (λ c κs. search needs) (λ c. c .last-target .ensures ∙ where-true _ _ _ (c .before .if1 .taken)) (λ c. search needs))

@@ -4,9 +4,8 @@ use Rattle.drive.specs.Words.{setPointTo}
 use Rattle.drive.proofs.set_points.set_point.Statement.{statement}
 use Rattle.drive.proofs.set_points.set_point.Tie as tie
 
-returns : tie.Need-returns
-unfolding setPointTo
-returns c = rw (c .before .before .profile-velocity .ensures, c .before .profile-acceleration .ensures, c .profile-deceleration .ensures)
-
 pub set-point-spec : {M : Type 1} → statement M
-set-point-spec = tie.close (tie.spec (λ c κs. search needs) (λ c κs. search needs) (λ c κs. search needs) returns)
+unfolding setPointTo
+set-point-spec =
+    tie.close (tie.spec (λ c κs. search needs) (λ c κs. search needs) (λ c κs. search needs)
+    (λ c. rw (c .before .before .profile-velocity .ensures, c .before .profile-acceleration .ensures, c .profile-deceleration .ensures)))

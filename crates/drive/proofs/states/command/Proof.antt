@@ -5,13 +5,18 @@ use Rattle.drive.specs.DriveStates.{command}
 use Rattle.drive.proofs.states.command.Statement.{statement}
 use Rattle.drive.proofs.states.command.Tie as tie
 
-returns : tie.Need-returns
-unfolding command
-returns c =
-    c .asked .ensures
-    ∙ rw (c .before .before .before .before .before .before .has .ensures, c .before .before .before .before .before .has2 .ensures, c .before .before .before .before .has3 .ensures, c .before .before .before .has4 .ensures, c .before .before .has5 .ensures, c .before .has6 .ensures)
-
 pub command-spec : {M : Type 1} → statement M
+unfolding command
 command-spec =
     tie.close (tie.spec (λ c κs. search needs) (λ c κs. search needs) (λ c κs. search needs) (λ c κs. search needs) (λ c κs. search needs)
-    (λ c κs. search needs) (λ c κs. search needs) returns)
+    (λ c κs. search needs) (λ c κs. search needs)
+    (λ c.
+    c .asked .ensures
+    ∙ rw (
+      c .before .before .before .before .before .before .has .ensures,
+      c .before .before .before .before .before .has2 .ensures,
+      c .before .before .before .before .has3 .ensures,
+      c .before .before .before .has4 .ensures,
+      c .before .before .has5 .ensures,
+      c .before .has6 .ensures,
+    )))

@@ -6,8 +6,6 @@ use Rattle.drive.specs.StatusWord.{haltBit}
 use Rattle.drive.proofs.status.halts.Statement.{statement}
 use Rattle.drive.proofs.status.halts.Tie as tie
 
-returns : tie.Need-returns
-returns c = c .has .ensures ∙ ap (bit haltBit) (c .before .control-word .ensures)
-
 pub halts-spec : {M : Type 1} → statement M
-halts-spec = tie.close (tie.spec (λ c κs. search needs) (λ c κs. search needs) returns)
+halts-spec =
+    tie.close (tie.spec (λ c κs. search needs) (λ c κs. search needs) (λ c. c .has .ensures ∙ ap (bit haltBit) (c .before .control-word .ensures)))

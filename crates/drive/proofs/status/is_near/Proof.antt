@@ -6,9 +6,10 @@ use Rattle.drive.proofs.Shown.{within-same}
 use Rattle.drive.proofs.status.is_near.Statement.{statement}
 use Rattle.drive.proofs.status.is_near.Tie as tie
 
-returns : tie.Need-returns
-unfolding near
-returns c = c .is-within .ensures ∙ within-same _ _ (c .before .before .before .before .args .target) _ _ _ (c .before .before .position-window .ensures) refl (c .before .position .ensures)
-
 pub is-near-spec : {M : Type 1} → statement M
-is-near-spec = tie.close (tie.spec (λ c κs. search needs) (λ c κs. search needs) (λ c κs. search needs) returns)
+unfolding near
+is-near-spec =
+    tie.close (tie.spec (λ c κs. search needs) (λ c κs. search needs) (λ c κs. search needs)
+    (λ c.
+    c .is-within .ensures ∙ within-same _ _ (c .before .before .before .before .args .target) _ _ _ (c .before .before .position-window .ensures) refl
+    (c .before .position .ensures)))

@@ -8,14 +8,13 @@ use Rattle.drive.proofs.Shown.{within-same, within-zero}
 use Rattle.drive.proofs.status.is_slow.Statement.{statement}
 use Rattle.drive.proofs.status.is_slow.Tie as tie
 
-returns : tie.Need-returns
+pub is-slow-spec : {M : Type 1} → statement M
 unfolding slow
-returns c =
+is-slow-spec =
+    tie.close (tie.spec (λ c κs. search needs) (λ c κs. search needs) (λ c κs. search needs) (λ c κs. search needs)
+    (λ c.
     let d = c .before .before .before .before .before .args .d .now in
     c .is-within .ensures
-    ∙ within-same _ _ _ _ 0 0 (c .before .before .wide .ensures ∙ c .before .before .before .velocity-threshold .ensures) (c .before .velocity .ensures) refl
-    ∙ within-zero (read d velocityThreshold) (read d velocity)
-
-pub is-slow-spec : {M : Type 1} → statement M
-is-slow-spec =
-    tie.close (tie.spec (λ c κs. search needs) (λ c κs. search needs) (λ c κs. search needs) (λ c κs. search needs) returns)
+    ∙ within-same _ _ _ _ 0 0 (c .before .before .wide .ensures ∙ c .before .before .before .velocity-threshold .ensures)
+    (c .before .velocity .ensures) refl
+    ∙ within-zero (read d velocityThreshold) (read d velocity)))

@@ -6,12 +6,11 @@ use Rattle.drive.proofs.Shown.{within-same}
 use Rattle.drive.proofs.status.is_velocity_reached.Statement.{statement}
 use Rattle.drive.proofs.status.is_velocity_reached.Tie as tie
 
-returns : tie.Need-returns
-unfolding velocityReached
-returns c =
-    c .is-within .ensures
-    ∙ within-same _ _ _ _ _ _ (c .before .before .before .wide .ensures ∙ c .before .before .before .before .velocity-window .ensures) (c .before .before .target-velocity .ensures) (c .before .velocity .ensures)
-
 pub is-velocity-reached-spec : {M : Type 1} → statement M
+unfolding velocityReached
 is-velocity-reached-spec =
-    tie.close (tie.spec (λ c κs. search needs) (λ c κs. search needs) (λ c κs. search needs) (λ c κs. search needs) (λ c κs. search needs) returns)
+    tie.close (tie.spec (λ c κs. search needs) (λ c κs. search needs) (λ c κs. search needs) (λ c κs. search needs) (λ c κs. search needs)
+    (λ c.
+    c .is-within .ensures
+    ∙ within-same _ _ _ _ _ _ (c .before .before .before .wide .ensures ∙ c .before .before .before .before .velocity-window .ensures)
+    (c .before .before .target-velocity .ensures) (c .before .velocity .ensures)))

@@ -5,23 +5,17 @@ use Rattle.drive.proofs.Raised.{aim-below, aim-above, aim-at}
 use Rattle.drive.proofs.words.aim.Statement.{statement}
 use Rattle.drive.proofs.words.aim.Tie as tie
 
-returns : tie.Need-returns
-returns c =
-    let a = c .before .before .before .before .args in
-    aim-below (a .base) (a .step) (a .low) (a .high) (omega arith) (omega arith) (omega arith) (omega arith) (omega arith)
-
-returns-2 : tie.Need-returns-2
-returns-2 c =
-    let a = c .before .before .before .before .before .before .args in
-    aim-above (a .base) (a .step) (a .low) (a .high) (omega arith) (omega arith) (omega arith) (omega arith) (omega arith)
-
-returns-3 : tie.Need-returns-3
-returns-3 c =
-    let a = c .before .before .before .before .before .before .args in
-    rw (c .before .before .before .before .before .biased .ensures, c .before .before .before .before .biased2 .ensures)
-    (aim-at (a .base) (a .step) (a .low) (a .high) (omega arith) (omega arith) (omega arith) (omega arith) (omega arith) (omega arith))
-
 pub aim-spec : {M : Type 1} → statement M
 aim-spec =
-    tie.close (tie.spec (λ c κs. search needs) (λ c κs. search needs) (λ c. search needs) (λ c κs. search needs) (λ c. search needs) returns
-    (λ c κs. search needs) (λ c. search needs) returns-2 (λ c. search needs) returns-3)
+    tie.close (tie.spec (λ c κs. search needs) (λ c κs. search needs) (λ c. search needs) (λ c κs. search needs) (λ c. search needs)
+    (λ c.
+    let a = c .before .before .before .before .args in
+    aim-below (a .base) (a .step) (a .low) (a .high) (omega arith) (omega arith) (omega arith) (omega arith) (omega arith)) (λ c κs. search needs)
+    (λ c. search needs)
+    (λ c.
+    let a = c .before .before .before .before .before .before .args in
+    aim-above (a .base) (a .step) (a .low) (a .high) (omega arith) (omega arith) (omega arith) (omega arith) (omega arith)) (λ c. search needs)
+    (λ c.
+    let a = c .before .before .before .before .before .before .args in
+    rw (c .before .before .before .before .before .biased .ensures, c .before .before .before .before .biased2 .ensures)
+    (aim-at (a .base) (a .step) (a .low) (a .high) (omega arith) (omega arith) (omega arith) (omega arith) (omega arith) (omega arith))))

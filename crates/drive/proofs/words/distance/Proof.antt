@@ -5,15 +5,12 @@ use Rattle.drive.proofs.Raised.{words-distance}
 use Rattle.drive.proofs.words.distance.Statement.{statement}
 use Rattle.drive.proofs.words.distance.Tie as tie
 
-returns : tie.Need-returns
-returns c =
-    let a = c .before .before .before .args in
-    omega (arith, words-distance (a .a) (a .b) (omega arith) (omega arith))
-
-returns-2 : tie.Need-returns-2
-returns-2 c =
-    let a = c .before .before .before .args in
-    omega (arith, words-distance (a .a) (a .b) (omega arith) (omega arith))
-
 pub distance-spec : {M : Type 1} → statement M
-distance-spec = tie.close (tie.spec (λ c κs. search needs) (λ c κs. search needs) (λ c. search needs) returns returns-2)
+distance-spec =
+    tie.close (tie.spec (λ c κs. search needs) (λ c κs. search needs) (λ c. search needs)
+    (λ c.
+    let a = c .before .before .before .args in
+    omega (arith, words-distance (a .a) (a .b) (omega arith) (omega arith)))
+    (λ c.
+    let a = c .before .before .before .args in
+    omega (arith, words-distance (a .a) (a .b) (omega arith) (omega arith))))

@@ -3,8 +3,5 @@ use borrow.Author.Needs.{needs}
 use Rattle.drive.proofs.words.is_within.Statement.{statement}
 use Rattle.drive.proofs.words.is_within.Tie as tie
 
-returns : tie.Need-returns
-returns c = rw (c .before .distance .ensures, c .wide .ensures)
-
 pub is-within-spec : {M : Type 1} → statement M
-is-within-spec = tie.close (tie.spec (λ c κs. search needs) (λ c κs. search needs) returns)
+is-within-spec = tie.close (tie.spec (λ c κs. search needs) (λ c κs. search needs) (λ c. rw (c .before .distance .ensures, c .wide .ensures)))

@@ -1,6 +1,6 @@
 -- `ending::settling::ready_again` meets its contract. Assumes nothing.
 use mathlib.Core.Path.{_∙_}
-use Rattle.rules_dictionary.proofs.Tests.{here, there}
+use Rattle.rules_dictionary.specs.Members.{here, there}
 use Rattle.rules_dictionary.specs.Plans.{readyOf}
 use Rattle.theorems.proofs.Lawful.{transmitter-in}
 use Rattle.ending.proofs.Making.{plan-at, ready-at}

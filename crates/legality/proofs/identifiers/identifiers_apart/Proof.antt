@@ -1,6 +1,6 @@
 use native.Mathlib.Omega.{arith}
 use mathlib.Core.Path.{sym, _∙_}
-use Rattle.rules_dictionary.proofs.Tests.{here, there}
+use Rattle.rules_dictionary.specs.Members.{here, there}
 use Rattle.legality.specs.Keys.{keyIn}
 use Rattle.legality.proofs.RowTests.{are-bytes}
 use Rattle.legality.proofs.KeysLegal.{receive-illegal, receive-legal}

@@ -1,5 +1,5 @@
 use mathlib.Core.Path.{sym, _∙_}
-use Rattle.rules_dictionary.proofs.Tests.{here, there}
+use Rattle.rules_dictionary.specs.Members.{here, there}
 use Rattle.legality.specs.Keys.{keyIn}
 use Rattle.legality.proofs.KeysLegal.{transmit-illegal, transmit-legal}
 use borrow.Author.Needs.{needs}

@@ -1,11 +1,8 @@
 -- `sdo::server::to_object` meets its contract. Assumes nothing.
-use Prim.Native.Nat.{ℕ}
-use mathlib.Core.Path.{sym, _∙_, ap}
-use Rattle.rules_dictionary.specs.Table.{lookup}
+use mathlib.Core.Path.{subst}
 use Rattle.rules_dictionary.specs.Aborts.{noObject, noSubindex}
 use Rattle.rules_services.specs.Sdo.{askedIndex, askedSubindex}
-use Rattle.dictionary.specs.Entries.{foundOf}
-use Rattle.dictionary.proofs.Stands.{stands, no-object, no-subindex}
+use Rattle.dictionary.specs.Entries.{IsFound}
 use Rattle.effects.specs.Leaves.{bare}
 use Rattle.sdo.proofs.Asking.{aborted-by, no-object-asked, no-subindex-asked}
 use borrow.Author.Needs.{needs}
@@ -18,7 +15,7 @@ to-entry-requires c κs =
     let f = g .before .before in
     let s = f .before .before .before .before .before in
     let a = s .args in
-    (s .pre, stands (askedIndex (a .t2)) (askedSubindex (a .t2)) _ (sym (g .found .given .1) ∙ (f .find .ensures ∙ ap (λ (i : ℕ). foundOf (lookup i (askedSubindex (a .t2)))) (f .before .read2 .ensures))))
+    (s .pre, subst (IsFound (askedIndex (a .t2)) (askedSubindex (a .t2))) (g .found .given .1) (rw (f .before .read2 .ensures) at (f .find .ensures)))
 
 returns-2 : tie.Need-returns-2
 returns-2 c =
@@ -27,7 +24,7 @@ returns-2 c =
     let f = g .before .before in
     let s = f .before .before .before .before .before in
     let a = s .args in
-    let none = no-object (askedIndex (a .t2)) (askedSubindex (a .t2)) (sym (g .enum-told .given .1) ∙ (f .find .ensures ∙ ap (λ (i : ℕ). foundOf (lookup i (askedSubindex (a .t2)))) (f .before .read2 .ensures))) in
+    let none = subst (IsFound (askedIndex (a .t2)) (askedSubindex (a .t2))) (g .enum-told .given .1) (rw (f .before .read2 .ensures) at (f .find .ensures)) in
     aborted-by (a .t2) (bare (a .parts)) (a .d .now) (a .output .now) _ _ noObject _ (no-object-asked (a .t2) (bare (a .parts)) (a .d .now) (a .writing) none) (k .answer .ensures)
 
 returns-3 : tie.Need-returns-3
@@ -37,7 +34,7 @@ returns-3 c =
     let f = g .before .before in
     let s = f .before .before .before .before .before in
     let a = s .args in
-    let none = no-subindex (askedIndex (a .t2)) (askedSubindex (a .t2)) (sym (g .enum-told2 .given .1) ∙ (f .find .ensures ∙ ap (λ (i : ℕ). foundOf (lookup i (askedSubindex (a .t2)))) (f .before .read2 .ensures))) in
+    let none = subst (IsFound (askedIndex (a .t2)) (askedSubindex (a .t2))) (g .enum-told2 .given .1) (rw (f .before .read2 .ensures) at (f .find .ensures)) in
     aborted-by (a .t2) (bare (a .parts)) (a .d .now) (a .output .now) _ _ noSubindex _ (no-subindex-asked (a .t2) (bare (a .parts)) (a .d .now) (a .writing) none) (k .answer2 .ensures)
 
 pub to-object-spec : {M : Type 1} → statement M
