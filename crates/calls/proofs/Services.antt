@@ -14,13 +14,12 @@ use Rattle.state.specs.declared.State.{State}
 use Rattle.rules_dictionary.specs.declared.PdoData.{PdoData}
 use Rattle.rules_dictionary.specs.declared.Role.{Role}
 use Rattle.rules_dictionary.specs.declared.Role.the-variants.{Plain, ModeOfOperation, PdoIdentifier, PdoType, MappingCount, MappingEntry}
-use Rattle.rules_dictionary.specs.Table.{Row, table, receivePdos, Found, found, noObject, noSubindex, lookup}
+use Rattle.rules_dictionary.specs.Table.{Row, table, receivePdos, Found, found, noObject, noSubindex, lookup, same, controlWord, mode, heartbeatTime, errorRegister}
 use Rattle.rules_dictionary.specs.Values.{Write, write, read, stored, unpacked}
 use Rattle.rules_dictionary.specs.Aborts.{Verdict, good, bad}
 use Rattle.rules_dictionary.specs.Legal.{isSynchronous}
 use Rattle.rules_dictionary.specs.Plans.{mapped, pdoData}
 use Rattle.rules_dictionary.specs.Numbers.{any}
-use Rattle.rules_dictionary.specs.Table.{same, controlWord, mode, heartbeatTime, errorRegister}
 use Rattle.rules_dictionary.specs.Members.{In}
 use Rattle.rules_dictionary.proofs.Tests.{none-in}
 use Rattle.rules_dictionary.proofs.LookUp.{found-in}
@@ -42,7 +41,8 @@ use Rattle.theorems.proofs.EventsKept.{PlainRow, code-row, register-row, positi
 use Rattle.theorems.proofs.Writes.{InTable}
 use Rattle.sdo.specs.Serving.{isMapping, remaps}
 use Rattle.answers.proofs.Concluding.{Paces}
-use Rattle.theorems.proofs.Changes.{asked-within, received-by-within, sync-within, event-within, received-quiet, quiet-reset}
+use Rattle.theorems.proofs.Changes.{asked-within, received-by-within, sync-within, event-within}
+use Rattle.theorems.proofs.Within.{received-quiet, quiet-reset}
 
 -- ---- ready frames, SYNC counts and due marks stay those of the call's start
 
@@ -195,7 +195,7 @@ sync-quiet bs s d law w i =
 pub received-by-quiet : (i : ℕ) (bs : List ℕ) (s : State) (d : List ℕ) → Lawful s d → QuietWrites (receivedBy receivePdos i bs s d)
 received-by-quiet i bs s d law w j =
     quiet-reset (byPdos d receivePdos) (received-quiet (s .node .id) d (law .dictionary) receivePdos (λ p k. k)) (w .row)
-    (received-by-within receivePdos receivePdos i bs s d (λ p k h. k) w j)
+    (received-by-within receivePdos receivePdos i bs s d (λ p k. k) (λ p k h. k) w j)
 
 plain-two : {x y : Row} → PlainRow x → PlainRow y → (z : Row) → In z (x ∷ y ∷ []) → In z table × (isPdo (z .role) ≡ false)
 plain-two {x} {y} a b z i = first (in-cons i)

@@ -25,8 +25,8 @@ use Rattle.rules.specs.Outcome.{mostData}
 use Rattle.rules.specs.Calls.{framed}
 use Rattle.theorems.proofs.Booleans.{or-false-left, or-false-right, any-false-in}
 use Rattle.theorems.proofs.Lawful.{Lawful, clauses, sound-lawful}
-use Rattle.theorems.proofs.NmtKept.{LawfulAfter, command-lawful}
-use Rattle.theorems.proofs.Runs.{framed-lawful}
+use Rattle.theorems.proofs.NmtKept.{LawfulAfter}
+use Rattle.theorems.proofs.Runs.{command-lawful, framed-lawful}
 use Rattle.theorems.proofs.SentBy.{SpeaksAs, framed-speaks}
 use Rattle.output.proofs.Laws.{length-data}
 use Rattle.theorems.proofs.Sent.{length-padded}
@@ -120,7 +120,7 @@ module _ {s : State} {d o : List ℕ} (h : Stands s d o) (b : areBytes d ≡ tru
   unfolding stored
   command-finishes c t e =
       as-finished (sym e)
-      (state-finishes t false (loud s (becomes t) (unchanged t false) refl) (command-keeps (commandOf c) s t e) (subst (LawfulAfter d) (sym e) (command-lawful (commandOf c) s d (h .long) (h .sound))))
+      (state-finishes t false (loud s (becomes t) (unchanged t false) refl) (command-keeps (commandOf c) s t e) (subst (LawfulAfter d) (sym e) (command-lawful (commandOf c) s d (h .long) (h .sound) b)))
 
   -- 81h
   pub restarts : (c : ℕ) → c ≡ 0x81 → (r : Done) (d′ o′ : List ℕ) → StartsAnew (s .node .id) d o r d′ o′ → Finishes (commanded (commandOf c) s) s d o r d′ o′
@@ -133,17 +133,17 @@ module _ {s : State} {d o : List ℕ} (h : Stands s d o) (b : areBytes d ≡ tru
   resets c e r d′ o′ new =
       rw e
       (finishes s d o (commanded resetCommunication s) r d′ o′ h b (renewed-leaves s (commanded resetCommunication s) d o r d′ o′ new refl refl)
-      (command-lawful resetCommunication s d (h .long) (h .sound)) (lit≤ tt) (refl, λ on. absurd (false≢true on)) (plans-kept h) (ready-kept h))
+      (command-lawful resetCommunication s d (h .long) (h .sound) b) (lit≤ tt) (refl, λ on. absurd (false≢true on)) (plans-kept h) (ready-kept h))
 
 -- ---- what is left of each service, and its way to the call's end
 
 module _ {s : State} {d o : List ℕ} (h : Stands s d o) (b : areBytes d ≡ true) where
   -- of any frame: lawful, with few frames
   frame-lawful : (i : ℕ) (bs : List ℕ) (e : Effect) → areBytes bs ≡ true → framed i bs s d ≡ e → LawfulAfter d e
-  frame-lawful i bs e bytes q = subst (LawfulAfter d) q (framed-lawful i bs s d (h .long) (h .sound) bytes)
+  frame-lawful i bs e bytes q = subst (LawfulAfter d) q (framed-lawful i bs s d (h .long) (h .sound) b bytes)
 
   frame-few : (i : ℕ) (bs : List ℕ) (e : Effect) → areBytes bs ≡ true → framed i bs s d ≡ e → length (e .sent) ≤ mostBefore
-  frame-few i bs e bytes q = few-spoken (s .node .id) e (subst (SpeaksAs (s .node .id)) q (framed-speaks i bs s d b (h .long) bytes))
+  frame-few i bs e bytes q = few-spoken (s .node .id) e (subst (SpeaksAs (s .node .id)) q (framed-speaks i bs s d b (h .long) (h .sound) bytes))
 
   -- a service that writes no row of a PDO
   quiet-finishes : (i : ℕ) (bs : List ℕ) (e : Effect) (r : Done) (d′ o′ : List ℕ) → areBytes bs ≡ true → framed i bs s d ≡ e → QuietWrites e → Keeps s e →

@@ -16,8 +16,7 @@ use Rattle.rules_services.specs.Effects.{Frame}
 use Rattle.rules_services.specs.Events.{Told, event, badEvent, Event, isInPlace, happens}
 use Rattle.rules.specs.Outcome.{mostData}
 use Rattle.rules.specs.Calls.{refuses, does, eventDecision}
-use Rattle.theorems.proofs.EventsKept.{event-lawful}
-use Rattle.theorems.proofs.Runs.{ToldFits}
+use Rattle.theorems.proofs.Runs.{event-lawful, ToldFits}
 use Rattle.theorems.proofs.SentBy.{event-speaks}
 use Rattle.output.proofs.Laws.{is-data, frame-of-data}
 use Rattle.effects.specs.declared.Done.{Done}
@@ -36,7 +35,7 @@ module _ {s : State} {d o : List ℕ} (h : Stands s d o) (b : areBytes d ≡ tru
   event-finishes : (e : Event) → isInPlace e s ≡ true → ToldFits (event e) → (r : Done) (d′ o′ : List ℕ) → Did (happens e s d) 0 d o r d′ o′ → Rests s (happens e s d) r → Finishes (happens e s d) s d o r d′ o′
   event-finishes e placed fits r d′ o′ did rests =
       finishes s d o (happens e s d) r d′ o′ h b (quiet-leaves s d o (happens e s d) r d′ o′ did rests (event-quiet e s d) (lawful h .dictionary))
-      (event-lawful e s d (lawful h) b placed fits) (few-spoken (s .node .id) (happens e s d) (event-speaks e s d b (h .long))) (kept-paces s (happens e s d .state) (event-keeps e s d)) (plans-kept h) (ready-kept h)
+      (event-lawful e s d (lawful h) b placed fits) (few-spoken (s .node .id) (happens e s d) (event-speaks e s d b (h .long) placed fits)) (kept-paces s (happens e s d .state) (event-keeps e s d)) (plans-kept h) (ready-kept h)
 
   pub told-finishes : (t : Told) → ToldFits t → eventDecision t s d ≡ does (happened t s d) → (r : Done) (d′ o′ : List ℕ) → Did (happened t s d) 0 d o r d′ o′ → Rests s (happened t s d) r →
       Finishes (happened t s d) s d o r d′ o′

@@ -3,7 +3,7 @@
 use Prim.Native.Nat.{ℕ}
 use mathlib.Core.Path.{_≡_, refl, sym}
 use mathlib.Core.Logic.{_⊎_, inl, inr}
-use mathlib.Core.Bool.{Bool, true, false, not, _&&_, _||_, false≢true, true≢false}
+use mathlib.Core.Bool.{Bool, true, false, cond, not, _&&_, _||_, false≢true, true≢false}
 use mathlib.Core.List.{List, [], _∷_}
 use lib.Dec.{eqb}
 use borrow.Author.Tests.{eqb-true, eq-eqb}
@@ -19,6 +19,21 @@ pub clash {ℓ} : {A : Type ℓ} (b : Bool) → b ≡ true → b ≡ false → A
 clash true p q = absurd (true≢false q)
 clash false p q = absurd (false≢true p)
 
+-- what a test decides between: each way, by what the test says there
+pub by-test {ℓ κ} : {A : Type ℓ} (P : A → Type κ) (b : Bool) {x y : A} → (b ≡ true → P x) → (b ≡ false → P y) → P (cond b x y)
+by-test P true h k = h refl
+by-test P false h k = k refl
+
+-- .. where the definition matches on the test
+pub by-match {ℓ κ} : {A : Type ℓ} (P : A → Type κ) (b : Bool) {x y : A} → (b ≡ true → P x) → (b ≡ false → P y) → P (elim b [ true ↦ x | false ↦ y ])
+by-match P true h k = h refl
+by-match P false h k = k refl
+
+-- .. and each way, whatever it says
+pub whichever {ℓ κ} : {A : Type ℓ} (P : A → Type κ) (b : Bool) {x y : A} → P x → P y → P (cond b x y)
+whichever P true h k = h
+whichever P false h k = k
+
 pub or-false-left : (a b : Bool) → (a || b) ≡ false → a ≡ false
 or-false-left true b h = absurd (true≢false h)
 or-false-left false b h = refl
@@ -29,6 +44,10 @@ or-false-right false b h = h
 
 pub or-both-false : (a b : Bool) → a ≡ false → b ≡ false → (a || b) ≡ false
 or-both-false a b p q = rw (p, q)
+
+pub or-either : (a b : Bool) → (a || b) ≡ true → (a ≡ true) ⊎ (b ≡ true)
+or-either true b h = inl refl
+or-either false b h = inr h
 
 -- a conjunction fails once its second part does wherever the first passes
 pub and-false-if : (a b : Bool) → (a ≡ true → b ≡ false) → (a && b) ≡ false

@@ -4,7 +4,8 @@ use Prim.Native.Nat.{ℕ, zero, suc, _*_, _^_, _<_}
 use native.Mathlib.Omega.{arith}
 use native.Mathlib.Nat.{pow-suc}
 use mathlib.Core.Path.{_≡_, refl, _∙_, ap}
-use mathlib.Core.Bool.{true, false, cond, _&&_, _||_}
+use mathlib.Core.Logic.{_⊎_, inl, inr}
+use mathlib.Core.Bool.{true, false, cond, _&&_}
 use mathlib.Core.List.{List, [], _∷_}
 use borrow.Author.Tests.{ltb-true}
 use lib.Bits.{bitOr, or-lt}
@@ -18,22 +19,22 @@ use Rattle.rules_dictionary.specs.declared.Role.the-variants.{Plain}
 use Rattle.rules_dictionary.specs.Table.{Row, whole, table, sizeOf, isConstant, errorCode, errorRegister, position, velocity, mode, controlWord, heartbeatTime, open-table}
 use Rattle.rules_dictionary.specs.Values.{read, store, stored}
 use Rattle.rules_dictionary.specs.Members.{In}
-use Rattle.rules_dictionary.proofs.Tests.{and-left, and-right, and-both, or-left, or-right}
+use Rattle.rules_dictionary.proofs.Tests.{and-left, and-right, and-both}
 use Rattle.rules_dictionary.proofs.LookUp.{found-in}
 use Rattle.rules_dictionary.proofs.Packing.{apart, within}
 use Rattle.rules_dictionary.proofs.Rows.{read-fits}
 use Rattle.drive.specs.DriveStates.{isNotReady, isQuickStop, isFaulty}
-use Rattle.drive.specs.SetPoints.{enters, withStore, withCause, reached}
+use Rattle.drive.specs.SetPoints.{enters, withCause}
 use Rattle.rules_services.specs.Effects.{withDrive}
-use Rattle.rules_services.specs.Events.{Event, started, quickStopDone, reactionDone, setPointReached, tick, causeGone, fault, feedback, voltage, isInPlace, faulted, happens, genericError}
+use Rattle.rules_services.specs.Events.{Event, started, quickStopDone, reactionDone, setPointReached, tick, causeGone, fault, feedback, voltage, faulted, genericError}
 use Rattle.rules.specs.Sound.{driveSound, storeInPlace, takenInPlace, causeInPlace}
 use Rattle.theorems.proofs.Booleans.{clash, implied}
 use Rattle.theorems.proofs.Alike.{isPdo}
 use Rattle.theorems.proofs.Settled.{drive-may, whole-range}
 use Rattle.theorems.proofs.Lawful.{Lawful}
-use Rattle.theorems.proofs.DriveKept.{enters-sound, enters-store, emptied-mode, emptied-state, emptied-taken, reached-sound}
+use Rattle.theorems.proofs.DriveKept.{enters-sound, enters-store, emptied-same, emptied-taken}
 use Rattle.theorems.proofs.Writes.{store-lawful}
-use Rattle.theorems.proofs.NmtKept.{LawfulAfter, drive-lawful, tick-lawful}
+use Rattle.theorems.proofs.NmtKept.{LawfulAfter, drive-lawful}
 
 -- ---- values of arguments fit
 
@@ -93,15 +94,15 @@ ArgumentsFit (fault code register) = (code < 256 ^ 2) × (register < 256 ^ 1)
 ArgumentsFit (feedback at speed) = (at < 256 ^ 4) × (speed < 256 ^ 4)
 ArgumentsFit (voltage b) = Unit
 
-unfaulty : (s : DriveState) → (isNotReady s || isQuickStop s) ≡ true → isFaulty s ≡ false
+pub unfaulty : (s : DriveState) → (isNotReady s ≡ true) ⊎ (isQuickStop s ≡ true) → isFaulty s ≡ false
 unfaulty NotReady h = refl
 unfaulty SwitchOnDisabled h = refl
 unfaulty ReadyToSwitchOn h = refl
 unfaulty SwitchedOn h = refl
 unfaulty OperationEnabled h = refl
 unfaulty QuickStopActive h = refl
-unfaulty FaultReactionActive h = clash false h refl
-unfaulty Fault h = clash false h refl
+unfaulty FaultReactionActive h = elim h [ inl e ↦ clash false e refl | inr e ↦ clash false e refl ]
+unfaulty Fault h = elim h [ inl e ↦ clash false e refl | inr e ↦ clash false e refl ]
 
 module _ (s : State) (d : List ℕ) (law : Lawful s d) where
   v0 : Drive
@@ -115,16 +116,14 @@ module _ (s : State) (d : List ℕ) (law : Lawful s d) where
   unfolding v0 driveSound causeInPlace
   cause0 = implied (v0 .cause) _ (and-right (storeInPlace v0 && takenInPlace v0 d) (causeInPlace v0) (law .drive))
 
-  pub enters-lawful : (q : DriveState) → (s .axis .drive .cause ≡ true → isFaulty q ≡ true) → Lawful (withDrive (enters q (s .axis .drive)) s) d
+  -- to a fault state, or from a state that has no cause
+  pub enters-lawful : (q : DriveState) → (isFaulty q ≡ true) ⊎ (isFaulty (s .axis .drive .state) ≡ false) → Lawful (withDrive (enters q (s .axis .drive)) s) d
   unfolding v0 enters
-  enters-lawful q h = drive-lawful s d (enters q v0) law (emptied-mode _) (enters-sound q v0 d taken0 h)
+  enters-lawful q h =
+      drive-lawful s d (enters q v0) law (emptied-same _ .mode)
+      (enters-sound q v0 d taken0 (λ c. elim h [ inl e ↦ e | inr e ↦ clash (isFaulty (v0 .state)) (cause0 c) e ]))
 
-  -- from a state that has no cause
-  leaves-lawful : (q : DriveState) → (isNotReady (v0 .state) || isQuickStop (v0 .state)) ≡ true → Lawful (withDrive (enters q (s .axis .drive)) s) d
-  unfolding v0
-  leaves-lawful q h = enters-lawful q (λ c. clash (isFaulty (v0 .state)) (cause0 c) (unfaulty (v0 .state) h))
-
-  gone-lawful : Lawful (withDrive (withCause false (s .axis .drive)) s) d
+  pub gone-lawful : Lawful (withDrive (withCause false (s .axis .drive)) s) d
   unfolding v0 driveSound storeInPlace takenInPlace causeInPlace
   gone-lawful = drive-lawful s d (withCause false v0) law refl (and-both _ _ (and-left (storeInPlace v0 && takenInPlace v0 d) (causeInPlace v0) (law .drive)) refl)
 
@@ -132,8 +131,8 @@ module _ (s : State) (d : List ℕ) (law : Lawful s d) where
   unfolding v0 enters driveSound storeInPlace takenInPlace causeInPlace
   caused-lawful q h =
       let w = enters q v0 in
-      drive-lawful s d (withCause true w) law (emptied-mode _)
-      (and-both _ _ (and-both _ _ (enters-store q v0) (emptied-taken _ d taken0)) (ap isFaulty (emptied-state _) ∙ h))
+      drive-lawful s d (withCause true w) law (emptied-same _ .mode)
+      (and-both _ _ (and-both _ _ (enters-store q v0) (emptied-taken _ d taken0)) (ap isFaulty (emptied-same _ .state) ∙ h))
 
 faulty-next : (s : DriveState) → isFaulty (cond (isFaulty s) s FaultReactionActive) ≡ true
 faulty-next NotReady = refl
@@ -153,18 +152,3 @@ fault-lawful code register s d law bs c r =
     let law1 = plain-lawful s d errorCode code law code-row c in
     let law2 = plain-lawful s (store errorCode code d) errorRegister (bitOr (read d errorRegister) (bitOr register genericError)) law1 register-row new in
     caused-lawful s _ law2 (cond (isFaulty (s .axis .drive .state)) (s .axis .drive .state) FaultReactionActive) (faulty-next (s .axis .drive .state))
-
-pub event-lawful : (e : Event) (s : State) (d : List ℕ) → Lawful s d → areBytes d ≡ true → isInPlace e s ≡ true → ArgumentsFit e → LawfulAfter d (happens e s d)
-unfolding happens isInPlace stored v0
-event-lawful started s d law bs h a = leaves-lawful s d law SwitchOnDisabled (or-left (isNotReady (s .axis .drive .state)) _ h)
-event-lawful quickStopDone s d law bs h a = leaves-lawful s d law SwitchOnDisabled (or-right (isNotReady (s .axis .drive .state)) _ h)
-event-lawful reactionDone s d law bs h a = enters-lawful s d law Fault (λ c. refl)
-event-lawful setPointReached s d law bs h a =
-    drive-lawful s d (withStore (reached (s .axis .drive .store)) (s .axis .drive)) law refl (reached-sound (s .axis .drive) d (law .drive) h)
-event-lawful tick s d law bs h a = tick-lawful s d law
-event-lawful causeGone s d law bs h a = gone-lawful s d law
-event-lawful (fault code register) s d law bs h a = fault-lawful code register s d law bs (a .0) (a .1)
-event-lawful (feedback at speed) s d law bs h a =
-    plain-lawful s (store position at d) velocity speed (plain-lawful s d position at law position-row (a .0)) velocity-row (a .1)
-event-lawful (voltage b) s d law bs h a =
-    record { id = law .id; long = law .long; dictionary = law .dictionary; mode = law .mode; drive = law .drive; heartbeat = law .heartbeat; counts = law .counts; held = law .held }

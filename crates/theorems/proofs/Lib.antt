@@ -11,13 +11,15 @@ pub mod EventsKept
 pub mod SdoKept
 pub mod Mapped
 pub mod PdoKept
+pub mod Within
+pub mod Services
 pub mod Runs
 pub mod Changes
 pub mod Quiet
 pub mod Demands
-pub mod Taken
-pub mod TakenBy
 pub mod Sent
 pub mod SentBy
+pub mod Taken
+pub mod TakenBy
 pub mod ShutOut
 pub mod Telling

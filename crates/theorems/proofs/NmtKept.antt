@@ -4,24 +4,24 @@ use Prim.Native.Nat.{ℕ, suc, _+_, _^_, _<_}
 use native.Mathlib.Omega.{arith}
 use mathlib.Core.Path.{_≡_, refl, sym, _∙_, ap, ap₂, subst}
 use mathlib.Core.Logic.{_⊎_, inl, inr}
-use mathlib.Core.Bool.{Bool, true, false, cond, not, _&&_, or-true}
+use mathlib.Core.Bool.{Bool, true, false, not, _&&_}
 use mathlib.Core.List.{List, [], _∷_, map, append-nil}
 use borrow.Author.Tests.{eqb-true, leb-true, ltb-true}
-use lib.Dec.{eqb, ltb, leb}
+use lib.Dec.{ltb, leb}
 use lib.ListN.{length, getD}
 use Rattle.drive.specs.declared.Drive.{Drive}
 use Rattle.state.specs.declared.NmtState.{NmtState}
-use Rattle.state.specs.declared.NmtState.the-variants.{PreOperational, Operational, Stopped}
+use Rattle.state.specs.declared.NmtState.the-variants.{PreOperational, Operational}
 use Rattle.state.specs.declared.State.{State}
 use Rattle.rules_dictionary.specs.Numbers.{all, filter, value}
 use Rattle.rules_dictionary.specs.TheNode.{lastNode, isNodeId}
-use Rattle.rules_dictionary.specs.Table.{Row, table, same, sizeOf, dictionaryLength, isConstant, pdos, receivePdos, transmitPdos, eachWay, mode, controlWord, heartbeatTime, identifier, mapCount, mapEntry, mapSlots, open-table, isReset}
+use Rattle.rules_dictionary.specs.Table.{Row, table, same, sizeOf, dictionaryLength, isConstant, pdos, receivePdos, transmitPdos, eachWay, mode, controlWord, identifier, mapCount, mapEntry, mapSlots, open-table, isReset}
 use Rattle.rules_dictionary.specs.Values.{read, store, stored, defaultOf, toDefaults}
 use Rattle.rules_dictionary.specs.Aborts.{isGood, open-aborts}
 use Rattle.rules_dictionary.specs.Legal.{isCyclic, modeNumber, entryVerdict, countVerdict, mapWords, identifiers, badIdentifier, open-legal}
 use Rattle.rules_dictionary.specs.Members.{In, here, there}
-use Rattle.rules_dictionary.proofs.Tests.{and-left, and-right, and-both, each-in, all-in, allBelow, on-nodes}
-use Rattle.rules_dictionary.proofs.Members.{words-read, identifier-in, count-in, entry-in, filtered, filter-in}
+use Rattle.rules_dictionary.proofs.Tests.{and-left, and-right, and-both, each-in, all-in, allBelow, on-nodes, none-in}
+use Rattle.rules_dictionary.proofs.Members.{words-read, identifier-in, count-in, entry-in, in-cons, filtered, filter-in}
 use Rattle.rules_dictionary.proofs.Rows.{length-store, length-stored, read-same, read-apart, field-stored}
 use Rattle.rules_dictionary.proofs.LookUp.{found-in}
 use Rattle.rules_dictionary.proofs.Packing.{apart, within, same-or-apart}
@@ -29,15 +29,15 @@ use Rattle.rules_dictionary.proofs.Defaults.{defaults-in-range}
 use Rattle.drive.specs.declared.Command.the-variants.{DisableVoltage}
 use Rattle.drive.specs.DriveStates.{next}
 use Rattle.drive.specs.SetPoints.{enters}
-use Rattle.rules_services.specs.Effects.{Effect, becomes, sends, withDrive, withNmt, withHeartbeat, isOperational, isPreOperational}
+use Rattle.rules_services.specs.Effects.{Effect, withDrive, withNmt, withHeartbeat, isOperational}
 use Rattle.rules_services.specs.PdoTraffic.{works, typeOf, noneHeld}
-use Rattle.rules_services.specs.Nmt.{left, voltageDisabled, commanded, Command, start, stop, enterPreOperational, resetNode, resetCommunication, unknown, noCounts, tick, heartbeat, powerUp, freshState}
+use Rattle.rules_services.specs.Nmt.{left, voltageDisabled, noCounts, heartbeat, powerUp, freshState}
 use Rattle.rules.specs.Outcome.{transmitters}
 use Rattle.rules.specs.Sound.{sound, inRange, driveSound, storeInPlace, takenInPlace, causeInPlace, heartbeatSound, waitingSound, countSound, dueSound, heldSound, pairwise}
 use Rattle.theorems.proofs.Booleans.{either, clash, not-false}
 use Rattle.theorems.proofs.Dictionary.{DictionaryOk, map-same}
 use Rattle.theorems.proofs.Lawful.{Lawful, pairwise-map, pairwise-at, transmitter-at, clauses, sound-lawful}
-use Rattle.theorems.proofs.DriveKept.{enters-sound, next-cause, emptied-mode}
+use Rattle.theorems.proofs.DriveKept.{enters-sound, next-cause, emptied-same}
 use Rattle.theorems.proofs.Writes.{idle, idle-held}
 
 -- ---- a part of a lawful state changed
@@ -114,21 +114,9 @@ unfolding voltageDisabled enters driveSound
 disabled-lawful s d law =
     let v = s .axis .drive in
     let q = next (v .cause) (v .state) DisableVoltage in
-    drive-lawful s d (enters q v) law (emptied-mode _)
+    drive-lawful s d (enters q v) law (emptied-same _ .mode)
     (enters-sound q v d (and-right (storeInPlace v) (takenInPlace v d) (and-left _ (causeInPlace v) (law .drive)))
     (next-cause v DisableVoltage (and-right (storeInPlace v && takenInPlace v d) (causeInPlace v) (law .drive))))
-
--- ---- ticks
-
-pub tick-lawful : (s : State) (d : List ℕ) → Lawful s d → LawfulAfter d (tick s d)
-unfolding tick stored heartbeatSound
-tick-lawful s d law = go (eqb (read d heartbeatTime) 0) (ltb (suc (s .node .heartbeat)) (read d heartbeatTime)) refl
-  where
-    go : (a b : Bool) → ltb (suc (s .node .heartbeat)) (read d heartbeatTime) ≡ b →
-        LawfulAfter d (cond a (becomes s) (cond b (becomes (withHeartbeat (suc (s .node .heartbeat)) s)) (sends (heartbeat s) (becomes (withHeartbeat 0 s)))))
-    go true b e = law
-    go false true e = beat-lawful s d (suc (s .node .heartbeat)) law (rw e (or-true (eqb (suc (s .node .heartbeat)) 0)))
-    go false false e = beat-lawful s d 0 law refl
 
 mode-in : In mode table
 unfolding open-table
@@ -307,25 +295,3 @@ reset-lawful s d law =
       counts = λ t i w c. clash false w refl;
       held = none-held PreOperational _;
     }
-
-isOperational-not : (m : NmtState) → isPreOperational m ≡ true → isOperational m ≡ false
-isOperational-not PreOperational h = refl
-isOperational-not Operational h = clash false h refl
-isOperational-not Stopped h = refl
-
-pub command-lawful : (c : Command) (s : State) (d : List ℕ) → length d ≡ dictionaryLength → sound s d ≡ true → LawfulAfter d (commanded c s)
-unfolding commanded stored
-command-lawful start s d l h = go (isOperational (s .node .nmt)) refl
-  where
-    go : (b : Bool) → isOperational (s .node .nmt) ≡ b → LawfulAfter d (cond b (becomes s) (becomes (withNmt Operational s)))
-    go true e = sound-lawful s d l h
-    go false e = start-lawful s d l h e
-command-lawful stop s d l h = left-lawful (voltageDisabled s) d Stopped (disabled-lawful s d (sound-lawful s d l h))
-command-lawful enterPreOperational s d l h = go (isPreOperational (s .node .nmt))
-  where
-    go : (b : Bool) → LawfulAfter d (cond b (becomes s) (becomes (withNmt PreOperational (left s))))
-    go true = sound-lawful s d l h
-    go false = left-lawful s d PreOperational (sound-lawful s d l h)
-command-lawful resetNode s d l h = fresh-lawful (s .node .id) d (sound-lawful s d l h .id) l
-command-lawful resetCommunication s d l h = rw append-nil (reset-lawful s d (sound-lawful s d l h))
-command-lawful unknown s d l h = sound-lawful s d l h

@@ -4,10 +4,9 @@ use Prim.Native.Nat.{ℕ, zero, suc, _+_, _-_, _<_, _≤_}
 use native.Mathlib.Omega.{arith}
 use mathlib.Core.Path.{_≡_, refl, sym, _∙_, ap, ap₂, subst}
 use mathlib.Core.Logic.{inr}
-use mathlib.Core.Bool.{Bool, true, false, cond, not, _&&_}
+use mathlib.Core.Bool.{Bool, true, false, _&&_}
 use mathlib.Core.List.{List, [], _∷_}
 use borrow.Author.Tests.{ltb-false}
-use lib.Dec.{eqb, ltb}
 use lib.ListN.{length, getD, take, drop, set}
 use lib.Seq.{length-take-le, take-take, take-nil}
 use native.Mathlib.Nat.{zero-add, suc-add}
@@ -16,33 +15,34 @@ use Rattle.state.specs.declared.NmtState.{NmtState}
 use Rattle.state.specs.declared.State.{State}
 use Rattle.rules_dictionary.specs.Numbers.{value, padded}
 use Rattle.rules_dictionary.specs.Table.{Row, sizeOf, receivePdos, transmitPdos}
-use Rattle.rules_dictionary.specs.Values.{Write, write, stored, unpacked}
+use Rattle.rules_dictionary.specs.Values.{Write, write, unpacked}
 use Rattle.rules_dictionary.specs.Legal.{isSynchronous}
 use Rattle.rules_dictionary.specs.Plans.{mapped, pdoData}
-use Rattle.rules_dictionary.specs.Members.{In, here, there}
+use Rattle.rules_dictionary.specs.Members.{In}
 use Rattle.rules_dictionary.proofs.Tests.{and-left, and-right, and-both, each-in}
 use Rattle.rules_dictionary.proofs.Members.{in-left}
-use Rattle.rules_services.specs.Effects.{becomes, sends, syncs, andThen, withHeld, isStopped, isOperational}
-use Rattle.rules_services.specs.Emergency.{emergency, pdoTooShort, pdoTooLong, valueRefused, syncLength}
-use Rattle.rules_services.specs.Written.{applied}
-use Rattle.rules_services.specs.PdoTraffic.{works, typeOf, mappedLength, areLegal, heldOrApplied, received, listens, receivedBy, noData, isHeld, release, releaseAll, sync}
+use Rattle.rules_services.specs.Effects.{withHeld}
+use Rattle.rules_services.specs.PdoTraffic.{works, typeOf, mappedLength, areLegal, noData, isHeld}
 use Rattle.rules.specs.Outcome.{sameData}
 use Rattle.rules.specs.Sound.{heldSound, pairwise}
 use Rattle.theorems.proofs.Booleans.{clash}
 use Rattle.theorems.proofs.Dictionary.{DictionaryOk}
 use Rattle.theorems.proofs.Lawful.{Lawful, data-refl, pairwise-at}
-use Rattle.theorems.proofs.Writes.{stored-append, applied-lawful}
-use Rattle.theorems.proofs.NmtKept.{LawfulAfter}
-use Rattle.theorems.proofs.Mapped.{mapped-short, received-may, writes-ok}
+use Rattle.theorems.proofs.Writes.{MayApply}
+use Rattle.theorems.proofs.SdoKept.{good-value}
+use Rattle.theorems.proofs.Mapped.{mapped-short, range-fits, received-may, writes-ok}
 
 -- ---- values of a frame, stored and acted on
 
-pub values-lawful : (s : State) (d : List ℕ) {p : ℕ} (bs : List ℕ) → Lawful s d → In p receivePdos → areLegal d (unpacked (mapped d p) bs) ≡ true →
-    LawfulAfter d (applied (unpacked (mapped d p) bs) s d)
-values-lawful s d {p} bs law i legal =
-    let ws = unpacked (mapped d p) bs in
+pub values-may : (s : State) (d : List ℕ) {p : ℕ} (bs : List ℕ) → In p receivePdos → areLegal d (unpacked (mapped d p) bs) ≡ true → Lawful s d →
+    MayApply s d (unpacked (mapped d p) bs)
+values-may s d {p} bs i legal law =
     let may = received-may (s .node .id) d bs (law .dictionary) i legal in
-    applied-lawful s d ws law (λ w j. may w j .inside) (inr (λ w j. may w j .quiet)) (writes-ok (s .node .id) d ws d (law .long) (law .dictionary) may)
+    record {
+      fit = λ w j. (may w j .inside, range-fits (w .value) (may w j .inside) (good-value d (w .row) (w .value) (may w j .value) .notAbove));
+      quiet = inr (λ w j. may w j .quiet);
+      ok = writes-ok (s .node .id) d (unpacked (mapped d p) bs) d (law .long) (law .dictionary) may;
+    }
 
 -- ---- a held frame
 
@@ -120,7 +120,7 @@ module _ (n : ℕ) (d : List ℕ) {p : ℕ} (bs : List ℕ) (m : NmtState) (ok :
       let s = mapped-short ok (in-left transmitPdos i) in
       ap (λ (j : ℕ). take j (padded 0 8 front)) (sym front-length) ∙ take-padded 8 front (rw front-length s)
 
-  new-held : heldSound m d p (pdoData (take (mappedLength (mapped d p)) bs)) ≡ true
+  pub new-held : heldSound m d p (pdoData (take (mappedLength (mapped d p)) bs)) ≡ true
   unfolding heldSound front k
   new-held = go (isHeld (pdoData front)) refl
     where
@@ -132,36 +132,6 @@ module _ (n : ℕ) (d : List ℕ) {p : ℕ} (bs : List ℕ) (m : NmtState) (ok :
           (ap (areLegal d) (unpacked-same (mapped d p) (pdoData front .bytes) bs front-back) ∙ legal))
       go false e = rw e (empty-data front e)
 
--- ---- a received frame
-
-pub received-lawful : (s : State) (d : List ℕ) {p : ℕ} (bs : List ℕ) → Lawful s d → In p receivePdos → works (s .node .nmt) d p ≡ true → LawfulAfter d (received p bs s d)
-unfolding received heldOrApplied stored
-received-lawful s d {p} bs law i w =
-    go (ltb (length bs) k) (areLegal d (unpacked (mapped d p) bs)) (isSynchronous (typeOf d p)) refl refl refl
-  where
-    k : ℕ
-    k = mappedLength (mapped d p)
-
-    go : (a b c : Bool) → ltb (length bs) k ≡ a → areLegal d (unpacked (mapped d p) bs) ≡ b → isSynchronous (typeOf d p) ≡ c →
-        LawfulAfter d (cond a (sends (emergency pdoTooShort s d) (becomes s))
-        (sends (cond (ltb k (length bs)) (emergency pdoTooLong s d) [])
-        (cond b (cond c (becomes (withHeld (set (s .axis .held) p (pdoData (take k bs))) s)) (applied (unpacked (mapped d p) (take k bs)) s d)) (sends (emergency valueRefused s d) (becomes s)))))
-    go true b c e f g = law
-    go false false c e f g = law
-    go false true true e f g =
-        held-lawful s d (pdoData (take k bs)) law i (new-held (s .node .id) d bs (s .node .nmt) (law .dictionary) i w g (ltb-false (length bs) k e) f)
-    go false true false e f g =
-        values-lawful s d (take k bs) law i (ap (areLegal d) (unpacked-same (mapped d p) (take k bs) bs (take-take k k bs (omega arith))) ∙ f)
-
-pub received-by-lawful : (ps : List ℕ) (i : ℕ) (bs : List ℕ) (s : State) (d : List ℕ) → Lawful s d → ((p : ℕ) → In p ps → In p receivePdos) → LawfulAfter d (receivedBy ps i bs s d)
-unfolding receivedBy listens stored
-received-by-lawful [] i bs s d law h = law
-received-by-lawful (p ∷ ps) i bs s d law h = go (listens i (s .node .nmt) d p) refl (received-by-lawful ps i bs s d law (λ q j. h q (there j)))
-  where
-    go : (b : Bool) → listens i (s .node .nmt) d p ≡ b → LawfulAfter d (receivedBy ps i bs s d) → LawfulAfter d (elim b [ true ↦ received p bs s d | false ↦ receivedBy ps i bs s d ])
-    go true e rest = received-lawful s d bs law (h p here) (and-left (works (s .node .nmt) d p) _ e)
-    go false e rest = rest
-
 -- ---- SYNC
 
 pub held-at : (s : State) (d : List ℕ) {p : ℕ} → Lawful s d → In p receivePdos → heldSound (s .node .nmt) d p (getD (s .axis .held) p noData) ≡ true
@@ -172,35 +142,3 @@ held-at s d {p} law i =
 pub held-legal : (m : NmtState) (d : List ℕ) (p : ℕ) (f : PdoData) → heldSound m d p f ≡ true → isHeld f ≡ true → areLegal d (unpacked (mapped d p) (f .bytes)) ≡ true
 unfolding heldSound
 held-legal m d p f h e = and-right (works m d p && isSynchronous (typeOf d p) && sameData f (pdoData (take (mappedLength (mapped d p)) (f .bytes)))) _ (rw e at h)
-
-pub release-lawful : (s : State) (d : List ℕ) {p : ℕ} → Lawful s d → In p receivePdos → LawfulAfter d (release p s d)
-unfolding release stored
-release-lawful s d {p} law i = go (isHeld (getD (s .axis .held) p noData)) refl
-  where
-    f : PdoData
-    f = getD (s .axis .held) p noData
-
-    go : (b : Bool) → isHeld (getD (s .axis .held) p noData) ≡ b →
-        LawfulAfter d (elim b [ true ↦ applied (unpacked (mapped d p) (f .bytes)) (withHeld (set (s .axis .held) p noData) s) d | false ↦ becomes s ])
-    go true e =
-        values-lawful (withHeld (set (s .axis .held) p noData) s) d (f .bytes) (held-lawful s d noData law i (none-sound (s .node .nmt) d p)) i
-        (held-legal (s .node .nmt) d p f (held-at s d law i) e)
-    go false e = law
-
-pub release-all-lawful : (ps : List ℕ) (s : State) (d : List ℕ) → Lawful s d → ((p : ℕ) → In p ps → In p receivePdos) → LawfulAfter d (releaseAll ps s d)
-unfolding releaseAll andThen stored
-release-all-lawful [] s d law h = law
-release-all-lawful (p ∷ ps) s d law h =
-    let e = release p s d in
-    rw (stored-append (e .writes) (releaseAll ps (e .state) (stored (e .writes) d) .writes) d)
-    (release-all-lawful ps (e .state) (stored (e .writes) d) (release-lawful s d law (h p here)) (λ q j. h q (there j)))
-
-pub sync-lawful : (bs : List ℕ) (s : State) (d : List ℕ) → Lawful s d → LawfulAfter d (sync bs s d)
-unfolding sync stored
-sync-lawful bs s d law = go (isStopped (s .node .nmt)) (not (eqb (length bs) 0)) (isOperational (s .node .nmt))
-  where
-    go : (a b c : Bool) → LawfulAfter d (cond a (becomes s) (cond b (sends (emergency syncLength s d) (becomes s)) (cond c (syncs (releaseAll receivePdos s d)) (becomes s))))
-    go true b c = law
-    go false true c = law
-    go false false true = release-all-lawful receivePdos s d law (λ p i. i)
-    go false false false = law

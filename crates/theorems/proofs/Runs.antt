@@ -1,39 +1,46 @@
 -- Every call keeps what holds between calls, and so do runs.
 -- Assumes nothing.
-use Prim.Native.Nat.{ℕ, zero, suc, _+_, _^_, _<_, _≤_}
+use Prim.Native.Nat.{ℕ, zero, suc, _^_, _<_, _≤_}
 use native.Mathlib.Omega.{arith}
 use mathlib.Core.Path.{_≡_, refl, sym, _∙_, ap, subst}
-use mathlib.Core.Bool.{Bool, true, false, cond, not, _&&_, _||_}
-use mathlib.Core.List.{List, [], _∷_}
+use mathlib.Core.Logic.{inl, inr}
+use mathlib.Core.Bool.{Bool, true, false, cond, not, _&&_, _||_, or-true}
+use mathlib.Core.List.{List, [], _∷_, append-nil}
 use borrow.Author.Tests.{eq-eqb, eqb-true, le-leb, ltb-true}
 use lib.Dec.{eqb, leb}
 use lib.ListN.{length, getD, drop}
+use Rattle.state.specs.declared.NmtState.the-variants.{Stopped}
 use Rattle.state.specs.declared.State.{State}
 use Rattle.state.specs.declared.Refusal.{Refusal}
 use Rattle.state.specs.declared.Refusal.the-variants.{Accepted, DictionaryLength, OutputLength, NodeId, NotSound, BadFrame, BadEvent, OutOfPlace}
 use Rattle.rules_dictionary.specs.Numbers.{areBytes, isByte, value, part}
 use Rattle.rules_dictionary.specs.TheNode.{isNodeId}
-use Rattle.rules_dictionary.specs.Table.{dictionaryLength, receivePdos}
-use Rattle.rules_dictionary.specs.Values.{stored}
+use Rattle.rules_dictionary.specs.Table.{Row, dictionaryLength, statusWord, modeDisplay, position, velocity}
+use Rattle.rules_dictionary.specs.Values.{store, stored}
 use Rattle.rules_dictionary.specs.Plans.{plansOf, readyOf}
 use Rattle.rules_dictionary.proofs.Tests.{and-left, and-right}
 use Rattle.rules_dictionary.proofs.Rows.{stored-bytes, store-bytes, length-stored, all-drop}
-use Rattle.rules_services.specs.Effects.{Effect, becomes, isStopped}
-use Rattle.rules_services.specs.Sdo.{sdo, requestBase, requestLength}
-use Rattle.rules_services.specs.PdoTraffic.{sync, syncBase, receivedBy}
-use Rattle.rules_services.specs.Nmt.{nmt, nmtIdentifier, nmtLength, everyNode, commanded, commandOf, powerUp}
-use Rattle.rules_services.specs.Events.{Event, Told, event, badEvent, eventOf, isInPlace, happens, started, quickStopDone, reactionDone, setPointReached, tick, causeGone, fault, feedback, voltage, provided}
+use Rattle.drive.specs.SetPoints.{withStore, reached as reachedBy}
+use Rattle.rules_services.specs.Effects.{Effect, andThen, withHeld}
+use Rattle.rules_services.specs.Written.{applied}
+use Rattle.rules_services.specs.Nmt.{Command, commanded, voltageDisabled, powerUp}
+use Rattle.rules_services.specs.Events.{Event, started, quickStopDone, reactionDone, setPointReached, tick, causeGone, fault, feedback, voltage}
+use Rattle.rules_services.specs.Events.{Told, event, badEvent, eventOf, provided, isInPlace, happens}
 use Rattle.rules.specs.Outcome.{ended, settled, mostData}
-use Rattle.rules.specs.Sound.{sound}
-use Rattle.rules.specs.Calls.{Call, powerUpCall, frameCall, eventCall, Decision, refuses, does as performs, framed, eventDecision, decision, decided, refused, accepted, answered, answer, Outcome, outputLength, lastIdentifier}
+use Rattle.rules.specs.Sound.{sound, heartbeatSound}
+use Rattle.rules.specs.Calls.{Call, powerUpCall, frameCall, eventCall, Decision, refuses as refusedBy, does as performs, framed, eventDecision}
+use Rattle.rules.specs.Calls.{decision, decided, refused, accepted, answered, answer, Outcome, refusalNumber, outputLength, lastIdentifier}
 use Rattle.theorems.specs.Promises.{Step, Stand, left, after, octets, allOctets, Run, reached, SoundAt, SoundAlways, NeverUnsound}
-use Rattle.theorems.proofs.Booleans.{clash}
+use Rattle.theorems.specs.Promises.{byEvent, byTold, byFrame, mayChange}
+use Rattle.theorems.proofs.Booleans.{clash, by-match, or-either, not-false, false-not}
 use Rattle.theorems.proofs.Settled.{settled-length}
 use Rattle.theorems.proofs.Lawful.{Lawful, sound-lawful, ended-sound}
-use Rattle.theorems.proofs.NmtKept.{LawfulAfter, fresh-lawful, command-lawful}
-use Rattle.theorems.proofs.EventsKept.{ArgumentsFit, event-lawful, value-take}
-use Rattle.theorems.proofs.SdoKept.{sdo-lawful}
-use Rattle.theorems.proofs.PdoKept.{received-by-lawful, sync-lawful}
+use Rattle.theorems.proofs.DriveKept.{reached-sound}
+use Rattle.theorems.proofs.Writes.{stored-append, applied-lawful}
+use Rattle.theorems.proofs.NmtKept.{LawfulAfter, fresh-lawful, start-lawful, left-lawful, disabled-lawful, reset-lawful, beat-lawful, drive-lawful}
+use Rattle.theorems.proofs.EventsKept.{ArgumentsFit, value-take, enters-lawful, gone-lawful, fault-lawful, plain-lawful, position-row, velocity-row}
+use Rattle.theorems.proofs.PdoKept.{held-lawful, new-held}
+use Rattle.theorems.proofs.Services.{Serves, Releases, framed-serves, event-serves, command-serves}
 
 -- ---- what holds between calls
 
@@ -54,37 +61,58 @@ pub ended-long : (s : State) (d : List ℕ) (e : Effect) → length (ended s d e
 unfolding ended
 ended-long s d e = settled-length (e .state) (stored (e .writes) d) ∙ length-stored (e .writes) d
 
-ended-holds : (s : State) (d : List ℕ) (e : Effect) → length d ≡ dictionaryLength → areBytes d ≡ true → sound (ended s d e .state) (ended s d e .dictionary) ≡ true →
+ended-holds : (s : State) (d : List ℕ) (e : Effect) → length d ≡ dictionaryLength → areBytes d ≡ true → LawfulAfter d e →
     Holds (record { state = ended s d e .state; dictionary = ended s d e .dictionary })
 unfolding ended
-ended-holds s d e l b h = record { at = record { sound = h; long = ended-long s d e ∙ l; bytes = ended-bytes s d e b }; plans = refl; ready = refl }
+ended-holds s d e l b law = record { at = record { sound = ended-sound s d e law; long = ended-long s d e ∙ l; bytes = ended-bytes s d e b }; plans = refl; ready = refl }
 
--- ---- frames
+-- ---- every service leaves a lawful state
 
-nmt-lawful : (bs : List ℕ) (s : State) (d : List ℕ) → length d ≡ dictionaryLength → sound s d ≡ true → LawfulAfter d (nmt bs s)
-unfolding nmt stored
-nmt-lawful bs s d l h = go (eqb (length bs) nmtLength && (eqb (getD bs 1 0) everyNode || eqb (getD bs 1 0) (s .node .id)))
-  where
-    go : (b : Bool) → LawfulAfter d (cond b (commanded (commandOf (getD bs 0 0)) s) (becomes s))
-    go true = command-lawful (commandOf (getD bs 0 0)) s d l h
-    go false = sound-lawful s d l h
+releases-lawful : {xs : List Row} {s : State} {d : List ℕ} {e : Effect} → Releases xs s d e → Lawful s d → LawfulAfter d e
+unfolding andThen stored
+releases-lawful Releases.none law = law
+releases-lawful {s = s} {d = d} (Releases.next h ws {e} cleared may inside rest) law =
+    rw (stored-append (applied ws (withHeld h s) d .writes) (e .writes) d) (releases-lawful rest (applied-lawful (withHeld h s) d ws cleared may))
 
-pub framed-lawful : (i : ℕ) (bs : List ℕ) (s : State) (d : List ℕ) → length d ≡ dictionaryLength → sound s d ≡ true → areBytes bs ≡ true → LawfulAfter d (framed i bs s d)
-unfolding framed stored
-framed-lawful i bs s d l h b =
-    go (eqb i nmtIdentifier) (eqb i syncBase) (eqb i (requestBase + s .node .id)) (eqb (length bs) requestLength && not (isStopped (s .node .nmt)))
-  where
-    law : Lawful s d
-    law = sound-lawful s d l h
+pub lawful : {K : Type 0} {s : State} {d : List ℕ} {xs : List Row} {e : Effect} → Serves K s d xs e → K → areBytes d ≡ true → Lawful s d → LawfulAfter d e
+unfolding stored heartbeatSound commanded
+lawful Serves.nothing k b law = law
+lawful (Serves.replies c v rq small octet) k b law = law
+lawful (Serves.alarms l code) k b law = law
+lawful {s = s} {d = d} (Serves.applies ws before may inside) k b law = applied-lawful s d ws law (may k law)
+lawful {s = s} {d = d} (Serves.holds bs l i on synchronous long legal) k b law =
+    held-lawful s d _ law i (new-held (s .node .id) d bs (s .node .nmt) (law .dictionary) i on synchronous long legal)
+lawful (Serves.releases r) k b law = releases-lawful r law
+lawful {s = s} {d = d} (Serves.starts h idle) k b law = start-lawful s d (law .long) h idle
+lawful {s = s} {d = d} (Serves.leaves m) k b law = left-lawful s d m law
+lawful {s = s} {d = d} Serves.stops k b law = left-lawful (voltageDisabled s) d Stopped (disabled-lawful s d law)
+lawful {s = s} {d = d} (Serves.resets inside) k b law = rw append-nil (reset-lawful s d law)
+lawful {s = s} {d = d} (Serves.begins inside) k b law = fresh-lawful (s .node .id) d (law .id) (law .long)
+lawful {s = s} {d = d} (Serves.moves q h) k b law = enters-lawful s d law q (h k)
+lawful {s = s} {d = d} (Serves.reaches h) k b law =
+    drive-lawful s d (withStore (reachedBy (s .axis .drive .store)) (s .axis .drive)) law refl (reached-sound (s .axis .drive) d (law .drive) (h k))
+lawful {s = s} {d = d} Serves.recovers k b law = gone-lawful s d law
+lawful {s = s} {d = d} (Serves.faults code register fits inside) k b law = fault-lawful code register s d law b (fits k .0) (fits k .1)
+lawful {s = s} {d = d} (Serves.feeds at speed fits inside) k b law =
+    plain-lawful s (store position at d) velocity speed (plain-lawful s d position at law position-row (fits k .0)) velocity-row (fits k .1)
+lawful (Serves.powers v) k b law =
+    record { id = law .id; long = law .long; dictionary = law .dictionary; mode = law .mode; drive = law .drive; heartbeat = law .heartbeat; counts = law .counts; held = law .held }
+lawful {s = s} {d = d} (Serves.counts e) k b law = beat-lawful s d (suc (s .node .heartbeat)) law (rw e (or-true (eqb (suc (s .node .heartbeat)) 0)))
+lawful {s = s} {d = d} Serves.beats k b law = beat-lawful s d 0 law refl
 
-    go : (a c e f : Bool) → LawfulAfter d (cond a (nmt bs s) (cond c (sync bs s d) (cond e (cond f (sdo bs s d) (becomes s)) (receivedBy receivePdos i bs s d))))
-    go true c e f = nmt-lawful bs s d l h
-    go false true e f = sync-lawful bs s d law
-    go false false true true = sdo-lawful bs s d b law
-    go false false true false = law
-    go false false false f = received-by-lawful receivePdos i bs s d law (λ p j. j)
+pub framed-lawful : (i : ℕ) (bs : List ℕ) (s : State) (d : List ℕ) → length d ≡ dictionaryLength → sound s d ≡ true → areBytes d ≡ true → areBytes bs ≡ true →
+    LawfulAfter d (framed i bs s d)
+framed-lawful i bs s d l h b octet =
+    let law = sound-lawful s d l h in
+    lawful (framed-serves Unit s d i bs (λ k. octet) law h) tt b law
 
--- ---- events
+pub command-lawful : (c : Command) (s : State) (d : List ℕ) → length d ≡ dictionaryLength → sound s d ≡ true → areBytes d ≡ true → LawfulAfter d (commanded c s)
+command-lawful c s d l h b = lawful (command-serves Unit s d c h) tt b (sound-lawful s d l h)
+
+pub event-lawful : (e : Event) (s : State) (d : List ℕ) → Lawful s d → areBytes d ≡ true → isInPlace e s ≡ true → ArgumentsFit e → LawfulAfter d (happens e s d)
+event-lawful e s d law b placed fits = lawful (event-serves Unit s d e (λ k. placed) (λ k. fits)) tt b law
+
+-- ---- events' arguments
 
 abbrev pub ToldFits : Told → Type 0
 ToldFits (event e) = ArgumentsFit e
@@ -119,67 +147,60 @@ arguments-fit k xs h =
     (choice ToldFits (eqb k 8) (told bare causeGone tt)
     (choice ToldFits (eqb k 9) (told (eqb (length xs) 1 && leb (getD xs 0 0) 1) (voltage (eqb (getD xs 0 0) 1)) tt) tt))))))))
 
--- ---- a call: what it decides on is lawful
+-- ---- what a call decides on: a refusal, power-up, or a service of a sound state
 
-abbrev DecisionOk : List ℕ → Decision → Type 0
-DecisionOk d (refuses r) = Unit
-DecisionOk d (performs e) = LawfulAfter d e
+abbrev isUnsound : Refusal → Bool
+isUnsound r = eqb (refusalNumber r) (refusalNumber NotSound)
 
-event-ok : (t : Told) (s : State) (d : List ℕ) → Lawful s d → areBytes d ≡ true → ToldFits t → DecisionOk d (eventDecision t s d)
-unfolding eventDecision
-event-ok badEvent s d law b f = tt
-event-ok (event e) s d law b f = go (isInPlace e s) refl
-  where
-    go : (c : Bool) → isInPlace e s ≡ c → DecisionOk d (elim c [ true ↦ performs (happens e s d) | false ↦ refuses OutOfPlace ])
-    go true h = event-lawful e s d law b h f
-    go false h = tt
+pub data Decides (s : State) (d : List ℕ) (c : Call) : Decision → Type 0 where
+  refuses : (r : Refusal) → (not (isUnsound r) || not (sound s d)) ≡ true → Decides s d c (refusedBy r)
+  begins : (n : ℕ) → c ≡ powerUpCall n → isNodeId n ≡ true → length d ≡ dictionaryLength → Decides s d c (performs (powerUp n))
+  serves : {e : Effect} (xs : List Row) → mayChange c s d ≡ statusWord ∷ modeDisplay ∷ xs → Lawful s d → Serves (octets c ≡ true) s d xs e → Decides s d c (performs e)
 
-fresh-ok : (n : ℕ) (d : List ℕ) → length d ≡ dictionaryLength → DecisionOk d (elim (isNodeId n) [ true ↦ performs (powerUp n) | false ↦ refuses NodeId ])
-fresh-ok n d l = go (isNodeId n) refl
-  where
-    go : (b : Bool) → isNodeId n ≡ b → DecisionOk d (elim b [ true ↦ performs (powerUp n) | false ↦ refuses NodeId ])
-    go true h = fresh-lawful n d h l
-    go false h = tt
+module _ (s : State) (d : List ℕ) where
+  told-decides : (k : ℕ) (xs : List ℕ) (t : Told) → mayChange (eventCall k xs) s d ≡ statusWord ∷ modeDisplay ∷ byTold t → (areBytes xs ≡ true → ToldFits t) → Lawful s d →
+      Decides s d (eventCall k xs) (eventDecision t s d)
+  unfolding eventDecision
+  told-decides k xs badEvent q fits law = refuses BadEvent refl
+  told-decides k xs (event e) q fits law =
+      by-match (Decides s d (eventCall k xs)) (isInPlace e s) (λ h. serves (byEvent e) q law (event-serves (areBytes xs ≡ true) s d e (λ b. h) fits)) (λ h. refuses OutOfPlace refl)
 
-decision-ok : (c : Call) (s : State) (d : List ℕ) → length d ≡ dictionaryLength → areBytes d ≡ true → octets c ≡ true → DecisionOk d (decision c s d)
-unfolding decision
-decision-ok (powerUpCall n) s d l b o = fresh-ok n d l
-decision-ok (frameCall i bs) s d l b o = go (sound s d) (leb i lastIdentifier && leb (length bs) mostData) refl
-  where
-    go : (a c : Bool) → sound s d ≡ a → DecisionOk d (elim a [ true ↦ elim c [ true ↦ performs (framed i bs s d) | false ↦ refuses BadFrame ] | false ↦ refuses NotSound ])
-    go true true h = framed-lawful i bs s d l h o
-    go true false h = tt
-    go false c h = tt
-decision-ok (eventCall k xs) s d l b o = go (sound s d) refl
-  where
-    go : (a : Bool) → sound s d ≡ a → DecisionOk d (elim a [ true ↦ eventDecision (eventOf k xs) s d | false ↦ refuses NotSound ])
-    go true h = event-ok (eventOf k xs) s d (sound-lawful s d l h) b (arguments-fit k xs o)
-    go false h = tt
+  decision-decides : (c : Call) → length d ≡ dictionaryLength → Decides s d c (decision c s d)
+  unfolding decision mayChange
+  decision-decides (powerUpCall n) l = by-match (Decides s d (powerUpCall n)) (isNodeId n) (λ h. begins n refl h l) (λ h. refuses NodeId refl)
+  decision-decides (frameCall i bs) l =
+      by-match (Decides s d (frameCall i bs)) (sound s d)
+      (λ h. by-match (Decides s d (frameCall i bs)) (leb i lastIdentifier && leb (length bs) mostData)
+      (λ fine. serves (byFrame i bs s d) refl (sound-lawful s d l h) (framed-serves (areBytes bs ≡ true) s d i bs (λ b. b) (sound-lawful s d l h) h))
+      (λ bad. refuses BadFrame refl)) (λ h. refuses NotSound (false-not (sound s d) h))
+  decision-decides (eventCall k xs) l =
+      by-match (Decides s d (eventCall k xs)) (sound s d) (λ h. told-decides k xs (eventOf k xs) refl (arguments-fit k xs) (sound-lawful s d l h))
+      (λ h. refuses NotSound (false-not (sound s d) h))
 
-decided-ok : (c : Call) (s : State) (d o : List ℕ) → areBytes d ≡ true → octets c ≡ true → DecisionOk d (decided c s d o)
-unfolding decided
-decided-ok c s d o b h = go (eqb (length d) dictionaryLength) (leb outputLength (length o)) refl
-  where
-    go : (x y : Bool) → eqb (length d) dictionaryLength ≡ x →
-        DecisionOk d (elim x [ true ↦ elim y [ true ↦ decision c s d | false ↦ refuses OutputLength ] | false ↦ refuses DictionaryLength ])
-    go true true e = decision-ok c s d (eqb-true _ _ e) b h
-    go true false e = tt
-    go false y e = tt
+  pub decides : (c : Call) (o : List ℕ) → Decides s d c (decided c s d o)
+  unfolding decided
+  decides c o =
+      by-match (Decides s d c) (eqb (length d) dictionaryLength)
+      (λ l. by-match (Decides s d c) (leb outputLength (length o)) (λ room. decision-decides c (eqb-true _ _ l)) (λ room. refuses OutputLength refl))
+      (λ l. refuses DictionaryLength refl)
+
+-- ---- the step
 
 abbrev standing : Outcome → Stand
 standing u = record { state = u .state; dictionary = u .dictionary }
 
-answered-holds : (x : Decision) (s : State) (d o : List ℕ) → length d ≡ dictionaryLength → areBytes d ≡ true → DecisionOk d x → Holds (record { state = s; dictionary = d }) → Holds (standing (answered x s d o))
+answered-holds : {c : Call} {x : Decision} (a : Stand) (o : List ℕ) → Decides (a .state) (a .dictionary) c x → octets c ≡ true → Holds a →
+    Holds (standing (answered x (a .state) (a .dictionary) o))
 unfolding answered refused accepted
-answered-holds (refuses r) s d o l b k h = h
-answered-holds (performs e) s d o l b k h = ended-holds s d e l b (ended-sound s d e k)
+answered-holds a o (refuses r q) k h = h
+answered-holds a o (begins n q legal long) k h =
+    ended-holds (a .state) (a .dictionary) (powerUp n) long (h .at .bytes) (fresh-lawful n (a .dictionary) legal long)
+answered-holds a o (serves {e} xs q law v) k h = ended-holds (a .state) (a .dictionary) e (law .long) (h .at .bytes) (lawful v k (h .at .bytes) law)
 
 -- THE STEP
 pub step-holds : (k : Step) (a : Stand) → octets (k .call) ≡ true → Holds a → Holds (left k a)
 unfolding answer
-step-holds k a o h =
-    answered-holds (decided (k .call) (a .state) (a .dictionary) (k .output)) (a .state) (a .dictionary) (k .output) (h .at .long) (h .at .bytes)
-    (decided-ok (k .call) (a .state) (a .dictionary) (k .output) (h .at .bytes) o) h
+step-holds k a o h = answered-holds a (k .output) (decides (a .state) (a .dictionary) (k .call) (k .output)) o h
 
 pub after-holds : (ks : List Step) (a : Stand) → allOctets ks → Holds a → Holds (after ks a)
 unfolding after allOctets
@@ -201,7 +222,7 @@ power-up-holds : (n : ℕ) (a : Stand) (o : List ℕ) → isNodeId n ≡ true �
 unfolding answer answered accepted
 power-up-holds n a o legal long bytes room =
     subst (λ (x : Decision). Holds (standing (answered x (a .state) (a .dictionary) o))) (sym (power-up-decided n (a .state) (a .dictionary) o legal long room))
-    (ended-holds (a .state) (a .dictionary) (powerUp n) long bytes (ended-sound (a .state) (a .dictionary) (powerUp n) (fresh-lawful n (a .dictionary) legal long)))
+    (ended-holds (a .state) (a .dictionary) (powerUp n) long bytes (fresh-lawful n (a .dictionary) legal long))
 
 -- THE INVARIANT of every run
 pub run-holds : (r : Run) → Holds (reached r)
@@ -209,63 +230,19 @@ run-holds r = after-holds (r .steps) _ (r .given) (power-up-holds (r .node) (r .
 
 -- ---- demand 3
 
+or-false-at : {a : Bool} → (a || false) ≡ true → a ≡ true
+or-false-at {a} h = elim (or-either a false h) [ inl e ↦ e | inr e ↦ clash false e refl ]
+
 pub sound-always : SoundAlways
 sound-always r = run-holds r .at
 
-abbrev isUnsound : Refusal → Bool
-isUnsound Accepted = false
-isUnsound DictionaryLength = false
-isUnsound OutputLength = false
-isUnsound NodeId = false
-isUnsound NotSound = true
-isUnsound BadFrame = false
-isUnsound BadEvent = false
-isUnsound OutOfPlace = false
-
-abbrev Sure : Decision → Type 0
-Sure (refuses r) = isUnsound r ≡ false
-Sure (performs e) = Unit
-
-sure-event : (t : Told) (s : State) (d : List ℕ) → Sure (eventDecision t s d)
-unfolding eventDecision
-sure-event badEvent s d = refl
-sure-event (event e) s d = go (isInPlace e s)
-  where
-    go : (b : Bool) → Sure (elim b [ true ↦ performs (happens e s d) | false ↦ refuses OutOfPlace ])
-    go true = tt
-    go false = refl
-
-sure-decision : (c : Call) (s : State) (d : List ℕ) → sound s d ≡ true → Sure (decision c s d)
-unfolding decision
-sure-decision (powerUpCall n) s d h = go (isNodeId n)
-  where
-    go : (b : Bool) → Sure (elim b [ true ↦ performs (powerUp n) | false ↦ refuses NodeId ])
-    go true = tt
-    go false = refl
-sure-decision (frameCall i bs) s d h = subst Sure (sym (passed (sound s d) _ _ h)) (go (leb i lastIdentifier && leb (length bs) mostData))
-  where
-    go : (b : Bool) → Sure (elim b [ true ↦ performs (framed i bs s d) | false ↦ refuses BadFrame ])
-    go true = tt
-    go false = refl
-sure-decision (eventCall k xs) s d h = subst Sure (sym (passed (sound s d) _ _ h)) (sure-event (eventOf k xs) s d)
-
-sure-decided : (c : Call) (s : State) (d o : List ℕ) → sound s d ≡ true → Sure (decided c s d o)
-unfolding decided
-sure-decided c s d o h = go (eqb (length d) dictionaryLength) (leb outputLength (length o))
-  where
-    go : (x y : Bool) → Sure (elim x [ true ↦ elim y [ true ↦ decision c s d | false ↦ refuses OutputLength ] | false ↦ refuses DictionaryLength ])
-    go true true = sure-decision c s d h
-    go true false = refl
-    go false y = refl
-
-sure-answer : (x : Decision) (s : State) (d o : List ℕ) → Sure x → answered x s d o .refusal ≡ NotSound → ⊥
-unfolding answered refused accepted
-sure-answer (refuses r) s d o h e = clash (isUnsound r) (ap isUnsound e) h
-sure-answer (performs x) s d o h e = clash (isUnsound Accepted) (ap isUnsound e) refl
-
 pub never-unsound : NeverUnsound
-unfolding answer
+unfolding answer answered refused accepted
 never-unsound r k =
     let a = reached r in
-    sure-answer (decided (k .call) (a .state) (a .dictionary) (k .output)) (a .state) (a .dictionary) (k .output)
-    (sure-decided (k .call) (a .state) (a .dictionary) (k .output) (run-holds r .at .sound))
+    sure (a .state) (a .dictionary) (decides (a .state) (a .dictionary) (k .call) (k .output)) (run-holds r .at .sound)
+  where
+    sure : (s : State) (d : List ℕ) {x : Decision} → Decides s d (k .call) x → sound s d ≡ true → answered x s d (k .output) .refusal ≡ NotSound → ⊥
+    sure s d (refuses x q) h e = clash (isUnsound x) (ap isUnsound e) (not-false (isUnsound x) (or-false-at (rw h at q)))
+    sure s d (begins n q legal long) h e = clash (isUnsound Accepted) (ap isUnsound e) refl
+    sure s d (serves xs q law v) h e = clash (isUnsound Accepted) (ap isUnsound e) refl

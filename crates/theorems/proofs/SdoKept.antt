@@ -16,23 +16,21 @@ use Rattle.rules_dictionary.specs.declared.Role.{Role}
 use Rattle.rules_dictionary.specs.declared.Role.the-variants.{Plain, ModeOfOperation, PdoIdentifier, PdoType, MappingCount, MappingEntry}
 use Rattle.rules_dictionary.specs.declared.Access.{Access}
 use Rattle.rules_dictionary.specs.declared.Access.the-variants.{Constant, NodeWritten, Writable}
-use Rattle.rules_dictionary.specs.Table.{Row, table, sizeOf, isConstant, isWritable, identifier, mapCount, Found, found, noObject, noSubindex, lookup}
+use Rattle.rules_dictionary.specs.Table.{Row, table, sizeOf, isConstant, isWritable, identifier, mapCount}
 use Rattle.rules_dictionary.specs.Values.{write, read, stored}
 use Rattle.rules_dictionary.specs.Aborts.{Verdict, good, bad, isGood, Test, firstOf}
 use Rattle.rules_dictionary.specs.Legal.{valueVerdict, otherBadValue, mappingVerdict, badChoice, isValid, isBelow, isAbove}
 use Rattle.rules_dictionary.specs.Members.{In}
 use Rattle.rules_dictionary.proofs.Tests.{and-both}
-use Rattle.rules_dictionary.proofs.LookUp.{found-in}
 use Rattle.rules_dictionary.proofs.Rows.{all-drop}
 use Rattle.rules_services.specs.Effects.{isPreOperational, isOperational}
-use Rattle.rules_services.specs.Sdo.{Command, download, upload, clientAbort, unknown, commandOf, commandByte, askedIndex, askedSubindex, askedValue, isWrongTime, downloadVerdict, decided, toRow, toObject, asked, sdo, abort, dataPlace}
+use Rattle.rules_services.specs.Sdo.{askedValue, isWrongTime, downloadVerdict, abort, dataPlace}
 use Rattle.rules.specs.Sound.{inRange}
 use Rattle.theorems.proofs.Booleans.{clash, or-false-left, or-false-right, false-not}
 use Rattle.theorems.proofs.Dictionary.{MayHold, store-ok}
 use Rattle.theorems.proofs.Alike.{isPdo}
 use Rattle.theorems.proofs.Lawful.{Lawful}
-use Rattle.theorems.proofs.Writes.{NoPdo, one-row, applied-lawful}
-use Rattle.theorems.proofs.NmtKept.{LawfulAfter}
+use Rattle.theorems.proofs.Writes.{MayApply, one-row}
 use Rattle.theorems.proofs.EventsKept.{value-take}
 
 -- ---- where the verdict is good, no test fired
@@ -136,37 +134,13 @@ module _ (rq : List ℕ) (nmt : NmtState) (n : ℕ) (d : List ℕ) (x : Row) (by
       go (MappingCount p) e = inl (pre-idle nmt (or-false-left (not (isPreOperational nmt)) _ (time-of (MappingCount p) e)))
       go (MappingEntry p) e = inl (pre-idle nmt (or-false-left (not (isPreOperational nmt)) _ (or-false-left (not (isPreOperational nmt) || isValid (read d (identifier p))) _ (time-of (MappingEntry p) e))))
 
--- ---- the server
-
-module _ (rq : List ℕ) (s : State) (d : List ℕ) (bytes : areBytes rq ≡ true) (law : Lawful s d) where
-  decided-lawful : (x : Row) → In x table → (v : Verdict) → downloadVerdict rq (s .node .nmt) d x ≡ v → LawfulAfter d (decided v rq x s d)
-  unfolding decided abort stored
-  decided-lawful x i good e =
-      let v = askedValue rq x in
-      applied-lawful s d (write x v ∷ []) law (one-row (λ w. In (w .row) table) i) (go (idle-or-quiet rq (s .node .nmt) (s .node .id) d x bytes e))
-      (store-ok (s .node .id) d x v i (law .long) (law .dictionary) (may rq (s .node .nmt) (s .node .id) d x bytes e))
-    where
-      go : (isOperational (s .node .nmt) ≡ false) ⊎ (isPdo (x .role) ≡ false) → (isOperational (s .node .nmt) ≡ false) ⊎ NoPdo (write x (askedValue rq x) ∷ [])
-      go (inl h) = inl h
-      go (inr h) = inr (one-row (λ w. isPdo (w .row .role) ≡ false) h)
-  decided-lawful x i (bad a) e = law
-
-  object-lawful : (writing : Bool) (f : Found) → lookup (askedIndex rq) (askedSubindex rq) ≡ f → LawfulAfter d (toObject writing rq f s d)
-  unfolding toObject toRow abort stored
-  object-lawful true (found x) e = decided-lawful x (found-in _ _ e) (downloadVerdict rq (s .node .nmt) d x) refl
-  object-lawful false (found x) e = law
-  object-lawful true noObject e = law
-  object-lawful false noObject e = law
-  object-lawful true noSubindex e = law
-  object-lawful false noSubindex e = law
-
-  asked-lawful : (c : Command) → LawfulAfter d (asked c rq s d)
-  unfolding asked abort stored
-  asked-lawful download = object-lawful true _ refl
-  asked-lawful upload = object-lawful false _ refl
-  asked-lawful clientAbort = law
-  asked-lawful unknown = law
-
-  pub sdo-lawful : LawfulAfter d (sdo rq s d)
-  unfolding sdo
-  sdo-lawful = asked-lawful (commandOf (commandByte rq))
+pub download-may : (rq : List ℕ) (s : State) (d : List ℕ) {x : Row} → areBytes rq ≡ true → In x table → downloadVerdict rq (s .node .nmt) d x ≡ good →
+    Lawful s d → MayApply s d (write x (askedValue rq x) ∷ [])
+unfolding stored
+download-may rq s d {x} b i e law =
+    let m = may rq (s .node .nmt) (s .node .id) d x b e in
+    record {
+      fit = one-row (λ w. In (w .row) table × (w .value < 256 ^ sizeOf (w .row))) (i, m .fits);
+      quiet = elim (idle-or-quiet rq (s .node .nmt) (s .node .id) d x b e) [ inl h ↦ inl h | inr h ↦ inr (one-row (λ w. isPdo (w .row .role) ≡ false) h) ];
+      ok = store-ok (s .node .id) d x (askedValue rq x) i (law .long) (law .dictionary) m;
+    }

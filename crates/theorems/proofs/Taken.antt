@@ -1,6 +1,6 @@
 -- Set-points are taken at the edge of bit 4 and nowhere else.
 -- Assumes nothing.
-use Prim.Native.Nat.{ℕ, _+_, _^_, _<_, _≤_}
+use Prim.Native.Nat.{ℕ, _+_, _≤_}
 use native.Mathlib.Omega.{arith}
 use mathlib.Core.Path.{_≡_, refl, sym, _∙_, ap, subst}
 use mathlib.Core.Logic.{_⊎_, inl, inr}
@@ -15,52 +15,49 @@ use Rattle.drive.specs.declared.Store.the-variants.{Empty, Rested, Moving, Queu
 use Rattle.drive.specs.declared.Drive.{Drive}
 use Rattle.state.specs.declared.State.{State}
 use Rattle.rules_dictionary.specs.Numbers.{all, bit}
-use Rattle.rules_dictionary.specs.Table.{Row, table, same, sizeOf, dictionaryLength, controlWord, mode, heartbeatTime}
+use Rattle.rules_dictionary.specs.Table.{Row, same, dictionaryLength, controlWord, mode, heartbeatTime}
 use Rattle.rules_dictionary.specs.Values.{Write, read, store, stored}
 use Rattle.rules_dictionary.proofs.Packing.{apart, within, same-or-apart}
 use Rattle.rules_dictionary.proofs.Rows.{length-store, read-same, read-apart}
-use Rattle.rules_dictionary.specs.Members.{In, here, there}
+use Rattle.rules_dictionary.specs.Members.{here, there}
 use Rattle.rules_dictionary.proofs.Tests.{and-left, and-right}
 use Rattle.drive.specs.DriveStates.{command, next}
 use Rattle.drive.specs.SetPoints.{positions, emptied, enters, withState, withStore, withMarks, behind, isQueued, target, withinLimits, setPoint, offered, setPointRule, modeWritten, controlWritten, reached, newSetPointBit, atOnceBit}
 use Rattle.drive.specs.SetPoints as SetPoints
 use Rattle.drive.proofs.Tempting.{held-bit-takes-nothing}
-use Rattle.rules_services.specs.Effects.{Effect, becomes, withDrive, withHeartbeat}
+use Rattle.rules_services.specs.Effects.{Effect, becomes}
 use Rattle.rules_services.specs.Written.{wrote, countRestarted, modeActed, faultReset, controlActed, applied}
 use Rattle.theorems.specs.Promises.{points, OneEdgeTakesOne}
-use Rattle.theorems.proofs.Booleans.{not-false, implied}
-use Rattle.theorems.proofs.Writes.{control-in}
+use Rattle.theorems.proofs.Booleans.{not-false, implied, whichever}
+use Rattle.theorems.proofs.Writes.{control-in, Fitting}
 
 -- ---- a store later on: it holds the last ones of the set-points before
 
-abbrev pub Later : Store → Store → Type 0
-Later a b = (n : ℕ) × (points b ≡ drop n (points a))
+pub record Later (a b : Store) : Type 0 where
+  pub gone : ℕ
+  pub rest : points b ≡ drop gone (points a)
 
-pub later-self : (a : Store) → Later a a
-later-self a = (0, refl)
+pub later-self : {a : Store} → Later a a
+later-self = record { gone = 0; rest = refl }
 
 pub later-empty : (a : Store) → Later a Empty
-later-empty Empty = (0, refl)
-later-empty (Rested t) = (0, refl)
-later-empty (Moving p) = (1, refl)
-later-empty (Queued p q) = (2, refl)
+later-empty Empty = later-self
+later-empty (Rested t) = record { gone = 0; rest = refl }
+later-empty (Moving p) = record { gone = 1; rest = refl }
+later-empty (Queued p q) = record { gone = 2; rest = refl }
 
 pub later-reached : (a : Store) → Later a (reached a)
-later-reached Empty = (0, refl)
-later-reached (Rested t) = (0, refl)
-later-reached (Moving p) = (1, refl)
-later-reached (Queued p q) = (1, refl)
+later-reached Empty = later-self
+later-reached (Rested t) = later-self
+later-reached (Moving p) = record { gone = 1; rest = refl }
+later-reached (Queued p q) = record { gone = 1; rest = refl }
 
-pub later-trans : (a b c : Store) → Later a b → Later b c → Later a c
-later-trans a b c f g = (f .0 + g .0, g .1 ∙ ap (drop (g .0)) (f .1) ∙ drop-drop (g .0) (f .0) (points a))
+pub later-trans : {a b c : Store} → Later a b → Later b c → Later a c
+later-trans {a} f g = record { gone = f .gone + g .gone; rest = g .rest ∙ ap (drop (g .gone)) (f .rest) ∙ drop-drop (g .gone) (f .gone) (points a) }
 
 later-emptied : (v : Drive) → Later (v .store) (emptied v .store)
 unfolding emptied
-later-emptied v = go (positions v)
-  where
-    go : (b : Bool) → Later (v .store) (cond b v (withMarks false false (withStore Empty v)) .store)
-    go true = later-self (v .store)
-    go false = later-empty (v .store)
+later-emptied v = whichever (λ (w : Drive). Later (v .store) (w .store)) (positions v) later-self (later-empty (v .store))
 
 pub later-enters : (q : DriveState) (v : Drive) → Later (v .store) (enters q v .store)
 unfolding enters
@@ -86,7 +83,7 @@ Takes rose a b =
     (n : ℕ) × (xs : List SetPoint) × (points b ≡ drop n (points a) ++ xs) × (length xs ≤ 1) × ((xs ≡ []) ⊎ (rose ≡ true))
 
 takes-none : (rose : Bool) (a b : Store) → Later a b → Takes rose a b
-takes-none rose a b f = (f .0, [], f .1 ∙ sym (append-nil (drop (f .0) (points a))), omega arith, inl refl)
+takes-none rose a b f = (f .gone, [], f .rest ∙ sym (append-nil (drop (f .gone) (points a))), omega arith, inl refl)
 
 takes-behind : (a : Store) (p : SetPoint) → Takes true a (behind a p)
 takes-behind Empty p = (0, p ∷ [], refl, omega arith, inr refl)
@@ -108,28 +105,29 @@ takes-offered d word v = go (not (bit atOnceBit word) && isQueued (v .store)) (w
     p = setPoint d (target d word (v .store))
 
     go : (a b c : Bool) → Takes true (v .store) (cond a v (cond b (withMarks true false (withStore (cond c (Moving p) (behind (v .store) p)) v)) (withMarks (v .taken) true v)) .store)
-    go true b c = takes-none true (v .store) (v .store) (later-self (v .store))
+    go true b c = takes-none true (v .store) (v .store) later-self
     go false true true = takes-all (v .store) p
     go false true false = takes-behind (v .store) p
-    go false false c = takes-none true (v .store) (v .store) (later-self (v .store))
+    go false false c = takes-none true (v .store) (v .store) later-self
 
 takes-rule : (d : List ℕ) (old word : ℕ) (v : Drive) → Takes (not (bit newSetPointBit old) && bit newSetPointBit word) (v .store) (setPointRule d old word v .store)
 unfolding setPointRule
 takes-rule d old word v = go (bit newSetPointBit word) (positions v) (bit newSetPointBit old)
   where
     go : (a b c : Bool) → Takes (not c && a) (v .store) (cond a (cond (b && not c) (offered d word v) v) (withMarks false (v .limit) v) .store)
-    go true true true = takes-none false (v .store) (v .store) (later-self (v .store))
+    go true true true = takes-none false (v .store) (v .store) later-self
     go true true false = takes-offered d word v
-    go true false true = takes-none false (v .store) (v .store) (later-self (v .store))
-    go true false false = takes-none true (v .store) (v .store) (later-self (v .store))
-    go false b true = takes-none false (v .store) (v .store) (later-self (v .store))
-    go false b false = takes-none false (v .store) (v .store) (later-self (v .store))
+    go true false true = takes-none false (v .store) (v .store) later-self
+    go true false false = takes-none true (v .store) (v .store) later-self
+    go false b true = takes-none false (v .store) (v .store) later-self
+    go false b false = takes-none false (v .store) (v .store) later-self
 
 -- first the drive command, which takes nothing, then the rule
 takes-after : (rose : Bool) (a b c : Store) → Later a b → Takes rose b c → Takes rose a c
 takes-after rose a b c f g =
     let xs = g .1 in
-    (f .0 + g .0, xs, g .2 ∙ ap (λ (l : List SetPoint). drop (g .0) l ++ xs) (f .1) ∙ ap (λ (l : List SetPoint). l ++ xs) (drop-drop (g .0) (f .0) (points a)), g .3, g .4)
+    let n = f .gone in
+    (n + g .0, xs, g .2 ∙ ap (λ (l : List SetPoint). drop (g .0) l ++ xs) (f .rest) ∙ ap (λ (l : List SetPoint). l ++ xs) (drop-drop (g .0) n (points a)), g .3, g .4)
 
 pub one-edge-takes-one : OneEdgeTakesOne
 unfolding controlWritten
@@ -147,10 +145,6 @@ one-edge-takes-one d old v =
 
 abbrev pub keeps : List Write → Bool
 keeps ws = all (λ w. not (same controlWord (w .row)) || bit newSetPointBit (w .value)) ws
-
--- rows of the table, with values that fit them
-abbrev pub Fitting : List Write → Type 0
-Fitting ws = (w : Write) → In w ws → In (w .row) table × (w .value < 256 ^ sizeOf (w .row))
 
 pub bit-stays : (ws : List Write) (d : List ℕ) → length d ≡ dictionaryLength → Fitting ws → keeps ws ≡ true → bit newSetPointBit (read d controlWord) ≡ true → bit newSetPointBit (read (stored ws d) controlWord) ≡ true
 unfolding stored
@@ -170,35 +164,17 @@ bit-stays (w ∷ ws) d l fit k h =
 abbrev pub LaterBy : State → Effect → Type 0
 LaterBy s e = Later (s .axis .drive .store) (e .state .axis .drive .store)
 
-pub applied-later : (ws : List Write) (s : State) (d : List ℕ) → length d ≡ dictionaryLength → Fitting ws → keeps ws ≡ true → bit newSetPointBit (read d controlWord) ≡ true → LaterBy s (applied ws s d)
+-- writes that are acted on: first the mode, then the control word
+pub applied-later : (ws : List Write) (s : State) (d : List ℕ) → length d ≡ dictionaryLength → Fitting ws → keeps ws ≡ true →
+    bit newSetPointBit (read d controlWord) ≡ true → LaterBy s (applied ws s d)
 unfolding applied controlActed faultReset modeActed countRestarted
-applied-later ws s d l fit k h = go (wrote heartbeatTime ws) (wrote mode ws) (wrote controlWord ws) (λ t. controlWritten d1 (read d controlWord) (t .axis .drive) .reset)
-  where
-    d1 : List ℕ
-    d1 = stored ws d
-
-    held : bit newSetPointBit (read (stored ws d) controlWord) ≡ true
-    held = bit-stays ws d l fit k h
-
-    restarted : Bool → State
-    restarted a = cond a (withHeartbeat 0 s) s
-
-    moded : Bool → Bool → State
-    moded a b = cond b (withDrive (modeWritten d1 (restarted a .axis .drive)) (restarted a)) (restarted a)
-
-    first : (a b : Bool) → Later (s .axis .drive .store) (moded a b .axis .drive .store)
-    first true true = later-mode d1 (s .axis .drive)
-    first true false = later-self (s .axis .drive .store)
-    first false true = later-mode d1 (s .axis .drive)
-    first false false = later-self (s .axis .drive .store)
-
-    act : (c r : Bool) → State → Effect
-    act c r t = cond c (cond r (faultReset (withDrive (controlWritten d1 (read d controlWord) (t .axis .drive) .drive) t) d1) (becomes (withDrive (controlWritten d1 (read d controlWord) (t .axis .drive) .drive) t))) (becomes t)
-
-    second : (c r : Bool) (t : State) → Later (t .axis .drive .store) (act c r t .state .axis .drive .store)
-    second true true t = later-control d1 (read d controlWord) (t .axis .drive) h held
-    second true false t = later-control d1 (read d controlWord) (t .axis .drive) h held
-    second false r t = later-self (t .axis .drive .store)
-
-    go : (a b c : Bool) (r : State → Bool) → Later (s .axis .drive .store) (act c (r (moded a b)) (moded a b) .state .axis .drive .store)
-    go a b c r = later-trans (s .axis .drive .store) (moded a b .axis .drive .store) (act c (r (moded a b)) (moded a b) .state .axis .drive .store) (first a b) (second c (r (moded a b)) (moded a b))
+applied-later ws s d l fit k h =
+    let d1 = stored ws d in
+    let r = countRestarted ws s in
+    let t = modeActed ws r d1 in
+    let c = controlWritten d1 (read d controlWord) (t .axis .drive) in
+    let restarted : LaterBy s (becomes r) = whichever (λ (u : State). LaterBy s (becomes u)) (wrote heartbeatTime ws) later-self later-self in
+    let moded : LaterBy s (becomes t) =
+    whichever (λ (u : State). LaterBy s (becomes u)) (wrote mode ws) (later-trans restarted (later-mode d1 (r .axis .drive))) restarted in
+    let controlled = later-trans moded (later-control d1 (read d controlWord) (t .axis .drive) h (bit-stays ws d l fit k h)) in
+    whichever (LaterBy s) (wrote controlWord ws) (whichever (LaterBy s) (c .reset) controlled controlled) moded

@@ -1,6 +1,6 @@
 -- Writes keep a state lawful: each row one that may hold its value, and what is then acted on.
 -- Assumes nothing.
-use Prim.Native.Nat.{ℕ, _+_, _<_}
+use Prim.Native.Nat.{ℕ, _+_, _^_, _<_}
 use native.Mathlib.Omega.{arith}
 use mathlib.Core.Path.{_≡_, refl, sym, _∙_, ap, ap₂, subst}
 use mathlib.Core.Logic.{_⊎_, inl, inr}
@@ -16,7 +16,7 @@ use Rattle.state.specs.declared.NmtState.{NmtState}
 use Rattle.state.specs.declared.State.{State}
 use Rattle.rules_dictionary.specs.Numbers.{value}
 use Rattle.rules_dictionary.specs.TheNode.{isNodeId}
-use Rattle.rules_dictionary.specs.Table.{Row, table, same, receivePdos, transmitPdos, eachWay, controlWord, mode, heartbeatTime, errorRegister, open-table}
+use Rattle.rules_dictionary.specs.Table.{Row, table, same, sizeOf, receivePdos, transmitPdos, eachWay, controlWord, mode, heartbeatTime, errorRegister, open-table}
 use Rattle.rules_dictionary.specs.Values.{Write, write, read, store, stored}
 use Rattle.rules_dictionary.specs.Legal.{modeNumber, isMode, isCyclic, isBelow, isAbove}
 use Rattle.rules_dictionary.specs.Members.{In, here, there}
@@ -177,22 +177,26 @@ unfolding stored
 stored-append [] vs d = refl
 stored-append (w ∷ ws) vs d = stored-append ws vs (store (w .row) (w .value) d)
 
--- writes that leave the PDOs alone, or that come outside Operational
-abbrev pub Quiet : State → List Write → Type 0
-Quiet s ws = (isOperational (s .node .nmt) ≡ false) ⊎ NoPdo ws
+-- rows of the table, with values that fit them
+abbrev pub Fitting : List Write → Type 0
+Fitting ws = (w : Write) → In w ws → In (w .row) table × (w .value < 256 ^ sizeOf (w .row))
 
-module _ (s : State) (d : List ℕ) (ws : List Write) (law : Lawful s d) (rows : InTable ws) (quiet : Quiet s ws)
-    (ok : DictionaryOk (s .node .id) (stored ws d)) where
+-- writes that a service may apply: they fit, they leave the PDOs alone or come outside Operational, and the dictionary stays sound
+pub record MayApply (s : State) (d : List ℕ) (ws : List Write) : Type 0 where
+  pub fit : Fitting ws
+  pub quiet : (isOperational (s .node .nmt) ≡ false) ⊎ NoPdo ws
+  pub ok : DictionaryOk (s .node .id) (stored ws d)
+
+module _ (s : State) (d : List ℕ) (ws : List Write) (law : Lawful s d) (may : MayApply s d ws) where
+  rows : InTable ws
+  rows w i = may .fit w i .0
+
   d1 : List ℕ
   d1 = stored ws d
 
   waits : Waits s d1
   unfolding d1
-  waits = go quiet
-    where
-      go : (isOperational (s .node .nmt) ≡ false) ⊎ NoPdo ws → Waits s (stored ws d)
-      go (inl h) = waits-idle s d (stored ws d) law h
-      go (inr h) = waits-alike s d (stored ws d) law (no-pdo-alike ws d rows h)
+  waits = elim (may .quiet) [ inl h ↦ waits-idle s d d1 law h | inr h ↦ waits-alike s d d1 law (no-pdo-alike ws d rows h) ]
 
   v0 : Drive
   v0 = s .axis .drive
@@ -220,7 +224,7 @@ module _ (s : State) (d : List ℕ) (ws : List Write) (law : Lawful s d) (rows :
   unfolding d1
   moded =
       record {
-        mode = sym (mode-number (read d1 mode) (legal-mode (s .node .id) d1 ok)) ∙ ap modeNumber (sym (mode-now d1 v0));
+        mode = sym (mode-number (read d1 mode) (legal-mode (s .node .id) d1 (may .ok))) ∙ ap modeNumber (sym (mode-now d1 v0));
         store = mode-store d1 v0;
         cause = mode-cause d1 v0 cause0;
         taken = λ h. mode-taken d1 d1 v0 (taken0 h);
@@ -262,7 +266,7 @@ module _ (s : State) (d : List ℕ) (ws : List Write) (law : Lawful s d) (rows :
       record {
         id = ap isNodeId (a .id) ∙ law .id;
         long = length-stored ws d ∙ law .long;
-        dictionary = subst (λ (n : ℕ). DictionaryOk n d1) (sym (a .id)) ok;
+        dictionary = subst (λ (n : ℕ). DictionaryOk n d1) (sym (a .id)) (may .ok);
         mode = a .moved .mode ∙ ap modeNumber (sym m);
         drive = h;
         heartbeat = a .beat;
