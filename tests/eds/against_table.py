@@ -4,7 +4,7 @@ import re
 from bench import ROOT
 
 TABLE = "crates/rules_dictionary/specs/Table.antt"
-SIGNED_ROW = re.compile(r"= row \w+ 0x([0-9A-F]{4}) (\d+) i(?:8|16|32) ")
+SIGNED_ROW = re.compile(r"\brow 0x([0-9A-F]{4}) (\d+) i(?:8|16|32) ")
 
 
 def check(sheet, report):
