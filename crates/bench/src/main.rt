@@ -5,7 +5,7 @@ mod lines; // the lines of an answer
 mod records; // one record
 
 use dictionary::places::DICTIONARY_LENGTH;
-use form::places::STATE_LENGTH;
+use form::layout::STATE_LENGTH;
 use output::OUTPUT_LENGTH;
 use records::serve;
 

@@ -4,7 +4,7 @@ use cendurak::cendurak_event;
 use cendurak::cendurak_frame;
 use cendurak::cendurak_power_up;
 use dictionary::places::DICTIONARY_LENGTH;
-use form::places::STATE_LENGTH;
+use form::layout::STATE_LENGTH;
 use libc::STDIN_FILENO;
 use output::OUTPUT_LENGTH;
 ghost use Prim.Native.Nat.{_≤_};

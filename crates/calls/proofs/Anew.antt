@@ -1,43 +1,38 @@
--- Power-up in code: what it leaves starts the node anew.
+-- Power-up in code: what it leaves starts the node anew, whatever the state was.
 -- Assumes nothing.
 use Prim.Native.Nat.{ℕ, _≤_}
-use native.Mathlib.Omega.{arith}
-use mathlib.Core.Path.{_≡_, refl, sym, _∙_, ap, subst}
-use mathlib.Core.Bool.{true, false}
-use mathlib.Core.List.{List, append-nil}
+use mathlib.Core.Path.{_≡_, refl}
+use mathlib.Core.Bool.{true}
+use mathlib.Core.List.{List}
 use borrow.Author.Tests.{le-leb}
 use lib.Dec.{leb, lit≤}
 use lib.ListN.{length}
 use Rattle.rules_dictionary.specs.TheNode.{firstNode, lastNode}
-use Rattle.rules_dictionary.specs.Table.{table, dictionaryLength}
-use Rattle.rules_dictionary.specs.Values.{Write, stored, toDefaults}
+use Rattle.rules_dictionary.specs.Table.{dictionaryLength}
 use Rattle.rules_dictionary.proofs.Tests.{and-both}
-use Rattle.rules_services.specs.Nmt.{powerUp, freshState, bootUp}
+use Rattle.state.specs.declared.State.{State}
+use Rattle.rules_services.specs.Nmt.{powerUp, freshState}
+use Rattle.theorems.proofs.Booleans.{clash}
 use Rattle.theorems.proofs.NmtKept.{LawfulAfter, fresh-lawful}
-use Rattle.output.specs.Laying.{emitted}
-use Rattle.output.proofs.Laws.{length-emitted}
-use Rattle.effects.specs.declared.Parts.{Parts}
-use Rattle.effects.specs.Leaves.{partsOf}
-use Rattle.rules.specs.Calls.{outputLength}
-use Rattle.answers.proofs.Concluding.{starts-anew}
-use Rattle.calls.specs.Frames.{StartsAnew}
+use Rattle.mapping.specs.Afresh.{GivesPlans}
+use Rattle.output.specs.declared.Done.{Done}
+use Rattle.output.specs.Leaves.{Leaves}
+use Rattle.calls.specs.declared.Brief.{Brief}
+use Rattle.calls.specs.Ending.{MayRenew, Stepped, Takes}
+use Rattle.calls.proofs.Plannable.{plannable}
+use Rattle.calls.proofs.Regular.{power-up-regular}
+use Rattle.calls.proofs.Concluding.{takes}
 
--- ---- power-up
+module _ (n : ℕ) {d o : List ℕ} {r : Done} {d′ o′ : List ℕ} (first : firstNode ≤ n) (last : n ≤ lastNode) (long : length d ≡ dictionaryLength)
+    (left : Leaves (powerUp n) d o r d′ o′) (remapped : r .remapped ≡ true) where
+  gives : GivesPlans d′
+  gives =
+      let law : LawfulAfter d (powerUp n) = fresh-lawful n d (and-both (leb firstNode n) (leb n lastNode) (le-leb firstNode n first) (le-leb n lastNode last)) long in
+      rw (left .dictionary) (plannable (law .long) (law .dictionary))
 
-module _ (n : ℕ) (d d′ : List ℕ) (first : firstNode ≤ n) (last : n ≤ lastNode) (long : length d ≡ dictionaryLength) (written : d′ ≡ stored (toDefaults n table) d) where
-  fresh : LawfulAfter d (powerUp n)
-  fresh = fresh-lawful n d (and-both (leb firstNode n) (leb n lastNode) (le-leb firstNode n first) (le-leb n lastNode last)) long
-
-  all-written : d′ ≡ stored (powerUp n .writes) d
-  unfolding powerUp
-  all-written = written ∙ ap (λ (ws : List Write). stored ws d) (sym (append-nil (toDefaults n table)))
-
-  pub powered : (o o′ : List ℕ) (k : ℕ) (p : Parts) → outputLength ≤ length o → p ≡ partsOf (freshState n) → (k ≡ 1) × (o′ ≡ emitted 0 (bootUp n) o) →
-      StartsAnew n d o (record { parts = p; frames = k; touched = true; remapped = true; synced = false; quiet = false }) d′ o′
+  pub may-start : MayRenew r d′
   unfolding powerUp freshState
-  powered o o′ k p room is sent =
-      let long : length o′ ≡ length o = ap length (sent .1) ∙ length-emitted 0 (bootUp n) o (omega (arith, room)) in (
-        λ s. starts-anew d o (powerUp n) (record { parts = p; frames = k; touched = true; remapped = true; synced = false; quiet = false }) d′ o′
-            refl is (sent .0) refl refl refl all-written (sent .1) (subst (λ (m : ℕ). outputLength ≤ m) (sym long) room) (lit≤ tt) fresh s,
-        refl,
-      )
+  may-start = record { plannable = gives; few = rw (left .frames) (lit≤ tt); idle = rw (left .parts); remapped = remapped }
+
+  pub starts-anew : (s : State) (t : Brief) (d″ o″ : List ℕ) → Stepped s r d′ o′ t d″ o″ → Takes (powerUp n) s d o t d″ o″
+  starts-anew s = takes left (power-up-regular n s) (λ q. clash (r .remapped) remapped q) gives

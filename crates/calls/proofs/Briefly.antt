@@ -9,9 +9,9 @@ use Rattle.state.specs.declared.Refusal.{Refusal}
 use Rattle.rules_services.specs.Effects.{Effect}
 use Rattle.rules.specs.Outcome.{ended}
 use Rattle.rules.specs.Calls.{Outcome, accepted}
-use Rattle.answers.specs.declared.Brief.{Brief}
-use Rattle.answers.specs.Briefs.{outcome, whole, refusal, Gives}
-use Rattle.answers.specs.Leaving.{Takes}
+use Rattle.calls.specs.declared.Brief.{Brief}
+use Rattle.calls.specs.Briefs.{outcome, whole, refusal, Gives}
+use Rattle.calls.specs.Ending.{Takes}
 
 pub refused-gives : {x : Outcome} {why : Refusal} {s : State} {b : Brief} {d o : List ℕ} → b ≡ refusal why s → outcome (whole s d (refusal why s)) d o ≡ x → Gives x s b d o
 refused-gives {x} {why} {s} {b} {d} {o} is a = (
@@ -20,4 +20,4 @@ refused-gives {x} {why} {s} {b} {d} {o} is a = (
 )
 
 pub taken-gives : {x : Outcome} {e : Effect} {s : State} {d o : List ℕ} {b : Brief} {d′ o′ : List ℕ} → Takes e s d o b d′ o′ → accepted (ended s d e) o ≡ x → Gives x s b d′ o′
-taken-gives t q = (t .accepted ∙ q, λ r. (t .long, t .legal))
+taken-gives t q = (t .accepted ∙ q, λ r. t .plannable)

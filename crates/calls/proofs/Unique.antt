@@ -13,7 +13,7 @@ use Rattle.state.specs.declared.State.{State}
 use Rattle.state.specs.declared.Refusal.{Refusal}
 use Rattle.state.specs.declared.Answer.{Answer}
 use Rattle.rules.specs.Calls.{Outcome}
-use Rattle.answers.specs.Briefs.{outcome, whole}
+use Rattle.calls.specs.Briefs.{outcome, whole}
 use Rattle.calls.proofs.power_up as power-up
 use Rattle.calls.proofs.power_up.Kinds as power-up-kinds
 use Rattle.calls.proofs.power_up.Reads as power-up-reads

@@ -1,32 +1,18 @@
--- A frame of the bus, its services, and power-up, as the calls go about them.
+-- A frame of the bus, by its identifier, as the calls go about it.
 -- Assumes nothing.
 use Prim.Native.Nat.{ℕ, _+_}
-use mathlib.Core.Path.{_≡_}
 use mathlib.Core.List.{List}
-use mathlib.Core.Bool.{true, cond, not, _&&_}
+use mathlib.Core.Bool.{cond, not, _&&_}
 use lib.Dec.{eqb}
-use lib.ListN.{length, take}
-use Rattle.rules_dictionary.specs.declared.PdoData.{PdoData}
-use Rattle.rules_dictionary.specs.Numbers.{areBytes}
+use lib.ListN.{length}
 use Rattle.rules_dictionary.specs.Table.{receivePdos}
 use Rattle.state.specs.declared.State.{State}
-use Rattle.rules_services.specs.Effects.{Effect, becomes, isStopped}
+use Rattle.state.specs.NmtStates.{isStopped}
+use Rattle.rules_services.specs.Effects.{Effect, becomes}
 use Rattle.rules_services.specs.Sdo.{sdo, requestBase, requestLength}
-use Rattle.rules_services.specs.Nmt.{powerUp}
 use Rattle.rules_services.specs.PdoTraffic.{sync, syncBase, receivedBy}
-use Rattle.output.specs.Laying.{IsData}
-use Rattle.effects.specs.declared.Done.{Done}
-use Rattle.answers.specs.Leaving.{Finishes}
-
--- the data of a frame of the bus
-abbrev pub dataOf : PdoData → List ℕ
-dataOf content = take (content .length) (content .bytes)
-
-pub record OnBus (content : PdoData) : Type 0 where
-  pub shape : IsData content
-  pub bytes : areBytes (dataOf content) ≡ true
-
--- ---- a frame, by its identifier
+use Rattle.output.specs.declared.Done.{Done}
+use Rattle.output.specs.Leaves.{Leaves, Rests}
 
 -- "Served in Pre-operational and Operational, 600h+N, length 8."
 abbrev pub requested : List ℕ → State → List ℕ → Effect
@@ -38,6 +24,6 @@ serviced i bs s d =
     cond (eqb i syncBase) (sync bs s d)
     (cond (eqb i (requestBase + s .node .id)) (requested bs s d) (receivedBy receivePdos i bs s d))
 
--- node n starts anew, whatever the state was
-abbrev pub StartsAnew : ℕ → List ℕ → List ℕ → Done → List ℕ → List ℕ → Type 0
-StartsAnew n d o r d′ o′ = ((s : State) → Finishes (powerUp n) s d o r d′ o′) × (r .remapped ≡ true)
+-- what a service of a call that started in s leaves of its effect
+abbrev pub ServedBy : State → Effect → List ℕ → List ℕ → Done → List ℕ → List ℕ → Type 0
+ServedBy s e d o r d′ o′ = Leaves e d o r d′ o′ × Rests s e r

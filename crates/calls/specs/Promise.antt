@@ -9,8 +9,8 @@ use Rattle.rules_dictionary.specs.declared.PdoData.{PdoData}
 use Rattle.state.specs.declared.State.{State}
 use Rattle.rules_services.specs.Nmt.{nmtLength, everyNode}
 use Rattle.rules.specs.Calls.{Call, answer}
-use Rattle.answers.specs.declared.Brief.{Brief}
-use Rattle.answers.specs.Briefs.{Gives}
+use Rattle.calls.specs.declared.Brief.{Brief}
+use Rattle.calls.specs.Briefs.{Gives}
 
 -- THE PROMISE of a call in brief
 abbrev pub InBrief : Call → State → List ℕ → List ℕ → Brief → List ℕ → List ℕ → Type 0

@@ -1,53 +1,71 @@
 // The three public calls: power-up, one frame, one event. Each takes the state and hands it back by value; dictionary and output are
 // lent. None asks anything of its caller, and each promise is one equation with the rules' answer (`Calls.answer`): it determines the
 // refusal, the number of frames, the state and every byte of what is lent. proofs/Unique.antt says so.
-// Each stands upon the same call in brief, which leaves out the plans: a caller that keeps the state where it is need not copy them.
+// Each stands upon the same call in brief, which leaves out the plans, most of a state's bytes: they change only where a mapping is written,
+// and a caller that keeps the state where it is need not copy them.
 
-mod powering; // power-up and 81h
-mod commands; // an NMT frame
+mod opens; // the refusals that need no more than what is lent
 mod served; // a frame, by its identifier
-mod told; // an event
+mod settling; // 6041h and 6061h
+mod finishing; // what a service leaves, through the call's end
+mod whole; // a refusal, and a whole answer
 
-use answers::Brief;
-use answers::anew;
-use answers::refuse;
-use answers::with_plans;
-use dictionary::places::DICTIONARY_LENGTH;
 use events::event_of;
-use events::is_bad;
 use events::is_in_place;
+use finishing::anew;
+use finishing::finish;
+use nmt::start;
+pub use opens::lent;
+use opens::opened;
 use output::MOST_DATA;
-use output::OUTPUT_LENGTH;
-use powering::start;
+use output::Parts;
 use rules_dictionary::PdoData;
+use rules_services::Told;
 use served::take_frame;
-use soundness::is_sound;
 use state::Answer;
 use state::FIRST_NODE;
 use state::LAST_NODE;
+use state::Pace;
 use state::Refusal;
 use state::State;
-use told::happen;
+pub use whole::refuse;
+pub use whole::with_plans;
 ghost use mathlib.Core.Path.{_≡_};
 ghost use Prim.Native.Nat.{_≤_};
 ghost use lib.ListN.{length};
 ghost use Rattle.rules_dictionary.specs.Plans.{pdoData};
+ghost use Rattle.rules.specs.Outcome.{mostData};
 ghost use Rattle.rules.specs.Calls.{powerUpCall, frameCall, eventCall, answer};
-ghost use Rattle.answers.specs.Briefs.{outcome};
+ghost use Rattle.calls.specs.Briefs.{outcome};
 ghost use Rattle.calls.specs.Promise.{InBrief};
 
 // The greatest identifier of a frame.
 const LAST_IDENTIFIER: u32 = 0x7FF;
 
+// Whether a call is refused, and why.
+pub struct Opening {
+    pub refused: bool,
+    pub why: Refusal,
+}
+
+// An answer in brief: all of it but the plans, which stay unless a PDO's mapping was written.
+pub struct Brief {
+    pub refusal: Refusal,
+    pub frames: u8,
+    pub parts: Parts,
+    pub ready: [PdoData; 4],
+    pub paces: [Pace; 4],
+    pub remapped: bool,
+}
+
 // Power-up as node n, in brief.
 pub fn brief_power_up(s: State, d: &mut [u8], output: &mut [u8], n: u32) -> Brief
     ensures { λ r. ⌜ InBrief (powerUpCall n) s (now (d .entry)) (now (output .entry)) r (now (d .exit)) (now (output .exit)) ⌝ }
 {
-    if d.len() != DICTIONARY_LENGTH {
-        return refuse(Refusal::DictionaryLength, s);
-    }
-    if output.len() < OUTPUT_LENGTH {
-        return refuse(Refusal::OutputLength, s);
+    let opening = lent(d, output);
+    if opening.refused {
+        let why = opening.why;
+        return refuse(why, s);
     }
     if n < FIRST_NODE {
         return refuse(Refusal::NodeId, s);
@@ -61,7 +79,7 @@ pub fn brief_power_up(s: State, d: &mut [u8], output: &mut [u8], n: u32) -> Brie
 
 // The data of a frame.
 fn content_of(bytes: &[u8]) -> PdoData
-    requires { ⌜ length (now bytes) ≤ 8 ⌝ }
+    requires { ⌜ length (now bytes) ≤ mostData ⌝ }
     ensures { λ r. ⌜ r ≡ pdoData (now (bytes .entry)) ⌝ }
 {
     let mut content = [0u8; 8];
@@ -86,14 +104,10 @@ pub fn brief_frame(
 ) -> Brief
     ensures { λ r. ⌜ InBrief (frameCall identifier (now (bytes .entry))) s (now (d .entry)) (now (output .entry)) r (now (d .exit)) (now (output .exit)) ⌝ }
 {
-    if d.len() != DICTIONARY_LENGTH {
-        return refuse(Refusal::DictionaryLength, s);
-    }
-    if output.len() < OUTPUT_LENGTH {
-        return refuse(Refusal::OutputLength, s);
-    }
-    if !is_sound(s, d) {
-        return refuse(Refusal::NotSound, s);
+    let opening = opened(s, d, output);
+    if opening.refused {
+        let why = opening.why;
+        return refuse(why, s);
     }
     if LAST_IDENTIFIER < identifier {
         return refuse(Refusal::BadFrame, s);
@@ -114,23 +128,21 @@ pub fn brief_event(
 ) -> Brief
     ensures { λ r. ⌜ InBrief (eventCall number (now (arguments .entry))) s (now (d .entry)) (now (output .entry)) r (now (d .exit)) (now (output .exit)) ⌝ }
 {
-    if d.len() != DICTIONARY_LENGTH {
-        return refuse(Refusal::DictionaryLength, s);
+    let opening = opened(s, d, output);
+    if opening.refused {
+        let why = opening.why;
+        return refuse(why, s);
     }
-    if output.len() < OUTPUT_LENGTH {
-        return refuse(Refusal::OutputLength, s);
+    match event_of(number, arguments) {
+        Told::Bad => refuse(Refusal::BadEvent, s),
+        Told::Happened(e) => {
+            if !is_in_place(e, s) {
+                return refuse(Refusal::OutOfPlace, s);
+            }
+            let done = events::happens(e, s, d, output);
+            finish(done, s, d, output)
+        }
     }
-    if !is_sound(s, d) {
-        return refuse(Refusal::NotSound, s);
-    }
-    let e = event_of(number, arguments);
-    if is_bad(e) {
-        return refuse(Refusal::BadEvent, s);
-    }
-    if !is_in_place(e, s) {
-        return refuse(Refusal::OutOfPlace, s);
-    }
-    happen(e, s, d, output)
 }
 
 // Power-up as node n.

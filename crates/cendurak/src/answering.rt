@@ -5,14 +5,15 @@ ghost use Prim.Native.Nat.{_+_, _*_, _≤_};
 ghost use lib.ListN.{length};
 ghost use Rattle.rules_dictionary.specs.Plans.{plansOf};
 ghost use Rattle.rules.specs.Calls.{refusalNumber};
-ghost use Rattle.answers.specs.Briefs.{whole, GivesPlans};
+ghost use Rattle.calls.specs.Briefs.{whole};
+ghost use Rattle.mapping.specs.Afresh.{GivesPlans};
 ghost use Rattle.form.specs.Form.{stateLength, stateOf, form, isForm, HoldsPlans};
 ghost use Rattle.cendurak.specs.Boundary.{status, stateAfter};
-use answers::Brief;
-use answers::all_plans;
+use calls::Brief;
 use form::write_head;
 use form::write_plans;
 use form::write_state;
+use mapping::all_plans;
 use state::Answer;
 use state::Refusal;
 
@@ -79,10 +80,9 @@ pub fn leave_brief(b: Brief, state: &mut [u8], d: &[u8]) -> u32
         let drive = parts.drive;
         let held = parts.held;
         let ready = b.ready;
-        let counts = b.counts;
-        let due = b.due;
+        let paces = b.paces;
         write_new_plans(b.remapped, state, d);
-        write_head(state, node, drive, ready, held, counts, due);
+        write_head(state, node, drive, ready, held, paces);
         return number_of(refused, b.frames);
     }
     number_of(refused, b.frames)

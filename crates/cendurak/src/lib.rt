@@ -10,7 +10,7 @@ use calls::brief_frame;
 use calls::power_up;
 use dictionary::places::DICTIONARY_LENGTH;
 use form::is_form;
-use form::places::STATE_LENGTH;
+use form::layout::STATE_LENGTH;
 use form::read_state;
 use output::OUTPUT_LENGTH;
 use state::FIRST_NODE;

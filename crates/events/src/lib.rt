@@ -5,20 +5,5 @@ mod places; // where each is in place
 mod acts; // what each does
 
 pub use acts::happens;
-pub use places::is_bad;
 pub use places::is_in_place;
 pub use telling::event_of;
-
-// An event that the application tells, or one that was told badly.
-pub enum Event {
-    Started,
-    QuickStopDone,
-    Fault(u16, u8),
-    ReactionDone,
-    Feedback(u32, u32),
-    SetPointReached,
-    Tick,
-    CauseGone,
-    Voltage(bool),
-    Bad,
-}

@@ -1,5 +1,5 @@
 pub mod Rows
+pub mod Tested
 pub mod Kept
 pub mod Back
-pub mod Laws
-pub mod Small
+pub mod OneForm

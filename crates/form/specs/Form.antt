@@ -10,7 +10,8 @@ use Rattle.rules_dictionary.specs.declared.Move.{Move}
 use Rattle.rules_dictionary.specs.declared.Plan.{Plan}
 use Rattle.rules_dictionary.specs.declared.PdoData.{PdoData}
 use Rattle.drive.specs.declared.DriveState.{DriveState}
-use Rattle.drive.specs.declared.DriveState.the-variants.{NotReady, SwitchOnDisabled, ReadyToSwitchOn, SwitchedOn, OperationEnabled, QuickStopActive, FaultReactionActive, Fault}
+use Rattle.drive.specs.declared.DriveState.the-variants.{NotReady, SwitchOnDisabled, ReadyToSwitchOn, SwitchedOn, OperationEnabled}
+use Rattle.drive.specs.declared.DriveState.the-variants.{QuickStopActive, FaultReactionActive, Fault}
 use Rattle.drive.specs.declared.SetPoint.{SetPoint}
 use Rattle.drive.specs.declared.Store.{Store}
 use Rattle.drive.specs.declared.Store.the-variants.{Empty, Rested, Moving, Queued}
@@ -18,6 +19,7 @@ use Rattle.drive.specs.declared.Drive.{Drive}
 use Rattle.state.specs.declared.NmtState.{NmtState}
 use Rattle.state.specs.declared.NmtState.the-variants.{PreOperational, Operational, Stopped}
 use Rattle.state.specs.declared.Node.{Node}
+use Rattle.state.specs.declared.Pace.{Pace}
 use Rattle.state.specs.declared.State.{State}
 use Rattle.rules_dictionary.specs.Numbers.{value, bytes, part}
 use Rattle.rules_dictionary.specs.Table.{eachWay, mostMoves}
@@ -103,29 +105,46 @@ nodeAt place bs =
 
 -- ---- the drive: state, mode, taken, limit and cause marks, and the store: its kind and the bytes of two set-points
 
+-- the bytes of a word
+abbrev pub wordLength : ℕ
+wordLength = 4
+
+-- the word at a place
+abbrev pub wordAt : ℕ → List ℕ → ℕ
+wordAt place bs = value (part place wordLength bs)
+
 -- where a set-point's numbers stand behind its target, counted from there
 abbrev pub velocityOffset : ℕ
-velocityOffset = 4
+velocityOffset = wordLength
 
 abbrev pub accelerationOffset : ℕ
-accelerationOffset = velocityOffset + 4
+accelerationOffset = velocityOffset + wordLength
 
 abbrev pub decelerationOffset : ℕ
-decelerationOffset = accelerationOffset + 4
+decelerationOffset = accelerationOffset + wordLength
+
+-- its words, those behind the target among them, and its bytes
+abbrev pub numbersBehind : ℕ
+numbersBehind = 3
+
+abbrev pub setPointWords : ℕ
+setPointWords = 1 + numbersBehind
 
 abbrev pub setPointLength : ℕ
-setPointLength = decelerationOffset + 4
+setPointLength = setPointWords * wordLength
 
 unfoldable pub setPointForm : SetPoint → List ℕ
-setPointForm p = bytes 4 (p .target) ++ (bytes 4 (p .velocity) ++ (bytes 4 (p .acceleration) ++ bytes 4 (p .deceleration)))
+setPointForm p =
+    bytes wordLength (p .target)
+    ++ (bytes wordLength (p .velocity) ++ (bytes wordLength (p .acceleration) ++ bytes wordLength (p .deceleration)))
 
 unfoldable pub setPointAt : ℕ → List ℕ → SetPoint
 setPointAt place bs =
     record {
-      target = value (part place 4 bs);
-      velocity = value (part (place + velocityOffset) 4 bs);
-      acceleration = value (part (place + accelerationOffset) 4 bs);
-      deceleration = value (part (place + decelerationOffset) 4 bs);
+      target = wordAt place bs;
+      velocity = wordAt (place + velocityOffset) bs;
+      acceleration = wordAt (place + accelerationOffset) bs;
+      deceleration = wordAt (place + decelerationOffset) bs;
     }
 
 abbrev pub storeLength : ℕ
@@ -159,7 +178,7 @@ storeForm s = storeKind s ∷ setPointForm (firstOf s) ++ setPointForm (secondOf
 unfoldable pub storeAt : ℕ → List ℕ → Store
 storeAt place bs =
     cond (eqb (getD bs place 0) 0) Empty
-    (cond (eqb (getD bs place 0) 1) (Rested (value (part (place + 1) 4 bs)))
+    (cond (eqb (getD bs place 0) 1) (Rested (wordAt (place + 1) bs))
     (cond (eqb (getD bs place 0) 2) (Moving (setPointAt (place + 1) bs))
     (Queued (setPointAt (place + 1) bs) (setPointAt (place + 1 + setPointLength) bs))))
 
@@ -176,15 +195,20 @@ limitOffset = takenOffset + 1
 abbrev pub causeOffset : ℕ
 causeOffset = limitOffset + 1
 
+-- how many marks there are, one behind another
+abbrev pub driveMarks : ℕ
+driveMarks = 3
+
 abbrev pub storeOffset : ℕ
-storeOffset = causeOffset + 1
+storeOffset = takenOffset + driveMarks
 
 abbrev pub driveLength : ℕ
 driveLength = storeOffset + storeLength
 
 unfoldable pub driveForm : Drive → List ℕ
 driveForm v =
-    stateNumber (v .state) ∷ modeNumber (v .mode) ∷ flagNumber (v .taken) ∷ flagNumber (v .limit) ∷ flagNumber (v .cause) ∷ storeForm (v .store)
+    stateNumber (v .state) ∷ modeNumber (v .mode) ∷ flagNumber (v .taken) ∷ flagNumber (v .limit) ∷ flagNumber (v .cause)
+    ∷ storeForm (v .store)
 
 unfoldable pub driveAt : ℕ → List ℕ → Drive
 driveAt place bs =
@@ -208,22 +232,31 @@ dataForm r = r .length ∷ r .bytes
 abbrev pub dataAt : ℕ → List ℕ → PdoData
 dataAt place bs = record { length = getD bs place 0; bytes = each mostData (place + 1) 1 (λ i. getD bs i 0) }
 
+-- ---- what is kept of the transmit PDOs: their SYNC counts, then their due marks
+
+unfoldable pub pacesForm : List Pace → List ℕ
+pacesForm paces = map (λ p. p .count) paces ++ map (λ p. flagNumber (p .due)) paces
+
+-- what is kept of the transmit PDO whose count stands at a place
+abbrev pub paceAt : ℕ → List ℕ → Pace
+paceAt place bs = record { count = getD bs place 0; due = flagOf (getD bs (place + eachWay) 0) }
+
 -- ---- a plan: its count and eight moves, each a word: the place in its low half, then the size, and a zero byte
 
 abbrev pub moveLength : ℕ
-moveLength = 4
+moveLength = wordLength
 
 abbrev pub half : ℕ
 half = 2 ^ 16
 
 unfoldable pub moveForm : Move → List ℕ
-moveForm m = bytes 4 (m .place + half * m .size)
+moveForm m = bytes wordLength (m .place + half * m .size)
 
 abbrev pub moveOf : ℕ → Move
 moveOf word = record { place = word % half; size = word / half % 256 }
 
 unfoldable pub moveAt : ℕ → List ℕ → Move
-moveAt place bs = moveOf (value (part place 4 bs))
+moveAt place bs = moveOf (wordAt place bs)
 
 abbrev pub planLength : ℕ
 planLength = 1 + mostMoves * moveLength
@@ -267,17 +300,17 @@ stateLength = plansPlace + 2 * eachWay * planLength
 -- all but the plans
 unfoldable pub headForm : State → List ℕ
 headForm s =
-    nodeForm (s .node) ++ (driveForm (s .axis .drive) ++ (joined dataForm (s .axis .ready) ++ (joined dataForm (s .axis .held)
-    ++ (s .axis .counts ++ map flagNumber (s .axis .due)))))
+    nodeForm (s .node) ++ (driveForm (s .axis .drive)
+    ++ (joined dataForm (s .axis .ready) ++ (joined dataForm (s .axis .held) ++ pacesForm (s .axis .paces))))
 
 -- the byte form of a state
 unfoldable pub form : State → List ℕ
 form s = headForm s ++ joined planForm (s .axis .plans)
 
 -- the state of these plans and parts
-abbrev pub withPlans : List Plan → Node → Drive → List PdoData → List PdoData → List ℕ → List Bool → State
-withPlans plans node drive ready held counts due =
-    record { node = node; axis = record { drive = drive; plans = plans; ready = ready; held = held; counts = counts; due = due } }
+abbrev pub withPlans : List Plan → Node → Drive → List PdoData → List PdoData → List Pace → State
+withPlans plans node drive ready held paces =
+    record { node = node; axis = record { drive = drive; plans = plans; ready = ready; held = held; paces = paces } }
 
 -- bytes with all but the plans of a state in them: the plans' bytes stay, and the state's plans do not matter
 unfoldable pub formOver : List ℕ → State → List ℕ
@@ -297,8 +330,7 @@ stateOf bs =
         plans = each (2 * eachWay) plansPlace planLength (λ i. planAt i bs);
         ready = each eachWay readyPlace dataLength (λ i. dataAt i bs);
         held = each eachWay heldPlace dataLength (λ i. dataAt i bs);
-        counts = each eachWay countsPlace 1 (λ i. getD bs i 0);
-        due = each eachWay duePlace 1 (λ i. flagOf (getD bs i 0));
+        paces = each eachWay countsPlace 1 (λ i. paceAt i bs);
       };
     }
 

@@ -1,64 +1,73 @@
 -- Which bytes are a state's form, tested where bytes can be another's: the numbers of enums, flags, set-points that a store does not
 -- hold, and the zero byte of each move. Every other byte is its own form. Assumes nothing.
 use Prim.Native.Nat.{ℕ, _+_, _*_, _^_}
-use mathlib.Core.Bool.{Bool, _&&_}
+use mathlib.Core.Path.{_≡_}
+use mathlib.Core.Bool.{Bool, _&&_, cond}
 use mathlib.Core.List.{List}
 use lib.Dec.{eqb, ltb}
 use lib.ListN.{getD}
-use Rattle.drive.specs.declared.SetPoint.{SetPoint}
-use Rattle.rules_dictionary.specs.Numbers.{value, part, all}
+use Rattle.rules_dictionary.specs.Numbers.{all}
 use Rattle.rules_dictionary.specs.Table.{eachWay, mostMoves}
 use Rattle.rules_dictionary.specs.Legal.{modeNumber}
 use Rattle.drive.specs.SetPoints.{modeOf}
-use Rattle.form.specs.Form.{flagNumber, flagOf, nmtNumber, nmtOf, stateNumber, driveStateOf, each, nmtOffset, voltageOffset, setPointLength, setPointAt, storeKind, firstOf, secondOf, storeAt, modeOffset, takenOffset, limitOffset, causeOffset, storeOffset, moveLength, planLength, nodePlace, drivePlace, duePlace, plansPlace}
+use Rattle.form.specs.Form.{flagNumber, flagOf, nmtNumber, nmtOf, stateNumber, driveStateOf, each, nmtOffset, voltageOffset, wordLength, wordAt}
+use Rattle.form.specs.Form.{velocityOffset, numbersBehind, setPointWords, setPointLength, modeOffset, takenOffset, driveMarks, storeOffset}
+use Rattle.form.specs.Form.{planLength, nodePlace, drivePlace, duePlace, plansPlace}
+
+-- does a test hold at each of so many places, one width apart
+abbrev pub everyAt : (ℕ → Bool) → ℕ → ℕ → ℕ → Bool
+everyAt test n place width = all (λ t. t) (each n place width test)
+
+-- ---- flags
 
 abbrev pub ownFlag : ℕ → Bool
 ownFlag b = eqb (flagNumber (flagOf b)) b
 
-unfoldable pub nodeOwn : ℕ → List ℕ → Bool
-nodeOwn place bs = eqb (nmtNumber (nmtOf (getD bs (place + nmtOffset) 0))) (getD bs (place + nmtOffset) 0) && ownFlag (getD bs (place + voltageOffset) 0)
+unfoldable pub flagsOwn : ℕ → ℕ → List ℕ → Bool
+flagsOwn n place bs = everyAt (λ i. ownFlag (getD bs i 0)) n place 1
 
-unfoldable pub sameSetPoint : SetPoint → SetPoint → Bool
-sameSetPoint a b =
-    eqb (a .target) (b .target) && (eqb (a .velocity) (b .velocity) && (eqb (a .acceleration) (b .acceleration) && eqb (a .deceleration) (b .deceleration)))
+-- ---- words
 
--- are all of a set-point's numbers behind its target zero, and all of them
-abbrev pub rests : SetPoint → Bool
-rests p = eqb (p .velocity) 0 && (eqb (p .acceleration) 0 && eqb (p .deceleration) 0)
+-- does a test hold of each of so many words
+unfoldable pub everyWord : (ℕ → Bool) → ℕ → ℕ → List ℕ → Bool
+everyWord test n place bs = everyAt (λ i. test (wordAt i bs)) n place wordLength
 
-abbrev pub isNone : SetPoint → Bool
-isNone p = eqb (p .target) 0 && rests p
-
-unfoldable pub storeOwn : ℕ → List ℕ → Bool
-storeOwn place bs =
-    eqb (storeKind (storeAt place bs)) (getD bs place 0)
-    && (sameSetPoint (firstOf (storeAt place bs)) (setPointAt (place + 1) bs)
-    && sameSetPoint (secondOf (storeAt place bs)) (setPointAt (place + 1 + setPointLength) bs))
-
-unfoldable pub driveOwn : ℕ → List ℕ → Bool
-driveOwn place bs =
-    eqb (stateNumber (driveStateOf (getD bs place 0))) (getD bs place 0)
-    && (eqb (modeNumber (modeOf (getD bs (place + modeOffset) 0))) (getD bs (place + modeOffset) 0)
-    && (ownFlag (getD bs (place + takenOffset) 0)
-    && (ownFlag (getD bs (place + limitOffset) 0)
-    && (ownFlag (getD bs (place + causeOffset) 0) && storeOwn (place + storeOffset) bs))))
-
--- do all tests hold
-abbrev pub every : List Bool → Bool
-every ts = all (λ t. t) ts
-
-unfoldable pub dueOwn : List ℕ → Bool
-dueOwn bs = every (each eachWay duePlace 1 (λ i. ownFlag (getD bs i 0)))
+abbrev pub isZero : ℕ → Bool
+isZero word = eqb word 0
 
 -- is the last byte of a word zero
 abbrev pub small : ℕ → Bool
 small word = ltb word (2 ^ 24)
 
+-- a number tells whether so many words are zero, and whether the last byte of each is
+pub record Tells (bits n place : ℕ) (bs : List ℕ) : Type 0 where
+  pub zeros : isZero bits ≡ everyWord isZero n place bs
+  pub smalls : small bits ≡ everyWord small n place bs
+
+-- ---- the parts
+
+unfoldable pub nodeOwn : ℕ → List ℕ → Bool
+nodeOwn place bs =
+    eqb (nmtNumber (nmtOf (getD bs (place + nmtOffset) 0))) (getD bs (place + nmtOffset) 0) && ownFlag (getD bs (place + voltageOffset) 0)
+
+-- a store, by its kind: the words of its two set-points that it does not use are zero
+unfoldable pub storeOwn : ℕ → List ℕ → Bool
+storeOwn place bs =
+    cond (eqb (getD bs place 0) 0) (everyWord isZero (2 * setPointWords) (place + 1) bs)
+    (cond (eqb (getD bs place 0) 1) (everyWord isZero (numbersBehind + setPointWords) (place + 1 + velocityOffset) bs)
+    (cond (eqb (getD bs place 0) 2) (everyWord isZero setPointWords (place + 1 + setPointLength) bs) (eqb (getD bs place 0) 3)))
+
+unfoldable pub driveOwn : ℕ → List ℕ → Bool
+driveOwn place bs =
+    eqb (stateNumber (driveStateOf (getD bs place 0))) (getD bs place 0)
+    && (eqb (modeNumber (modeOf (getD bs (place + modeOffset) 0))) (getD bs (place + modeOffset) 0)
+    && (flagsOwn driveMarks (place + takenOffset) bs && storeOwn (place + storeOffset) bs))
+
 unfoldable pub planOwn : ℕ → List ℕ → Bool
-planOwn place bs = every (each mostMoves (place + 1) moveLength (λ i. small (value (part i moveLength bs))))
+planOwn place bs = everyWord small mostMoves (place + 1) bs
 
 unfoldable pub plansOwn : List ℕ → Bool
-plansOwn bs = every (each (2 * eachWay) plansPlace planLength (λ i. planOwn i bs))
+plansOwn bs = everyAt (λ i. planOwn i bs) (2 * eachWay) plansPlace planLength
 
 unfoldable pub isOwn : List ℕ → Bool
-isOwn bs = nodeOwn nodePlace bs && (driveOwn drivePlace bs && (dueOwn bs && plansOwn bs))
+isOwn bs = nodeOwn nodePlace bs && (driveOwn drivePlace bs && (flagsOwn eachWay duePlace bs && plansOwn bs))

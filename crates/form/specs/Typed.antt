@@ -1,8 +1,8 @@
 -- What the types say of a state: how long its arrays are, and that its numbers fit. A state's form is read back where this holds.
 -- Assumes nothing.
-use Prim.Native.Nat.{ℕ, _*_, _^_, _<_}
+use Prim.Native.Nat.{ℕ, suc, _*_, _^_, _<_}
 use mathlib.Core.Path.{_≡_}
-use mathlib.Core.List.{List}
+use mathlib.Core.List.{List, [], _∷_}
 use lib.ListN.{length}
 use Rattle.rules_dictionary.specs.declared.Move.{Move}
 use Rattle.rules_dictionary.specs.declared.Plan.{Plan}
@@ -11,14 +11,13 @@ use Rattle.drive.specs.declared.SetPoint.{SetPoint}
 use Rattle.drive.specs.declared.Store.{Store}
 use Rattle.state.specs.declared.State.{State}
 use Rattle.rules_dictionary.specs.Table.{eachWay, mostMoves}
-use Rattle.rules_dictionary.specs.Members.{Each}
 use Rattle.rules.specs.Outcome.{mostData}
 use Rattle.form.specs.Form.{half, firstOf, secondOf}
 
 -- so many, and a fact of each
-pub record Many {A : Type 0} (P : A → Type 0) (n : ℕ) (xs : List A) : Type 0 where
-  pub size : length xs ≡ n
-  pub every : Each P xs
+pub data Many {A : Type 0} (P : A → Type 0) : ℕ → List A → Type 0 where
+  none : Many P 0 []
+  more : {x : A} {n : ℕ} {xs : List A} → P x → Many P n xs → Many P (suc n) (x ∷ xs)
 
 pub record SetPointTyped (p : SetPoint) : Type 0 where
   pub target : p .target < 2 ^ 32
@@ -46,8 +45,7 @@ pub record HeadTyped (s : State) : Type 0 where
   pub store : StoreTyped (s .axis .drive .store)
   pub ready : Many DataTyped eachWay (s .axis .ready)
   pub held : Many DataTyped eachWay (s .axis .held)
-  pub counts : length (s .axis .counts) ≡ eachWay
-  pub due : length (s .axis .due) ≡ eachWay
+  pub paces : length (s .axis .paces) ≡ eachWay
 
 pub record Typed (s : State) : Type 0 where
   pub head : HeadTyped s

@@ -1,10 +1,11 @@
 // The drive's part of the form.
 
-use crate::node::both;
+use crate::layout;
 use crate::node::flag_number;
 use crate::node::flag_of;
-use crate::node::own_flag;
-use crate::places;
+use crate::own::bits_of_words;
+use crate::own::both;
+use crate::own::own_flags;
 use dictionary::read4;
 use dictionary::write4;
 use drive::Drive;
@@ -20,9 +21,10 @@ ghost use lib.ListN.{length};
 ghost use lib.Seq.{sets};
 ghost use Rattle.rules_dictionary.specs.Legal.{modeNumber};
 ghost use Rattle.drive.specs.SetPoints.{modeOf};
-ghost use Rattle.form.specs.Form.{driveStateOf, setPointLength, setPointAt, storeAt, drivePlace, storePlace, driveAt, stateLength, stateNumber, setPointForm, storeKind, firstOf, secondOf, storeForm, driveForm};
+ghost use Rattle.form.specs.Form.{driveStateOf, setPointLength, setPointAt, storeAt, drivePlace, storePlace, driveAt, stateLength};
+ghost use Rattle.form.specs.Form.{stateNumber, setPointForm, storeKind, resting, firstOf, secondOf, storeForm, driveForm};
 ghost use Rattle.form.specs.Typed.{SetPointTyped, StoreTyped};
-ghost use Rattle.form.specs.Own.{rests, isNone, storeOwn, driveOwn};
+ghost use Rattle.form.specs.Own.{storeOwn, driveOwn};
 
 // The drive state of a number.
 fn drive_state_of(b: u8) -> DriveState
@@ -47,9 +49,9 @@ fn read_set_point(bytes: &[u8], place: usize) -> SetPoint
 {
     SetPoint {
         target: read4(bytes, place),
-        velocity: read4(bytes, place + places::VELOCITY_OFFSET),
-        acceleration: read4(bytes, place + places::ACCELERATION_OFFSET),
-        deceleration: read4(bytes, place + places::DECELERATION_OFFSET),
+        velocity: read4(bytes, place + layout::VELOCITY_OFFSET),
+        acceleration: read4(bytes, place + layout::ACCELERATION_OFFSET),
+        deceleration: read4(bytes, place + layout::DECELERATION_OFFSET),
     }
 }
 
@@ -58,13 +60,13 @@ fn read_store(bytes: &[u8]) -> Store
     requires { ⌜ length (now bytes) ≡ stateLength ⌝ }
     ensures { λ r. ⌜ r ≡ storeAt storePlace (now (bytes .entry)) ⌝ }
 {
-    match bytes[places::STORE] {
+    match bytes[layout::STORE] {
         0 => Store::Empty,
-        1 => Store::Rested(read4(bytes, places::FIRST_SET_POINT)),
-        2 => Store::Moving(read_set_point(bytes, places::FIRST_SET_POINT)),
+        1 => Store::Rested(read4(bytes, layout::FIRST_SET_POINT)),
+        2 => Store::Moving(read_set_point(bytes, layout::FIRST_SET_POINT)),
         _ => Store::Queued(
-            read_set_point(bytes, places::FIRST_SET_POINT),
-            read_set_point(bytes, places::SECOND_SET_POINT),
+            read_set_point(bytes, layout::FIRST_SET_POINT),
+            read_set_point(bytes, layout::SECOND_SET_POINT),
         ),
     }
 }
@@ -74,16 +76,16 @@ pub fn read_drive(bytes: &[u8]) -> Drive
     requires { ⌜ length (now bytes) ≡ stateLength ⌝ }
     ensures { λ r. ⌜ r ≡ driveAt drivePlace (now (bytes .entry)) ⌝ }
 {
-    let state = drive_state_of(bytes[places::DRIVE_STATE]);
-    let mode = mode_of(bytes[places::MODE]);
+    let state = drive_state_of(bytes[layout::DRIVE_STATE]);
+    let mode = mode_of(bytes[layout::MODE]);
     let store = read_store(bytes);
     Drive {
         state,
         mode,
         store,
-        taken: flag_of(bytes[places::TAKEN]),
-        limit: flag_of(bytes[places::LIMIT]),
-        cause: flag_of(bytes[places::CAUSE]),
+        taken: flag_of(bytes[layout::TAKEN]),
+        limit: flag_of(bytes[layout::LIMIT]),
+        cause: flag_of(bytes[layout::CAUSE]),
     }
 }
 
@@ -126,24 +128,25 @@ fn store_kind(store: Store) -> u8
     }
 }
 
+// A set-point that has a target alone.
+fn resting(target: u32) -> SetPoint
+    ensures { λ r. ⌜ r ≡ resting target ⌝ }
+{
+    SetPoint {
+        target,
+        velocity: 0,
+        acceleration: 0,
+        deceleration: 0,
+    }
+}
+
 // What stands in the first set-point's bytes.
 fn first_of(store: Store) -> SetPoint
     ensures { λ r. ⌜ r ≡ firstOf store ⌝ }
 {
-    let none = SetPoint {
-        target: 0,
-        velocity: 0,
-        acceleration: 0,
-        deceleration: 0,
-    };
     match store {
-        Store::Empty => none,
-        Store::Rested(target) => SetPoint {
-            target,
-            velocity: 0,
-            acceleration: 0,
-            deceleration: 0,
-        },
+        Store::Empty => resting(0),
+        Store::Rested(target) => resting(target),
         Store::Moving(a) => a,
         Store::Queued(a, _) => a,
     }
@@ -153,16 +156,10 @@ fn first_of(store: Store) -> SetPoint
 fn second_of(store: Store) -> SetPoint
     ensures { λ r. ⌜ r ≡ secondOf store ⌝ }
 {
-    let none = SetPoint {
-        target: 0,
-        velocity: 0,
-        acceleration: 0,
-        deceleration: 0,
-    };
     match store {
-        Store::Empty => none,
-        Store::Rested(_) => none,
-        Store::Moving(_) => none,
+        Store::Empty => resting(0),
+        Store::Rested(_) => resting(0),
+        Store::Moving(_) => resting(0),
         Store::Queued(_, b) => b,
     }
 }
@@ -173,9 +170,9 @@ fn write_set_point(bytes: &mut [u8], place: usize, p: SetPoint)
     ensures { λ r. ⌜ (now (bytes .exit) ≡ sets (now (bytes .entry)) place (setPointForm p)) × SetPointTyped p ⌝ }
 {
     write4(bytes, place, p.target);
-    write4(bytes, place + places::VELOCITY_OFFSET, p.velocity);
-    write4(bytes, place + places::ACCELERATION_OFFSET, p.acceleration);
-    write4(bytes, place + places::DECELERATION_OFFSET, p.deceleration);
+    write4(bytes, place + layout::VELOCITY_OFFSET, p.velocity);
+    write4(bytes, place + layout::ACCELERATION_OFFSET, p.acceleration);
+    write4(bytes, place + layout::DECELERATION_OFFSET, p.deceleration);
 }
 
 // The store into the bytes.
@@ -185,9 +182,9 @@ fn write_store(bytes: &mut [u8], store: Store)
 {
     let first = first_of(store);
     let second = second_of(store);
-    bytes[places::STORE] = store_kind(store);
-    write_set_point(bytes, places::FIRST_SET_POINT, first);
-    write_set_point(bytes, places::SECOND_SET_POINT, second);
+    bytes[layout::STORE] = store_kind(store);
+    write_set_point(bytes, layout::FIRST_SET_POINT, first);
+    write_set_point(bytes, layout::SECOND_SET_POINT, second);
 }
 
 // The drive into the bytes.
@@ -198,30 +195,12 @@ pub fn write_drive(bytes: &mut [u8], v: Drive)
     let state = v.state;
     let mode = v.mode;
     let store = v.store;
-    bytes[places::DRIVE_STATE] = state_number(state);
-    bytes[places::MODE] = mode_number(mode);
-    bytes[places::TAKEN] = flag_number(v.taken);
-    bytes[places::LIMIT] = flag_number(v.limit);
-    bytes[places::CAUSE] = flag_number(v.cause);
+    bytes[layout::DRIVE_STATE] = state_number(state);
+    bytes[layout::MODE] = mode_number(mode);
+    bytes[layout::TAKEN] = flag_number(v.taken);
+    bytes[layout::LIMIT] = flag_number(v.limit);
+    bytes[layout::CAUSE] = flag_number(v.cause);
     write_store(bytes, store);
-}
-
-// The bits of a set-point's numbers behind its target, all together: zero where each number is.
-fn bits_behind(bytes: &[u8], place: usize) -> u32
-    requires { ⌜ place + setPointLength ≤ length (now bytes) ⌝ }
-    ensures { λ r. ⌜ eqb r 0 ≡ rests (setPointAt place (now (bytes .entry))) ⌝ }
-{
-    read4(bytes, place + places::VELOCITY_OFFSET)
-        | (read4(bytes, place + places::ACCELERATION_OFFSET)
-            | read4(bytes, place + places::DECELERATION_OFFSET))
-}
-
-// The bits of all of a set-point's numbers.
-fn bits_of(bytes: &[u8], place: usize) -> u32
-    requires { ⌜ place + setPointLength ≤ length (now bytes) ⌝ }
-    ensures { λ r. ⌜ eqb r 0 ≡ isNone (setPointAt place (now (bytes .entry))) ⌝ }
-{
-    read4(bytes, place) | bits_behind(bytes, place)
 }
 
 // Whether the store's bytes are its form: what a kind of store does not use is zero.
@@ -229,12 +208,10 @@ fn own_store(bytes: &[u8]) -> bool
     requires { ⌜ length (now bytes) ≡ stateLength ⌝ }
     ensures { λ r. ⌜ r ≡ storeOwn storePlace (now (bytes .entry)) ⌝ }
 {
-    let first = bits_behind(bytes, places::FIRST_SET_POINT);
-    let second = bits_of(bytes, places::SECOND_SET_POINT);
-    match bytes[places::STORE] {
-        0 => (read4(bytes, places::FIRST_SET_POINT) | (first | second)) == 0,
-        1 => (first | second) == 0,
-        2 => second == 0,
+    match bytes[layout::STORE] {
+        0 => bits_of_words(bytes, layout::FIRST_SET_POINT, layout::STORE_WORDS) == 0,
+        1 => bits_of_words(bytes, layout::BEHIND_TARGET, layout::WORDS_BEHIND_TARGET) == 0,
+        2 => bits_of_words(bytes, layout::SECOND_SET_POINT, layout::SET_POINT_WORDS) == 0,
         3 => true,
         _ => false,
     }
@@ -257,14 +234,13 @@ pub fn own_drive(bytes: &[u8]) -> bool
     requires { ⌜ length (now bytes) ≡ stateLength ⌝ }
     ensures { λ r. ⌜ r ≡ driveOwn drivePlace (now (bytes .entry)) ⌝ }
 {
-    let state = drive_state_of(bytes[places::DRIVE_STATE]);
+    let state = drive_state_of(bytes[layout::DRIVE_STATE]);
     let marks = both(
-        own_flag(bytes[places::LIMIT]),
-        both(own_flag(bytes[places::CAUSE]), own_store(bytes)),
+        own_flags(bytes, layout::TAKEN, layout::DRIVE_MARKS),
+        own_store(bytes),
     );
-    let modes = both(
-        own_mode(bytes[places::MODE]),
-        both(own_flag(bytes[places::TAKEN]), marks),
-    );
-    both(state_number(state) == bytes[places::DRIVE_STATE], modes)
+    both(
+        state_number(state) == bytes[layout::DRIVE_STATE],
+        both(own_mode(bytes[layout::MODE]), marks),
+    )
 }

@@ -1,17 +1,21 @@
 // The state as bytes of one length, and back: each state has one form. The layout is specs/Form.antt.
-// node: the node's part. axis_drive: the drive's. pdos: plans, data and what is kept for each PDO. places: where they stand.
+// node: the node's part. axis_drive: the drive's. pdos: plans, data and what is kept for each PDO. own: which bytes are a form's.
+// layout: where the parts stand.
 
 mod axis_drive;
+pub mod layout;
 mod node;
+mod own;
 mod pdos;
-pub mod places;
 
+use dictionary::places::EACH_WAY;
 use drive::Drive;
-use node::both;
+use own::both;
 pub use pdos::write_plans;
 use rules_dictionary::PdoData;
 use state::Axis;
 use state::Node;
+use state::Pace;
 use state::State;
 ghost use mathlib.Core.Path.{_≡_};
 ghost use mathlib.Core.List.{[]};
@@ -26,10 +30,9 @@ pub fn read_state(bytes: &[u8]) -> State
 {
     let node = node::read_node(bytes);
     let drive = axis_drive::read_drive(bytes);
-    let ready = pdos::read_frames(bytes, places::READY);
-    let held = pdos::read_frames(bytes, places::HELD);
-    let counts = pdos::read_counts(bytes);
-    let due = pdos::read_marks(bytes);
+    let ready = pdos::read_frames(bytes, layout::READY);
+    let held = pdos::read_frames(bytes, layout::HELD);
+    let paces = pdos::read_paces(bytes);
     let plans = pdos::read_plans(bytes);
     State {
         node,
@@ -38,8 +41,7 @@ pub fn read_state(bytes: &[u8]) -> State
             plans,
             ready,
             held,
-            counts,
-            due,
+            paces,
         },
     }
 }
@@ -51,17 +53,17 @@ pub fn write_head(
     drive: Drive,
     ready: [PdoData; 4],
     held: [PdoData; 4],
-    counts: [u8; 4],
-    due: [bool; 4],
+    paces: [Pace; 4],
 )
     requires { ⌜ length (now bytes) ≡ stateLength ⌝ }
-    ensures { λ r. ⌜ (now (bytes .exit) ≡ formOver (now (bytes .entry)) (withPlans [] node drive ready held counts due)) × HeadTyped (withPlans [] node drive ready held counts due) ⌝ }
+    ensures { λ r. ⌜ now (bytes .exit) ≡ formOver (now (bytes .entry)) (withPlans [] node drive ready held paces) ⌝ }
+    ensures { λ r. ⌜ HeadTyped (withPlans [] node drive ready held paces) ⌝ }
 {
     node::write_node(bytes, node);
     axis_drive::write_drive(bytes, drive);
-    pdos::write_frames(bytes, places::READY, ready);
-    pdos::write_frames(bytes, places::HELD, held);
-    pdos::write_counts(bytes, counts, due);
+    pdos::write_frames(bytes, layout::READY, ready);
+    pdos::write_frames(bytes, layout::HELD, held);
+    pdos::write_paces(bytes, paces);
 }
 
 // A state into the bytes.
@@ -75,10 +77,9 @@ pub fn write_state(bytes: &mut [u8], s: State)
     let plans = axis.plans;
     let ready = axis.ready;
     let held = axis.held;
-    let counts = axis.counts;
-    let due = axis.due;
+    let paces = axis.paces;
     write_plans(bytes, plans);
-    write_head(bytes, node, drive, ready, held, counts, due);
+    write_head(bytes, node, drive, ready, held, paces);
 }
 
 // Whether the bytes are the form of a state.
@@ -86,7 +87,10 @@ pub fn is_form(bytes: &[u8]) -> bool
     requires { ⌜ length (now bytes) ≡ stateLength ⌝ }
     ensures { λ r. ⌜ r ≡ isForm (now (bytes .entry)) ⌝ }
 {
-    let rows = both(pdos::own_due(bytes), pdos::own_plans(bytes));
+    let rows = both(
+        own::own_flags(bytes, layout::FIRST_DUE, EACH_WAY),
+        pdos::own_plans(bytes),
+    );
     both(
         node::own_node(bytes),
         both(axis_drive::own_drive(bytes), rows),

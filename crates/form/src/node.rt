@@ -1,17 +1,18 @@
 // The node's part of the form.
 
-use crate::places;
+use crate::layout;
+use crate::own::both;
+use crate::own::own_flag;
 use dictionary::read2;
 use dictionary::write2;
 use state::NmtState;
 use state::Node;
 ghost use mathlib.Core.Path.{_≡_};
-ghost use mathlib.Core.Bool.{_&&_};
 ghost use Prim.Native.Nat.{_<_};
 ghost use lib.ListN.{length};
 ghost use lib.Seq.{sets};
 ghost use Rattle.form.specs.Form.{flagOf, flagNumber, nmtOf, nmtNumber, stateLength, nodePlace, nodeAt, nodeForm, half};
-ghost use Rattle.form.specs.Own.{ownFlag, nodeOwn};
+ghost use Rattle.form.specs.Own.{nodeOwn};
 
 // The flag of a byte.
 pub fn flag_of(b: u8) -> bool
@@ -39,12 +40,12 @@ pub fn read_node(bytes: &[u8]) -> Node
     requires { ⌜ length (now bytes) ≡ stateLength ⌝ }
     ensures { λ r. ⌜ r ≡ nodeAt nodePlace (now (bytes .entry)) ⌝ }
 {
-    let nmt = nmt_of(bytes[places::NMT]);
+    let nmt = nmt_of(bytes[layout::NMT]);
     Node {
-        id: bytes[places::NODE_ID],
+        id: bytes[layout::NODE_ID],
         nmt,
-        voltage: flag_of(bytes[places::VOLTAGE]),
-        heartbeat: read2(bytes, places::HEARTBEAT),
+        voltage: flag_of(bytes[layout::VOLTAGE]),
+        heartbeat: read2(bytes, layout::HEARTBEAT),
     }
 }
 
@@ -72,24 +73,10 @@ pub fn write_node(bytes: &mut [u8], n: Node)
     ensures { λ r. ⌜ (now (bytes .exit) ≡ sets (now (bytes .entry)) nodePlace (nodeForm n)) × (n .heartbeat < half) ⌝ }
 {
     let nmt = n.nmt;
-    bytes[places::NODE_ID] = n.id;
-    bytes[places::NMT] = nmt_number(nmt);
-    bytes[places::VOLTAGE] = flag_number(n.voltage);
-    write2(bytes, places::HEARTBEAT, n.heartbeat);
-}
-
-// Whether two tests hold, both made.
-pub fn both(a: bool, b: bool) -> bool
-    ensures { λ r. ⌜ r ≡ (a && b) ⌝ }
-{
-    if a { b } else { false }
-}
-
-// Whether a byte is a flag's.
-pub fn own_flag(b: u8) -> bool
-    ensures { λ r. ⌜ r ≡ ownFlag b ⌝ }
-{
-    flag_number(flag_of(b)) == b
+    bytes[layout::NODE_ID] = n.id;
+    bytes[layout::NMT] = nmt_number(nmt);
+    bytes[layout::VOLTAGE] = flag_number(n.voltage);
+    write2(bytes, layout::HEARTBEAT, n.heartbeat);
 }
 
 // Whether the node's bytes are its form.
@@ -97,9 +84,9 @@ pub fn own_node(bytes: &[u8]) -> bool
     requires { ⌜ length (now bytes) ≡ stateLength ⌝ }
     ensures { λ r. ⌜ r ≡ nodeOwn nodePlace (now (bytes .entry)) ⌝ }
 {
-    let nmt = nmt_of(bytes[places::NMT]);
+    let nmt = nmt_of(bytes[layout::NMT]);
     both(
-        nmt_number(nmt) == bytes[places::NMT],
-        own_flag(bytes[places::VOLTAGE]),
+        nmt_number(nmt) == bytes[layout::NMT],
+        own_flag(bytes[layout::VOLTAGE]),
     )
 }

@@ -1,10 +1,10 @@
-// What the form keeps for each PDO: its plan, its data, its SYNC count and its due mark.
+// What the form keeps for each PDO: its plan, its data, and of a transmit PDO its SYNC count and its due mark.
 
-use crate::node::both;
+use crate::layout;
 use crate::node::flag_number;
 use crate::node::flag_of;
-use crate::node::own_flag;
-use crate::places;
+use crate::own::bits_of_words;
+use dictionary::places::EACH_WAY;
 use dictionary::places::MOST_WORDS;
 use dictionary::places::PDOS;
 use dictionary::read4;
@@ -12,22 +12,23 @@ use dictionary::write4;
 use rules_dictionary::Move;
 use rules_dictionary::PdoData;
 use rules_dictionary::Plan;
+use state::Pace;
 ghost use mathlib.Core.Path.{_≡_};
-ghost use Prim.Native.Nat.{_+_, _*_, _≤_};
-ghost use mathlib.Core.List.{map, _++_};
-ghost use lib.ListN.{length, getD};
+ghost use Prim.Native.Nat.{_+_, _*_, _<_, _≤_};
+ghost use lib.ListN.{length};
 ghost use lib.Seq.{sets};
 ghost use Rattle.rules_dictionary.specs.Table.{eachWay, mostMoves};
-ghost use Rattle.form.specs.Form.{flagOf, each, dataLength, dataAt, moveLength, moveAt, planLength, planAt, plansPlace, countsPlace, duePlace, stateLength, flagNumber, joined, dataForm, moveForm, planForm};
+ghost use Rattle.form.specs.Form.{each, dataLength, dataAt, moveLength, moveAt, planLength, planAt, plansPlace, countsPlace, paceAt};
+ghost use Rattle.form.specs.Form.{stateLength, joined, dataForm, pacesForm, moveForm, planForm};
 ghost use Rattle.form.specs.Typed.{Many, DataTyped, MoveTyped, PlanTyped};
-ghost use Rattle.form.specs.Own.{dueOwn, small, planOwn, plansOwn};
+ghost use Rattle.form.specs.Own.{plansOwn};
 
 // The data at a place.
 fn read_frame(bytes: &[u8], place: usize) -> PdoData
     requires { ⌜ place + dataLength ≤ length (now bytes) ⌝ }
     ensures { λ r. ⌜ r ≡ dataAt place (now (bytes .entry)) ⌝ }
 {
-    let p1 = place + places::DATA_OFFSET;
+    let p1 = place + layout::DATA_OFFSET;
     let p2 = p1 + 1;
     let p3 = p2 + 1;
     let p4 = p3 + 1;
@@ -55,9 +56,9 @@ pub fn read_frames(bytes: &[u8], place: usize) -> [PdoData; 4]
     requires { ⌜ place + eachWay * dataLength ≤ length (now bytes) ⌝ }
     ensures { λ r. ⌜ r ≡ each eachWay place dataLength (λ i. dataAt i (now (bytes .entry))) ⌝ }
 {
-    let second = place + places::FRAME_LENGTH;
-    let third = second + places::FRAME_LENGTH;
-    let fourth = third + places::FRAME_LENGTH;
+    let second = place + layout::FRAME_LENGTH;
+    let third = second + layout::FRAME_LENGTH;
+    let fourth = third + layout::FRAME_LENGTH;
     [
         read_frame(bytes, place),
         read_frame(bytes, second),
@@ -66,29 +67,27 @@ pub fn read_frames(bytes: &[u8], place: usize) -> [PdoData; 4]
     ]
 }
 
-// The SYNC counts.
-pub fn read_counts(bytes: &[u8]) -> [u8; 4]
-    requires { ⌜ length (now bytes) ≡ stateLength ⌝ }
-    ensures { λ r. ⌜ r ≡ each eachWay countsPlace 1 (λ i. getD (now (bytes .entry)) i 0) ⌝ }
+// What is kept of the transmit PDO whose count stands at a place.
+fn read_pace(bytes: &[u8], place: usize) -> Pace
+    requires { ⌜ place + eachWay < length (now bytes) ⌝ }
+    ensures { λ r. ⌜ r ≡ paceAt place (now (bytes .entry)) ⌝ }
 {
-    [
-        bytes[places::FIRST_COUNT],
-        bytes[places::SECOND_COUNT],
-        bytes[places::THIRD_COUNT],
-        bytes[places::FOURTH_COUNT],
-    ]
+    Pace {
+        count: bytes[place],
+        due: flag_of(bytes[place + EACH_WAY]),
+    }
 }
 
-// The due marks.
-pub fn read_marks(bytes: &[u8]) -> [bool; 4]
+// What is kept of the transmit PDOs.
+pub fn read_paces(bytes: &[u8]) -> [Pace; 4]
     requires { ⌜ length (now bytes) ≡ stateLength ⌝ }
-    ensures { λ r. ⌜ r ≡ each eachWay duePlace 1 (λ i. flagOf (getD (now (bytes .entry)) i 0)) ⌝ }
+    ensures { λ r. ⌜ r ≡ each eachWay countsPlace 1 (λ i. paceAt i (now (bytes .entry))) ⌝ }
 {
     [
-        flag_of(bytes[places::FIRST_DUE]),
-        flag_of(bytes[places::SECOND_DUE]),
-        flag_of(bytes[places::THIRD_DUE]),
-        flag_of(bytes[places::FOURTH_DUE]),
+        read_pace(bytes, layout::FIRST_COUNT),
+        read_pace(bytes, layout::FIRST_COUNT + 1),
+        read_pace(bytes, layout::FIRST_COUNT + 2),
+        read_pace(bytes, layout::FIRST_COUNT + 3),
     ]
 }
 
@@ -109,14 +108,14 @@ fn read_plan(bytes: &[u8], place: usize) -> Plan
     requires { ⌜ place + planLength ≤ length (now bytes) ⌝ }
     ensures { λ r. ⌜ r ≡ planAt place (now (bytes .entry)) ⌝ }
 {
-    let first = place + places::MOVES_OFFSET;
-    let second = first + places::MOVE_LENGTH;
-    let third = second + places::MOVE_LENGTH;
-    let fourth = third + places::MOVE_LENGTH;
-    let fifth = fourth + places::MOVE_LENGTH;
-    let sixth = fifth + places::MOVE_LENGTH;
-    let seventh = sixth + places::MOVE_LENGTH;
-    let eighth = seventh + places::MOVE_LENGTH;
+    let first = place + layout::MOVES_OFFSET;
+    let second = first + layout::MOVE_LENGTH;
+    let third = second + layout::MOVE_LENGTH;
+    let fourth = third + layout::MOVE_LENGTH;
+    let fifth = fourth + layout::MOVE_LENGTH;
+    let sixth = fifth + layout::MOVE_LENGTH;
+    let seventh = sixth + layout::MOVE_LENGTH;
+    let eighth = seventh + layout::MOVE_LENGTH;
     Plan {
         count: bytes[place],
         moves: [
@@ -138,14 +137,14 @@ pub fn read_plans(bytes: &[u8]) -> [Plan; 8]
     ensures { λ r. ⌜ r ≡ each (2 * eachWay) plansPlace planLength (λ i. planAt i (now (bytes .entry))) ⌝ }
 {
     [
-        read_plan(bytes, places::FIRST_PLAN),
-        read_plan(bytes, places::SECOND_PLAN),
-        read_plan(bytes, places::THIRD_PLAN),
-        read_plan(bytes, places::FOURTH_PLAN),
-        read_plan(bytes, places::FIFTH_PLAN),
-        read_plan(bytes, places::SIXTH_PLAN),
-        read_plan(bytes, places::SEVENTH_PLAN),
-        read_plan(bytes, places::EIGHTH_PLAN),
+        read_plan(bytes, layout::FIRST_PLAN),
+        read_plan(bytes, layout::SECOND_PLAN),
+        read_plan(bytes, layout::THIRD_PLAN),
+        read_plan(bytes, layout::FOURTH_PLAN),
+        read_plan(bytes, layout::FIFTH_PLAN),
+        read_plan(bytes, layout::SIXTH_PLAN),
+        read_plan(bytes, layout::SEVENTH_PLAN),
+        read_plan(bytes, layout::EIGHTH_PLAN),
     ]
 }
 
@@ -154,7 +153,7 @@ fn write_frame(bytes: &mut [u8], place: usize, frame: PdoData)
     requires { ⌜ place + dataLength ≤ length (now bytes) ⌝ }
     ensures { λ r. ⌜ (now (bytes .exit) ≡ sets (now (bytes .entry)) place (dataForm frame)) × DataTyped frame ⌝ }
 {
-    let data = place + places::DATA_OFFSET;
+    let data = place + layout::DATA_OFFSET;
     bytes[place] = frame.length;
     bytes[data] = frame.bytes[0];
     bytes[data + 1] = frame.bytes[1];
@@ -171,28 +170,28 @@ pub fn write_frames(bytes: &mut [u8], place: usize, frames: [PdoData; 4])
     requires { ⌜ place + eachWay * dataLength ≤ length (now bytes) ⌝ }
     ensures { λ r. ⌜ (now (bytes .exit) ≡ sets (now (bytes .entry)) place (joined dataForm frames)) × Many DataTyped eachWay frames ⌝ }
 {
-    let second = place + places::FRAME_LENGTH;
-    let third = second + places::FRAME_LENGTH;
-    let fourth = third + places::FRAME_LENGTH;
-    write_frame(bytes, place, frames[0]);
-    write_frame(bytes, second, frames[1]);
-    write_frame(bytes, third, frames[2]);
-    write_frame(bytes, fourth, frames[3]);
+    let mut at = place;
+    let mut k: usize = 0;
+    while k < EACH_WAY {
+        let frame = frames[k];
+        write_frame(bytes, at, frame);
+        at += layout::FRAME_LENGTH;
+        k += 1;
+    }
 }
 
-// The SYNC counts and the due marks into the bytes.
-pub fn write_counts(bytes: &mut [u8], counts: [u8; 4], due: [bool; 4])
+// What is kept of the transmit PDOs into the bytes.
+pub fn write_paces(bytes: &mut [u8], paces: [Pace; 4])
     requires { ⌜ length (now bytes) ≡ stateLength ⌝ }
-    ensures { λ r. ⌜ (now (bytes .exit) ≡ sets (now (bytes .entry)) countsPlace (counts ++ map flagNumber due)) × ((length counts ≡ eachWay) × (length due ≡ eachWay)) ⌝ }
+    ensures { λ r. ⌜ (now (bytes .exit) ≡ sets (now (bytes .entry)) countsPlace (pacesForm paces)) × (length paces ≡ eachWay) ⌝ }
 {
-    bytes[places::FIRST_COUNT] = counts[0];
-    bytes[places::SECOND_COUNT] = counts[1];
-    bytes[places::THIRD_COUNT] = counts[2];
-    bytes[places::FOURTH_COUNT] = counts[3];
-    bytes[places::FIRST_DUE] = flag_number(due[0]);
-    bytes[places::SECOND_DUE] = flag_number(due[1]);
-    bytes[places::THIRD_DUE] = flag_number(due[2]);
-    bytes[places::FOURTH_DUE] = flag_number(due[3]);
+    let mut k: usize = 0;
+    while k < EACH_WAY {
+        let pace = paces[k];
+        bytes[layout::FIRST_COUNT + k] = pace.count;
+        bytes[layout::FIRST_DUE + k] = flag_number(pace.due);
+        k += 1;
+    }
 }
 
 // A move into the bytes at a place.
@@ -213,7 +212,7 @@ fn write_moves(bytes: &mut [u8], place: usize, moves: [Move; 8])
     while k < MOST_WORDS {
         let m = moves[k];
         write_move(bytes, at, m);
-        at += places::MOVE_LENGTH;
+        at += layout::MOVE_LENGTH;
         k += 1;
     }
 }
@@ -225,7 +224,7 @@ fn write_plan(bytes: &mut [u8], place: usize, plan: Plan)
 {
     let moves = plan.moves;
     bytes[place] = plan.count;
-    write_moves(bytes, place + places::MOVES_OFFSET, moves);
+    write_moves(bytes, place + layout::MOVES_OFFSET, moves);
 }
 
 // The plans of the eight PDOs into the bytes.
@@ -233,64 +232,28 @@ pub fn write_plans(bytes: &mut [u8], plans: [Plan; 8])
     requires { ⌜ length (now bytes) ≡ stateLength ⌝ }
     ensures { λ r. ⌜ (now (bytes .exit) ≡ sets (now (bytes .entry)) plansPlace (joined planForm plans)) × Many PlanTyped (2 * eachWay) plans ⌝ }
 {
-    let mut at: usize = places::FIRST_PLAN;
+    let mut at: usize = layout::FIRST_PLAN;
     let mut k: usize = 0;
     while k < PDOS {
         let plan = plans[k];
         write_plan(bytes, at, plan);
-        at += places::PLAN_LENGTH;
+        at += layout::PLAN_LENGTH;
         k += 1;
     }
 }
 
-// Whether the due marks' bytes are flags.
-pub fn own_due(bytes: &[u8]) -> bool
-    requires { ⌜ length (now bytes) ≡ stateLength ⌝ }
-    ensures { λ r. ⌜ r ≡ dueOwn (now (bytes .entry)) ⌝ }
-{
-    let last = both(
-        own_flag(bytes[places::THIRD_DUE]),
-        own_flag(bytes[places::FOURTH_DUE]),
-    );
-    both(
-        own_flag(bytes[places::FIRST_DUE]),
-        both(own_flag(bytes[places::SECOND_DUE]), last),
-    )
-}
-
-// The bits of a plan's moves, all together: the last byte is zero where each move's is.
-fn bits_of_moves(bytes: &[u8], place: usize) -> u32
-    requires { ⌜ place + planLength ≤ length (now bytes) ⌝ }
-    ensures { λ r. ⌜ small r ≡ planOwn place (now (bytes .entry)) ⌝ }
-{
-    let first = place + places::MOVES_OFFSET;
-    let second = first + places::MOVE_LENGTH;
-    let third = second + places::MOVE_LENGTH;
-    let fourth = third + places::MOVE_LENGTH;
-    let fifth = fourth + places::MOVE_LENGTH;
-    let sixth = fifth + places::MOVE_LENGTH;
-    let seventh = sixth + places::MOVE_LENGTH;
-    let eighth = seventh + places::MOVE_LENGTH;
-    read4(bytes, first)
-        | (read4(bytes, second)
-            | (read4(bytes, third)
-                | (read4(bytes, fourth)
-                    | (read4(bytes, fifth)
-                        | (read4(bytes, sixth) | (read4(bytes, seventh) | read4(bytes, eighth)))))))
-}
-
-// Whether the plans' bytes are their form.
+// Whether the plans' bytes are their form: the last byte of each move is zero.
 pub fn own_plans(bytes: &[u8]) -> bool
     requires { ⌜ length (now bytes) ≡ stateLength ⌝ }
     ensures { λ r. ⌜ r ≡ plansOwn (now (bytes .entry)) ⌝ }
 {
-    let bits = bits_of_moves(bytes, places::FIRST_PLAN)
-        | (bits_of_moves(bytes, places::SECOND_PLAN)
-            | (bits_of_moves(bytes, places::THIRD_PLAN)
-                | (bits_of_moves(bytes, places::FOURTH_PLAN)
-                    | (bits_of_moves(bytes, places::FIFTH_PLAN)
-                        | (bits_of_moves(bytes, places::SIXTH_PLAN)
-                            | (bits_of_moves(bytes, places::SEVENTH_PLAN)
-                                | bits_of_moves(bytes, places::EIGHTH_PLAN)))))));
+    let mut bits: u32 = 0;
+    let mut at: usize = layout::FIRST_PLAN;
+    let mut left: usize = PDOS;
+    while left > 0 {
+        bits = bits | bits_of_words(bytes, at + layout::MOVES_OFFSET, MOST_WORDS);
+        at += layout::PLAN_LENGTH;
+        left -= 1;
+    }
     bits < 0x100_0000
 }

@@ -1,106 +1,92 @@
-// What each NMT command does.
+// An NMT frame: "Identifier 0, length 2, node 0 or N"; what each command does.
 ghost use mathlib.Core.Path.{_≡_};
-ghost use Prim.Native.Nat.{_≤_};
-ghost use lib.ListN.{length};
-ghost use Rattle.rules_dictionary.specs.Table.{dictionaryLength};
-ghost use Rattle.rules_dictionary.specs.TheNode.{firstNode, lastNode};
-ghost use Rattle.rules_services.specs.Effects.{becomes, isPreOperational};
-ghost use Rattle.rules_services.specs.Nmt.{enterPreOperational, resetCommunication, commandOf, commanded, voltageDisabled};
-ghost use Rattle.rules.specs.Calls.{outputLength};
-ghost use Rattle.nmt.specs.Renewing.{disabled, Renewed};
-use crate::heartbeats::boot_up;
-use crate::parts::left;
-use crate::parts::none_held;
-use dictionary::write_communication_defaults;
-use drive::Command;
+ghost use Rattle.rules_services.specs.Nmt.{nmt, commandOf, commanded};
+ghost use Rattle.output.specs.Laying.{OnBus, dataOf};
+ghost use Rattle.output.specs.Leaves.{Leaves, Rests};
+ghost use Rattle.nmt.specs.Commanding.{entered, isForNode, MayReset};
+use crate::resets::disabled;
+use crate::resets::none_held;
+use crate::resets::reset_communication;
+use crate::resets::start;
 use drive::Drive;
-use drive::states::next;
-use effects::Done;
-use effects::Parts;
-use effects::with_drive;
-use effects::with_nmt;
+use output::Done;
+use output::Parts;
+use output::becomes;
+use output::parts_of;
+use rules_dictionary::PdoData;
 use state::NmtState;
 use state::Node;
 use state::State;
 
-// The drive after Disable voltage.
-fn disabled(v: Drive) -> Drive
-    ensures { λ r. ⌜ r ≡ disabled v ⌝ }
-{
-    let state = v.state;
-    v.enters(next(v.cause, state, Command::DisableVoltage))
-}
+const COMMAND_LENGTH: u8 = 2;
 
-// "act as Disable voltage (001); 6040h keeps its value".
-fn voltage_disabled(s: State) -> State
-    ensures { λ r. ⌜ r ≡ voltageDisabled s ⌝ }
-{
-    let axis = s.axis;
-    let drive = axis.drive;
-    with_drive(s, disabled(drive))
-}
+const EVERY_NODE: u8 = 0;
 
-// Is the node Pre-operational.
-fn is_pre_operational(m: NmtState) -> bool
-    ensures { λ r. ⌜ r ≡ isPreOperational m ⌝ }
+// That node in that NMT state, with that drive and those held frames.
+fn entered(node: Node, nmt: NmtState, drive: Drive, held: [PdoData; 4]) -> Parts
+    ensures { λ r. ⌜ r ≡ entered node nmt drive held ⌝ }
 {
-    match m {
-        NmtState::PreOperational => true,
-        NmtState::Operational => false,
-        NmtState::Stopped => false,
+    Parts {
+        node: Node {
+            id: node.id,
+            nmt: nmt,
+            voltage: node.voltage,
+            heartbeat: node.heartbeat,
+        },
+        drive: drive,
+        held: held,
     }
 }
 
-// 80h: Pre-operational; "to the present state do nothing".
-fn pre_operational(s: State) -> State
-    ensures { λ r. ⌜ becomes r ≡ commanded enterPreOperational s ⌝ }
+// A command for this node: "01h Operational, 02h Stopped, 80h Pre-operational, 81h as power-up, 82h ..". One that is unknown changes nothing.
+fn command(c: u8, s: State, d: &mut [u8], output: &mut [u8]) -> Done
+    requires { ⌜ MayReset (s .node .id) (now d) (now output) ⌝ }
+    ensures { λ r. ⌜ Leaves (commanded (commandOf c) s) (now (d .entry)) (now (output .entry)) r (now (d .exit)) (now (output .exit))
+        × Rests s (commanded (commandOf c) s) r ⌝ }
 {
     let node = s.node;
     let nmt = node.nmt;
-    if is_pre_operational(nmt) {
-        s
-    } else {
-        with_nmt(left(s), NmtState::PreOperational)
-    }
-}
-
-// The NMT commands that only change the state, 01h, 02h and 80h; an unknown one leaves it. The two resets, 81h and 82h, are not among them.
-pub fn commanded(command: u8, s: State) -> State
-    requires { ⌜ (command ≡ 0x81 → ⊥) × (command ≡ 0x82 → ⊥) ⌝ }
-    ensures { λ r. ⌜ becomes r ≡ commanded (commandOf command) s ⌝ }
-{
-    match command {
-        0x01 => with_nmt(s, NmtState::Operational),
-        0x02 => with_nmt(left(voltage_disabled(s)), NmtState::Stopped),
-        0x80 => pre_operational(s),
-        _ => s,
-    }
-}
-
-// 82h: the communication objects, mappings among them, to their defaults, Disable voltage, Pre-operational, boot-up.
-pub fn reset_communication(s: State, d: &mut [u8], output: &mut [u8]) -> Done
-    requires { ⌜ (length (now d) ≡ dictionaryLength) × ((outputLength ≤ length (now output)) × ((firstNode ≤ s .node .id) × (s .node .id ≤ lastNode))) ⌝ }
-    ensures { λ r. ⌜ Renewed (commanded resetCommunication s) (now (d .entry)) (now (output .entry)) r (now (d .exit)) (now (output .exit)) ⌝ }
-{
     let axis = s.axis;
     let drive = axis.drive;
-    write_communication_defaults(d, s.node.id);
-    let frames = boot_up(output, s.node.id);
-    Done {
-        parts: Parts {
-            node: Node {
-                id: s.node.id,
-                nmt: NmtState::PreOperational,
-                voltage: s.node.voltage,
-                heartbeat: 0,
-            },
-            drive: disabled(drive),
-            held: none_held(),
-        },
-        frames: frames,
-        touched: true,
-        remapped: true,
-        synced: false,
-        quiet: false,
+    let held = axis.held;
+    match c {
+        0x01 => becomes(entered(node, NmtState::Operational, drive, held), false),
+        0x02 => becomes(
+            entered(node, NmtState::Stopped, disabled(drive), none_held()),
+            false,
+        ),
+        0x80 => {
+            if nmt.is_pre_operational() {
+                becomes(parts_of(s), false)
+            } else {
+                becomes(
+                    entered(node, NmtState::PreOperational, drive, none_held()),
+                    false,
+                )
+            }
+        }
+        0x81 => start(d, output, s.node.id),
+        0x82 => reset_communication(s, d, output),
+        _ => becomes(parts_of(s), false),
     }
+}
+
+// Whether the frame is a command for this node.
+fn is_for_node(content: PdoData, id: u8) -> bool
+    ensures { λ r. ⌜ r ≡ isForNode content id ⌝ }
+{
+    let node = content.bytes[1];
+    (content.length == COMMAND_LENGTH) & ((node == EVERY_NODE) | (node == id))
+}
+
+// An NMT frame; one of another length or for another node changes nothing.
+pub fn nmt_frame(content: PdoData, s: State, d: &mut [u8], output: &mut [u8]) -> Done
+    requires { ⌜ MayReset (s .node .id) (now d) (now output) × OnBus content ⌝ }
+    ensures { λ r. ⌜ Leaves (nmt (dataOf content) s) (now (d .entry)) (now (output .entry)) r (now (d .exit)) (now (output .exit))
+        × Rests s (nmt (dataOf content) s) r ⌝ }
+{
+    if is_for_node(content, s.node.id) {
+        return command(content.bytes[0], s, d, output);
+    }
+    becomes(parts_of(s), true)
 }

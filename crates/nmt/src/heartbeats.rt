@@ -3,20 +3,22 @@ ghost use mathlib.Core.Path.{_≡_};
 ghost use mathlib.Core.List.{[], _∷_};
 ghost use Prim.Native.Nat.{_+_, _≤_};
 ghost use lib.ListN.{length};
+ghost use Rattle.state.specs.declared.Occasion.the-variants.{Ticked};
 ghost use Rattle.rules_dictionary.specs.Plans.{pdoData};
 ghost use Rattle.rules_dictionary.specs.Table.{dictionaryLength};
-ghost use Rattle.rules_services.specs.Effects.{frame, withHeartbeat};
+ghost use Rattle.rules_services.specs.Effects.{frame, on, withHeartbeat};
 ghost use Rattle.rules_services.specs.Nmt.{heartbeatBase, stateByte, bootUp, tick};
-ghost use Rattle.rules.specs.Calls.{outputLength};
-ghost use Rattle.output.specs.Laying.{emitted};
-ghost use Rattle.effects.specs.Leaves.{partsOf, Did, Rests};
+ghost use Rattle.rules.specs.Outcome.{frameSize, sentInto};
+ghost use Rattle.output.specs.Leaves.{partsOf, Leaves, Rests};
+ghost use Rattle.nmt.specs.Commanding.{ticked};
 use dictionary::objects;
-use effects::Done;
-use effects::Parts;
-use effects::parts_of;
+use output::Done;
+use output::Parts;
+use output::parts_of;
 use output::send;
 use rules_dictionary::PdoData;
 use state::NmtState;
+use state::Occasion;
 use state::State;
 
 // 700h, to which the node-ID is added.
@@ -46,20 +48,20 @@ fn one_byte(b: u8) -> PdoData
     }
 }
 
-// A frame of one byte on 700h+N as the first of the output.
-fn send_byte(output: &mut [u8], n: u8, byte: u8) -> usize
-    requires { ⌜ outputLength ≤ length (now output) ⌝ }
-    ensures { λ r. ⌜ (r ≡ 1) × (now (output .exit) ≡ emitted 0 (frame (heartbeatBase + n) (byte ∷ []) ∷ []) (now (output .entry))) ⌝ }
+// A frame of one byte on 700h+N at the start of the bytes.
+fn send_byte(output: &mut [u8], n: u8, byte: u8)
+    requires { ⌜ frameSize ≤ length (now output) ⌝ }
+    ensures { λ r. ⌜ now (output .exit) ≡ sentInto (now (output .entry)) (frame (heartbeatBase + n) (byte ∷ []) ∷ []) ⌝ }
 {
-    send(output, 0, HEARTBEAT_BASE + (n as u16), one_byte(byte))
+    send(output, HEARTBEAT_BASE + (n as u16), one_byte(byte));
 }
 
-// The boot-up frame of node n as the first of the output; the number of frames then.
-pub fn boot_up(output: &mut [u8], n: u8) -> usize
-    requires { ⌜ outputLength ≤ length (now output) ⌝ }
-    ensures { λ r. ⌜ (r ≡ 1) × (now (output .exit) ≡ emitted 0 (bootUp n) (now (output .entry))) ⌝ }
+// The boot-up frame of node n at the start of the bytes.
+pub fn boot_up(output: &mut [u8], n: u8)
+    requires { ⌜ frameSize ≤ length (now output) ⌝ }
+    ensures { λ r. ⌜ now (output .exit) ≡ sentInto (now (output .entry)) (bootUp n) ⌝ }
 {
-    send_byte(output, n, BOOT_UP)
+    send_byte(output, n, BOOT_UP);
 }
 
 // The parts of the state, with that count of ticks since the last heartbeat.
@@ -74,41 +76,35 @@ fn counted(s: State, count: u16) -> Parts
     Parts { node, drive, held }
 }
 
-// 1 ms on: the heartbeat "each 1017h ticks, in all states". Nothing is left to do after it: the count is neither in the dictionary nor shown.
+// A tick that leaves those parts. Nothing is left to do after it: the count is neither in the dictionary nor shown.
+fn ticked(parts: Parts, frames: usize) -> Done
+    ensures { λ r. ⌜ r ≡ ticked parts frames ⌝ }
+{
+    Done {
+        parts: parts,
+        frames: frames,
+        touched: false,
+        remapped: false,
+        occasion: Occasion::Ticked,
+        quiet: true,
+    }
+}
+
+// 1 ms on: the heartbeat "each 1017h ticks, in all states".
 pub fn tick(s: State, d: &[u8], output: &mut [u8]) -> Done
-    requires { ⌜ (length (now d) ≡ dictionaryLength) × (outputLength ≤ length (now output)) ⌝ }
-    ensures { λ r. ⌜ Did (tick s (now (d .entry))) 0 (now (d .entry)) (now (output .entry)) r (now (d .entry)) (now (output .exit)) × Rests s (tick s (now (d .entry))) r ⌝ }
+    requires { ⌜ (length (now d) ≡ dictionaryLength) × (frameSize ≤ length (now output)) ⌝ }
+    ensures { λ r. ⌜ Leaves (on Ticked (tick s (now (d .entry)))) (now (d .entry)) (now (output .entry)) r (now (d .entry)) (now (output .exit))
+        × Rests s (on Ticked (tick s (now (d .entry)))) r ⌝ }
 {
     let period = objects::heartbeat_time(d);
     let node = s.node;
     let nmt = node.nmt;
     if period == 0 {
-        return Done {
-            parts: parts_of(s),
-            frames: 0,
-            touched: false,
-            remapped: false,
-            synced: false,
-            quiet: true,
-        };
+        return ticked(parts_of(s), 0);
     }
     if node.heartbeat < period - 1 {
-        return Done {
-            parts: counted(s, node.heartbeat + 1),
-            frames: 0,
-            touched: false,
-            remapped: false,
-            synced: false,
-            quiet: true,
-        };
+        return ticked(counted(s, node.heartbeat + 1), 0);
     }
-    let frames = send_byte(output, node.id, state_byte(nmt));
-    Done {
-        parts: counted(s, 0),
-        frames: frames,
-        touched: false,
-        remapped: false,
-        synced: false,
-        quiet: true,
-    }
+    send_byte(output, node.id, state_byte(nmt));
+    ticked(counted(s, 0), 1)
 }

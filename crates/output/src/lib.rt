@@ -1,14 +1,24 @@
-// The output of a call: frames laid into it one after another. Proved against specs/Laying.antt; proofs/Laws.antt ties that to the
-// output of document 01.
+// What a service leaves: the frames that it lays into the output, the parts of the state that it may change, and what is left to do at the
+// call's end. Proved against specs/Laying.antt and specs/Leaves.antt; proofs/Frames.antt ties the first to the output of document 01.
 
+mod changing; // the parts of the state, and the state with one part changed
+
+pub use changing::becomes;
+pub use changing::parts_of;
+pub use changing::with_drive;
+pub use changing::with_held;
+pub use changing::with_nmt;
+pub use changing::with_paces;
+use drive::Drive;
 use rules_dictionary::PdoData;
+use state::Node;
+use state::Occasion;
 ghost use mathlib.Core.Path.{_≡_};
-ghost use mathlib.Core.List.{[], _∷_, _++_};
-ghost use Prim.Native.Nat.{_+_, _<_, _≤_};
-ghost use lib.ListN.{length, drop};
-ghost use Rattle.rules.specs.Outcome.{frameSize, mostFrames};
-ghost use Rattle.rules.specs.Calls.{outputLength};
-ghost use Rattle.output.specs.Laying.{framed, IsData, frameOf, emitted};
+ghost use mathlib.Core.List.{[], _∷_};
+ghost use Prim.Native.Nat.{_≤_};
+ghost use lib.ListN.{length};
+ghost use Rattle.rules.specs.Outcome.{frameSize, sentInto};
+ghost use Rattle.output.specs.Laying.{IsData, frameOf};
 
 // A frame: the identifier, behind it the length, then the data.
 pub const LENGTH: usize = 2;
@@ -24,10 +34,28 @@ pub const MOST_FRAMES: usize = 6;
 
 pub const OUTPUT_LENGTH: usize = MOST_FRAMES * FRAME_LENGTH;
 
+// The parts of the state that a service may change. Plans, ready frames and the transmit PDOs' paces follow at the call's end.
+pub struct Parts {
+    pub node: Node,
+    pub drive: Drive,
+    pub held: [PdoData; 4],
+}
+
+// What a service leaves beside the lent bytes: the parts of the state, how many frames it laid, whether an object that may be mapped to
+// transmit was written, whether a PDO's mapping was, what the call is to its own end, and whether nothing is left to do there.
+pub struct Done {
+    pub parts: Parts,
+    pub frames: usize,
+    pub touched: bool,
+    pub remapped: bool,
+    pub occasion: Occasion,
+    pub quiet: bool,
+}
+
 // A frame at the start of the bytes, which are the output from that frame on; those behind it stay.
-pub fn lay(output: &mut [u8], identifier: u16, content: PdoData)
-    requires { ⌜ frameSize ≤ length (now output) ⌝ }
-    ensures { λ r. ⌜ now (output .exit) ≡ framed identifier content ++ drop frameSize (now (output .entry)) ⌝ }
+pub fn send(output: &mut [u8], identifier: u16, content: PdoData)
+    requires { ⌜ (frameSize ≤ length (now output)) × IsData content ⌝ }
+    ensures { λ r. ⌜ now (output .exit) ≡ sentInto (now (output .entry)) (frameOf identifier content ∷ []) ⌝ }
 {
     output[0] = (identifier % 256) as u8;
     output[1] = (identifier / 256 % 256) as u8;
@@ -38,14 +66,4 @@ pub fn lay(output: &mut [u8], identifier: u16, content: PdoData)
         output[place] = content.bytes[i];
         i += 1;
     }
-}
-
-// Frame n, counted from 0, into the output; every other byte stays. The number of frames then.
-pub fn send(output: &mut [u8], n: usize, identifier: u16, content: PdoData) -> usize
-    requires { ⌜ (n < mostFrames) × ((outputLength ≤ length (now output)) × IsData content) ⌝ }
-    ensures { λ r. ⌜ (r ≡ n + 1) × (now (output .exit) ≡ emitted n (frameOf identifier content ∷ []) (now (output .entry))) ⌝ }
-{
-    let place = FRAME_LENGTH * n;
-    lay(&mut output[place..], identifier, content);
-    n + 1
 }

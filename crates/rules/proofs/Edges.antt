@@ -13,13 +13,14 @@ use Rattle.drive.specs.declared.Store.the-variants.{Rested}
 use Rattle.drive.specs.declared.Drive.{Drive}
 use Rattle.rules_dictionary.specs.declared.PdoData.{PdoData}
 use Rattle.state.specs.declared.State.{State}
+use Rattle.state.specs.declared.Pace.{Pace}
 use Rattle.rules_dictionary.specs.TheNode.{firstNode, lastNode}
 use Rattle.rules_dictionary.specs.Table.{table, deviceType, positionWindow, transmissionType, mapEntry, identifier, statusWord, modeDisplay, mode, controlWord, heartbeatTime, position, dictionaryLength, open-table}
 use Rattle.rules_dictionary.specs.Values.{Write, write, store, stored, packedDefaults}
 use Rattle.drive.specs.SetPoints.{withStore, withMarks, withCause}
-use Rattle.rules_services.specs.Effects.{frame, writes, becomes, withNode, withDrive, withHeld, withPacing, withNmt, withHeartbeat}
-use Rattle.rules_services.specs.PdoTraffic.{noData}
-use Rattle.rules_services.specs.Nmt.{freshState, noCounts, noneDue}
+use Rattle.rules_services.specs.Effects.{frame, writes, becomes, withNode, withDrive, withHeld, withPaces, withNmt, withHeartbeat}
+use Rattle.rules_services.specs.PdoTraffic.{noData, idle, allIdle}
+use Rattle.rules_services.specs.Nmt.{freshState}
 use Rattle.rules.specs.Outcome.{End, ended, encoded, sentInto}
 use Rattle.rules.specs.Sound.{sound}
 use Rattle.rules.specs.Calls.{Call, powerUpCall, frameCall, eventCall, answer, refusalNumber, outputLength}
@@ -141,10 +142,16 @@ withDriveBy f s = withDrive (f (s .axis .drive)) s
 one : PdoData
 one = record { length = 2; bytes = 6 ∷ 0 ∷ 0 ∷ 0 ∷ 0 ∷ 0 ∷ 0 ∷ 0 ∷ [] }
 
+abbrev counted : ℕ → Pace
+counted k = record { count = k; due = false }
+
+abbrev due : Pace
+due = record { count = 0; due = true }
+
 -- the store, both marks and the cause out of their place; a count, a due mark, a held frame outside Operational; spare bytes; the heartbeat
 broken-state : map with
     (withDriveBy (withStore (Rested 0)) ∷ withDriveBy (withMarks true false) ∷ withDriveBy (withMarks false true) ∷ withDriveBy (withCause true)
-    ∷ withPacing (1 ∷ 0 ∷ 0 ∷ 0 ∷ []) noneDue ∷ withPacing noCounts (true ∷ false ∷ false ∷ false ∷ []) ∷ withHeld (one ∷ noData ∷ noData ∷ noData ∷ [])
+    ∷ withPaces (counted 1 ∷ idle ∷ idle ∷ idle ∷ []) ∷ withPaces (due ∷ idle ∷ idle ∷ idle ∷ []) ∷ withHeld (one ∷ noData ∷ noData ∷ noData ∷ [])
     ∷ withHeld (record { length = 0; bytes = 0 ∷ 0 ∷ 0 ∷ 0 ∷ 0 ∷ 0 ∷ 0 ∷ 1 ∷ [] } ∷ noData ∷ noData ∷ noData ∷ []) ∷ withHeartbeat 1
     ∷ withNode (record { id = 6; nmt = PreOperational; voltage = false; heartbeat = 0 }) ∷ [])
     ≡ replicate 10 false
@@ -156,10 +163,10 @@ broken-state = refl
 waiting : List Write → (State → State) → Bool
 waiting ws f =
     let e = ended nothing (packedDefaults 5 table) (writes ws (becomes (withNmt Operational (freshState 5)))) in
-    sound (f (withPacing noCounts noneDue (e .state))) (e .dictionary)
+    sound (f (withPaces allIdle (e .state))) (e .dictionary)
 
-waits : (map (λ k. waiting (write (transmissionType 5) 3 ∷ []) (withPacing (0 ∷ k ∷ 0 ∷ 0 ∷ []) noneDue)) (0 ∷ 2 ∷ 3 ∷ []) ≡ true ∷ true ∷ false ∷ [])
-    × (map (λ k. waiting (write (transmissionType 5) k ∷ []) (withPacing noCounts (false ∷ true ∷ false ∷ false ∷ []))) (0 ∷ 1 ∷ 255 ∷ []) ≡ true ∷ false ∷ false ∷ [])
+waits : (map (λ k. waiting (write (transmissionType 5) 3 ∷ []) (withPaces (idle ∷ counted k ∷ idle ∷ idle ∷ []))) (0 ∷ 2 ∷ 3 ∷ []) ≡ true ∷ true ∷ false ∷ [])
+    × (map (λ k. waiting (write (transmissionType 5) k ∷ []) (withPaces (idle ∷ due ∷ idle ∷ idle ∷ []))) (0 ∷ 1 ∷ 255 ∷ []) ≡ true ∷ false ∷ false ∷ [])
     × (map (λ k. waiting (write (transmissionType 0) k ∷ []) (withHeld (one ∷ noData ∷ noData ∷ noData ∷ []))) (0 ∷ 240 ∷ 255 ∷ []) ≡ true ∷ true ∷ false ∷ [])
     × (waiting (write (transmissionType 1) 1 ∷ []) (withHeld (noData ∷ one ∷ noData ∷ noData ∷ [])) ≡ false)
     × (waiting (write (transmissionType 1) 1 ∷ []) (withHeld (noData ∷ record { length = 3; bytes = 6 ∷ 0 ∷ 2 ∷ 0 ∷ 0 ∷ 0 ∷ 0 ∷ 0 ∷ [] } ∷ noData ∷ noData ∷ [])) ≡ false)

@@ -2,3 +2,4 @@ pub mod Tempting
 pub mod Examples
 pub mod Edges
 pub mod PowerUp
+pub mod AtEnd

@@ -14,7 +14,7 @@ use Rattle.rules_dictionary.proofs.Defaults.{all-defaults}
 use Rattle.rules_dictionary.specs.Values.{stored, packedDefaults}
 use Rattle.rules_services.specs.Nmt.{powerUp, freshState, bootUp}
 use Rattle.rules_services.specs.Effects.{sends, becomes}
-use Rattle.rules.specs.Outcome.{End, ended, settled}
+use Rattle.rules.specs.Outcome.{End, ended, driveAtEnd, settled}
 use Rattle.rules.specs.Sound.{sound, dictionarySound, constantsAsListed, valuesInRange, mappingsLegal, identifiersLegal, statusAsMade, modeAsMade, plansFresh, readyFresh, driveSound, heartbeatSound, waitingSound}
 use Rattle.rules.specs.Scripts.{open-rules}
 
@@ -52,7 +52,7 @@ unfolding freshEnd freshDictionary packedDefaults open-rules
 rest n s = (refl, refl, refl, refl, refl, refl, refl, refl)
 
 fresh-sound : (n : ℕ) (s : State) → isNodeId n ≡ true → sound (freshEnd n s .state) (freshEnd n s .dictionary) ≡ true
-unfolding freshEnd freshDictionary ended stored freshState sound dictionarySound nodeSound
+unfolding freshEnd freshDictionary ended driveAtEnd stored freshState sound dictionarySound nodeSound
 fresh-sound n s p =
     let d = freshDictionary n in
     let q : (constantsAsListed n d && valuesInRange d && identifiersLegal d) ≡ true = on-nodes nodeSound node-test n p in

@@ -10,11 +10,14 @@ use Rattle.state.specs.declared.Refusal.{Refusal}
 use Rattle.state.specs.declared.Refusal.the-variants.{Accepted, DictionaryLength, OutputLength, NodeId, NotSound, BadFrame, BadEvent, OutOfPlace}
 use Rattle.rules_dictionary.specs.TheNode.{isNodeId}
 use Rattle.rules_dictionary.specs.Table.{dictionaryLength, receivePdos}
-use Rattle.rules_services.specs.Effects.{isStopped, Effect, becomes}
+use Rattle.state.specs.NmtStates.{isStopped}
+use Rattle.rules_services.specs.Effects.{Effect, becomes}
 use Rattle.rules_services.specs.Sdo.{sdo, requestBase, requestLength}
 use Rattle.rules_services.specs.PdoTraffic.{sync, syncBase, receivedBy}
 use Rattle.rules_services.specs.Nmt.{nmt, nmtIdentifier, powerUp}
-use Rattle.rules_services.specs.Events.{Told, event, badEvent, eventOf, isInPlace, happens}
+use Rattle.rules_services.specs.declared.Told.{Told}
+use Rattle.rules_services.specs.declared.Told.the-variants.{Happened, Bad}
+use Rattle.rules_services.specs.Events.{eventOf, isInPlace, happens}
 use Rattle.rules.specs.Outcome.{End, ended, sentInto, mostData, frameSize, mostFrames}
 use Rattle.rules.specs.Sound.{sound}
 
@@ -33,8 +36,8 @@ refusalNumber OutOfPlace = 7
 abbrev pub outputLength : ℕ
 outputLength = mostFrames * frameSize
 
-abbrev pub lastIdentifier : ℕ
-lastIdentifier = 0x7FF
+abbrev pub lastFrameIdentifier : ℕ
+lastFrameIdentifier = 0x7FF
 
 -- "A call is power-up, one frame, or one event."
 pub data Call : Type 0 where
@@ -59,8 +62,8 @@ pub data Decision : Type 0 where
   does : Effect → Decision
 
 unfoldable pub eventDecision : Told → State → List ℕ → Decision
-eventDecision badEvent s d = refuses BadEvent
-eventDecision (event e) s d = elim (isInPlace e s) [ true ↦ does (happens e s d) | false ↦ refuses OutOfPlace ]
+eventDecision Bad s d = refuses BadEvent
+eventDecision (Happened e) s d = elim (isInPlace e s) [ true ↦ does (happens e s d) | false ↦ refuses OutOfPlace ]
 
 -- ---- the refusals, "lowest number first"
 
@@ -69,7 +72,7 @@ unfoldable pub decision : Call → State → List ℕ → Decision
 decision (powerUpCall n) s d = elim (isNodeId n) [ true ↦ does (powerUp n) | false ↦ refuses NodeId ]
 decision (frameCall i bs) s d =
     elim (sound s d) [
-      | true ↦ elim (leb i lastIdentifier && leb (length bs) mostData) [ true ↦ does (framed i bs s d) | false ↦ refuses BadFrame ]
+      | true ↦ elim (leb i lastFrameIdentifier && leb (length bs) mostData) [ true ↦ does (framed i bs s d) | false ↦ refuses BadFrame ]
       | false ↦ refuses NotSound
     ]
 decision (eventCall k xs) s d = elim (sound s d) [ true ↦ eventDecision (eventOf k xs) s d | false ↦ refuses NotSound ]

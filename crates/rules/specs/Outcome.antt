@@ -10,14 +10,18 @@ use Rattle.rules_dictionary.specs.declared.Move.{Move}
 use Rattle.rules_dictionary.specs.declared.Plan.{Plan}
 use Rattle.rules_dictionary.specs.declared.PdoData.{PdoData}
 use Rattle.state.specs.declared.State.{State}
+use Rattle.state.specs.declared.Occasion.{Occasion}
+use Rattle.drive.specs.declared.Drive.{Drive}
 use Rattle.rules_dictionary.specs.Numbers.{bytes, padded}
 use Rattle.rules_dictionary.specs.Table.{statusWord, modeDisplay, eachWay}
 use Rattle.rules_dictionary.specs.Values.{store, stored}
 use Rattle.rules_dictionary.specs.Legal.{modeNumber}
 use Rattle.rules_dictionary.specs.Plans.{plansOf, readyOf}
 use Rattle.drive.specs.StatusWord.{status}
-use Rattle.rules_services.specs.Effects.{Frame, Effect, isStopped, isOperational}
-use Rattle.rules_services.specs.PdoTraffic.{Pace, pace, paceOf, works, typeOf, transmitted, noData}
+use Rattle.rules_services.specs.Effects.{Frame, Effect, withDrive}
+use Rattle.state.specs.NmtStates.{isStopped, isOperational}
+use Rattle.rules_services.specs.declared.Paced.{Paced}
+use Rattle.rules_services.specs.PdoTraffic.{paced, paceOf, idle, works, typeOf, transmitted, noData}
 
 -- ---- equality of what the state keeps
 
@@ -50,24 +54,30 @@ settled s d = store modeDisplay (modeNumber (s .axis .drive .mode)) (store statu
 abbrev pub transmitters : List ℕ
 transmitters = 0 ∷ 1 ∷ 2 ∷ 3 ∷ []
 
-unfoldable pub enters : State → State → Bool
-enters s s′ = isOperational (s′ .node .nmt) && not (isOperational (s .node .nmt))
+unfoldable pub entersOperational : State → State → Bool
+entersOperational s s′ = isOperational (s′ .node .nmt) && not (isOperational (s .node .nmt))
 
 unfoldable pub changes : State → List PdoData → ℕ → Bool
 changes s ready t = not (sameData (getD (s .axis .ready) t noData) (getD ready t noData))
 
 -- s and s′ are the state before the call and after its effect; d and ready are the dictionary and the ready frames at its end
-unfoldable pub paceFor : State → State → Bool → List ℕ → List PdoData → ℕ → Pace
-paceFor s s′ synced d ready t =
+unfoldable pub paceFor : State → State → Occasion → List ℕ → List PdoData → ℕ → Paced
+paceFor s s′ occasion d ready t =
     cond (works (s′ .node .nmt) d (eachWay + t))
-    (paceOf (typeOf d (eachWay + t)) synced (enters s s′ || changes s ready t) (getD (s′ .axis .counts) t 0) (getD (s′ .axis .due) t false))
-    (pace false 0 false)
+    (paceOf (typeOf d (eachWay + t)) occasion (entersOperational s s′ || changes s ready t) (getD (s′ .axis .paces) t idle))
+    (paced false 0 false)
 
 -- "TPDOs rising"
-unfoldable pub transmissions : List ℕ → List PdoData → (ℕ → Pace) → List ℕ → List Frame
+unfoldable pub transmissions : List ℕ → List PdoData → (ℕ → Paced) → List ℕ → List Frame
 transmissions d ready paces [] = []
 transmissions d ready paces (t ∷ ts) =
     cond (paces t .send) (transmitted d (eachWay + t) (getD ready t noData) ∷ []) [] ++ transmissions d ready paces ts
+
+-- ---- the drive at the end: nothing of its own counts calls or ticks
+
+-- after the effect on that occasion, with its writes stored
+unfoldable pub driveAtEnd : Occasion → List ℕ → Drive → Drive
+driveAtEnd occasion d v = v
 
 -- ---- the state and the dictionary at the end, and all frames sent
 
@@ -78,21 +88,20 @@ pub record End : Type 0 where
 
 unfoldable pub ended : State → List ℕ → Effect → End
 ended s d e =
-    let s′ = e .state in
+    let v = driveAtEnd (e .occasion) (stored (e .writes) d) (e .state .axis .drive) in
+    let s′ = withDrive v (e .state) in
     let d′ = settled s′ (stored (e .writes) d) in
     let ready = readyOf d′ in
-    let paces = paceFor s s′ (e .synced) d′ ready in
-    let a = s′ .axis in
+    let paces = paceFor s s′ (e .occasion) d′ ready in
     record {
       state = record {
         node = s′ .node;
         axis = record {
-          drive = a .drive;
+          drive = v;
           plans = plansOf d′;
           ready = ready;
-          held = a .held;
-          counts = map (λ t. paces t .count) transmitters;
-          due = map (λ t. paces t .due) transmitters;
+          held = s′ .axis .held;
+          paces = map (λ t. paces t .kept) transmitters;
         };
       };
       dictionary = d′;
@@ -122,5 +131,5 @@ sentInto o (f ∷ fs) = encoded f ++ sentInto (drop frameSize o) fs
 
 -- opens every definition of this module, where a proof computes
 unfoldable pub open-outcome : Unit {0}
-unfolding statusOf settled enters changes paceFor transmissions ended encoded sentInto
+unfolding statusOf settled entersOperational driveAtEnd changes paceFor transmissions ended encoded sentInto
 open-outcome = tt

@@ -6,6 +6,7 @@ use mathlib.Core.Bool.{Bool, true, false, cond, not, _&&_, _||_}
 use lib.Dec.{eqb, ltb}
 use lib.ListN.{take, getD}
 use Rattle.state.specs.declared.NmtState.{NmtState}
+use Rattle.state.specs.declared.Pace.{Pace}
 use Rattle.drive.specs.declared.Drive.{Drive}
 use Rattle.rules_dictionary.specs.declared.PdoData.{PdoData}
 use Rattle.state.specs.declared.State.{State}
@@ -92,6 +93,10 @@ heartbeatSound count d = eqb count 0 || ltb count (read d heartbeatTime)
 unfoldable pub dueSound : NmtState → List ℕ → ℕ → Bool → Bool
 dueSound nmt d p due = not due || (works nmt d p && eqb (typeOf d p) 0)
 
+-- what is kept of a transmit PDO
+unfoldable pub paceSound : NmtState → List ℕ → ℕ → Pace → Bool
+paceSound nmt d p k = countSound nmt d p (k .count) && dueSound nmt d p (k .due)
+
 -- "held frames only in Operational, .. held for working synchronous RPDOs, with full length and legal values"; spare bytes zero
 unfoldable pub heldSound : NmtState → List ℕ → ℕ → PdoData → Bool
 heldSound nmt d p f =
@@ -114,9 +119,7 @@ driveSound v d = storeInPlace v && takenInPlace v d && causeInPlace v
 unfoldable pub waitingSound : State → List ℕ → Bool
 waitingSound s d =
     let m = s .node .nmt in
-    pairwise (countSound m d) transmitPdos (s .axis .counts)
-    && pairwise (dueSound m d) transmitPdos (s .axis .due)
-    && pairwise (heldSound m d) receivePdos (s .axis .held)
+    pairwise (paceSound m d) transmitPdos (s .axis .paces) && pairwise (heldSound m d) receivePdos (s .axis .held)
 
 -- the clauses in the paper's order, "N legal" first
 unfoldable pub sound : State → List ℕ → Bool
@@ -133,5 +136,5 @@ sound s d =
 
 -- opens every definition of this module, where a proof computes
 unfoldable pub open-sound : Unit {0}
-unfolding constantsAsListed inRange valuesInRange mappingLegal mappingsLegal identifiersLegal statusAsMade modeAsMade plansFresh readyFresh storeInPlace takenInPlace causeInPlace countSound heartbeatSound dueSound heldSound dictionarySound driveSound waitingSound sound
+unfolding constantsAsListed inRange valuesInRange mappingLegal mappingsLegal identifiersLegal statusAsMade modeAsMade plansFresh readyFresh storeInPlace takenInPlace causeInPlace countSound heartbeatSound dueSound paceSound heldSound dictionarySound driveSound waitingSound sound
 open-sound = tt

@@ -3,14 +3,16 @@
 -- Assumes nothing.
 use Prim.Native.Nat.{ℕ}
 use mathlib.Core.Path.{_≡_, refl}
-use mathlib.Core.Bool.{true, false}
+use mathlib.Core.Bool.{Bool, true, false}
 use mathlib.Core.List.{List, [], _∷_, _++_, map}
 use lib.ListN.{length}
 use Rattle.state.specs.declared.NmtState.{NmtState}
 use Rattle.state.specs.declared.NmtState.the-variants.{PreOperational, Operational, Stopped}
 use Rattle.drive.specs.declared.DriveState.{DriveState}
-use Rattle.drive.specs.declared.DriveState.the-variants.{NotReady, SwitchOnDisabled, ReadyToSwitchOn, OperationEnabled, FaultReactionActive, Fault}
+use Rattle.drive.specs.declared.DriveState.the-variants.{NotReady, SwitchOnDisabled, ReadyToSwitchOn, OperationEnabled, FaultReactionActive, Fault as InFault}
 use Rattle.state.specs.declared.State.{State}
+use Rattle.state.specs.declared.Pace.{Pace}
+use Rattle.state.specs.declared.Occasion.the-variants.{Plain, Synced, Ticked}
 use Rattle.rules_dictionary.specs.Numbers.{bytes, value, part, open-numbers}
 use Rattle.rules_dictionary.specs.Table.{table, errorRegister, errorCode, controlWord, heartbeatTime, targetPosition, position, velocity, transmissionType, mapEntry, mapCount, mappingWord, identifier, open-table}
 use Rattle.rules_dictionary.specs.Values.{write, store, stored, read, open-values, packedDefaults}
@@ -24,9 +26,11 @@ use Rattle.rules_services.specs.Effects.{Effect, Frame, frame, becomes, 
 use Rattle.rules_services.specs.Emergency.{emergency, open-emergency}
 use Rattle.rules_services.specs.Written.{open-written}
 use Rattle.rules_services.specs.Sdo.{sdo, open-sdo}
-use Rattle.rules_services.specs.PdoTraffic.{received, sync, pace, paceOf, works, noData, open-pdo-traffic}
+use Rattle.rules_services.specs.PdoTraffic.{received, sync, paced, paceOf, works, noData, open-pdo-traffic}
 use Rattle.rules_services.specs.Nmt.{freshState, nmt, tick, open-nmt}
-use Rattle.rules_services.specs.Events.{event, badEvent, fault, voltage, eventOf, isInPlace, happens, started, quickStopDone, reactionDone, setPointReached, causeGone, feedback, open-events}
+use Rattle.rules_services.specs.declared.Told.the-variants.{Happened, Bad}
+use Rattle.rules_services.specs.declared.Event.the-variants.{Fault, Voltage, Started, QuickStopDone, ReactionDone, SetPointReached, CauseGone, Feedback, Tick}
+use Rattle.rules_services.specs.Events.{eventOf, isInPlace, happens, open-events}
 
 -- ---- node 5
 
@@ -126,7 +130,7 @@ five : List ℕ
 five = 0x00 ∷ 0x00 ∷ 0x39 ∷ 0x05 ∷ 0x00 ∷ []
 
 -- "too short, dropped with emergency 8210h": also of length 0
-too-short : (received 2 five operational fresh ≡ record { state = operational; writes = []; sent = emcy 0x10 0x82 ∷ []; synced = false })
+too-short : (received 2 five operational fresh ≡ record { state = operational; writes = []; sent = emcy 0x10 0x82 ∷ []; occasion = Plain })
     × (received 2 [] operational fresh .sent ≡ emcy 0x10 0x82 ∷ [])
 unfolding five open-edges
 too-short = (refl, refl)
@@ -138,7 +142,7 @@ unfolding five open-edges
 too-long = (refl, refl)
 
 -- "any value SDO would refuse drops the whole frame with 8200h, after 8220h if both"
-bad-value : (received 1 (0x06 ∷ 0x00 ∷ 0x02 ∷ []) operational fresh ≡ record { state = operational; writes = []; sent = emcy 0x00 0x82 ∷ []; synced = false })
+bad-value : (received 1 (0x06 ∷ 0x00 ∷ 0x02 ∷ []) operational fresh ≡ record { state = operational; writes = []; sent = emcy 0x00 0x82 ∷ []; occasion = Plain })
     × (received 1 (0x06 ∷ 0x00 ∷ 0x02 ∷ 0x00 ∷ []) operational fresh .sent ≡ emcy 0x20 0x82 ∷ emcy 0x00 0x82 ∷ [])
 unfolding open-edges
 bad-value = (refl, refl)
@@ -153,7 +157,7 @@ heldWord w = withHeld (record { length = 2; bytes = w ∷ 0 ∷ 0 ∷ 0 ∷ 0 �
 held-until-sync : (received 0 (0x06 ∷ 0x00 ∷ []) operational cyclicReceive ≡ becomes (heldWord 0x06))
     × (received 0 (0x06 ∷ 0x00 ∷ 0x77 ∷ []) operational cyclicReceive .state ≡ heldWord 0x06)
     × (received 0 (0x07 ∷ 0x00 ∷ []) (heldWord 0x06) cyclicReceive ≡ becomes (heldWord 0x07))
-    × (sync [] (heldWord 0x06) cyclicReceive ≡ record { state = node Operational ReadyToSwitchOn; writes = write controlWord 0x06 ∷ []; sent = []; synced = true })
+    × (sync [] (heldWord 0x06) cyclicReceive ≡ record { state = node Operational ReadyToSwitchOn; writes = write controlWord 0x06 ∷ []; sent = []; occasion = Synced })
 unfolding cyclicReceive heldWord open-edges
 held-until-sync = (refl, refl, refl, refl)
 
@@ -166,7 +170,7 @@ unfolding twice open-edges
 mapped-twice = refl
 
 -- SYNC: "another length gives 8240h only. Stopped it is not served; in Pre-operational one of length 0 does nothing"
-sync-lengths : (sync (0x01 ∷ []) operational fresh ≡ record { state = operational; writes = []; sent = emcy 0x40 0x82 ∷ []; synced = false })
+sync-lengths : (sync (0x01 ∷ []) operational fresh ≡ record { state = operational; writes = []; sent = emcy 0x40 0x82 ∷ []; occasion = Plain })
     × (sync (0x01 ∷ []) preOperational fresh .sent ≡ emcy 0x40 0x82 ∷ []) × (sync (0x01 ∷ []) stopped fresh ≡ becomes stopped)
     × (sync [] preOperational fresh ≡ becomes preOperational)
 unfolding open-edges
@@ -178,20 +182,23 @@ works-only : (works Operational fresh 0 ≡ true) × (works PreOperational fresh
 unfolding open-edges
 works-only = (refl, refl, refl, refl)
 
+abbrev kept : ℕ → Bool → Pace
+kept count due = record { count = count; due = due }
+
 -- type 3: two SYNCs counted, the third sends; a change sends nothing
-third-sync-sends : (paceOf 3 true false 0 false ≡ pace false 1 false) × (paceOf 3 true true 1 false ≡ pace false 2 false)
-    × (paceOf 3 true false 2 false ≡ pace true 0 false) × (paceOf 3 false true 2 false ≡ pace false 2 false) × (paceOf 1 true false 0 false ≡ pace true 0 false)
+third-sync-sends : (paceOf 3 Synced false (kept 0 false) ≡ paced false 1 false) × (paceOf 3 Synced true (kept 1 false) ≡ paced false 2 false)
+    × (paceOf 3 Synced false (kept 2 false) ≡ paced true 0 false) × (paceOf 3 Plain true (kept 2 false) ≡ paced false 2 false) × (paceOf 1 Synced false (kept 0 false) ≡ paced true 0 false)
 unfolding open-edges
 third-sync-sends = (refl, refl, refl, refl, refl)
 
 -- type 0: due from a change or from entering on, sent at SYNC alone, once
-due-until-sync : (paceOf 0 false true 0 false ≡ pace false 0 true) × (paceOf 0 false false 0 true ≡ pace false 0 true)
-    × (paceOf 0 true false 0 true ≡ pace true 0 false) × (paceOf 0 true true 0 false ≡ pace true 0 false) × (paceOf 0 true false 0 false ≡ pace false 0 false)
+due-until-sync : (paceOf 0 Plain true (kept 0 false) ≡ paced false 0 true) × (paceOf 0 Plain false (kept 0 true) ≡ paced false 0 true)
+    × (paceOf 0 Synced false (kept 0 true) ≡ paced true 0 false) × (paceOf 0 Synced true (kept 0 false) ≡ paced true 0 false) × (paceOf 0 Synced false (kept 0 false) ≡ paced false 0 false)
 unfolding open-edges
 due-until-sync = (refl, refl, refl, refl, refl)
 
 -- types 254 and 255: at once, where it changed
-at-once : (paceOf 254 false true 0 false ≡ pace true 0 false) × (paceOf 255 true false 0 false ≡ pace false 0 false)
+at-once : (paceOf 254 Plain true (kept 0 false) ≡ paced true 0 false) × (paceOf 255 Synced false (kept 0 false) ≡ paced false 0 false)
 unfolding open-edges
 at-once = (refl, refl)
 
@@ -215,7 +222,7 @@ nmt-leaves = (refl, refl)
 
 -- "02h and 82h also act as Disable voltage": not 80h; the fault states do not move
 nmt-disables : (nmt (to5 0x02) (node Operational OperationEnabled) ≡ becomes stopped) × (nmt (to5 0x82) (node Operational OperationEnabled) .state ≡ preOperational)
-    × (nmt (to5 0x80) (node Operational OperationEnabled) ≡ becomes (node PreOperational OperationEnabled)) × (nmt (to5 0x02) (node Operational Fault) ≡ becomes (node Stopped Fault))
+    × (nmt (to5 0x80) (node Operational OperationEnabled) ≡ becomes (node PreOperational OperationEnabled)) × (nmt (to5 0x02) (node Operational InFault) ≡ becomes (node Stopped InFault))
 unfolding open-edges
 nmt-disables = (refl, refl, refl, refl)
 
@@ -233,7 +240,7 @@ beats : NmtState → ℕ → Effect
 beats m k = tick (withHeartbeat k (node m SwitchOnDisabled)) (store heartbeatTime 3 fresh)
 
 heartbeats : (beats Operational 0 ≡ becomes (withHeartbeat 1 operational)) × (beats Operational 1 ≡ becomes (withHeartbeat 2 operational))
-    × (beats Operational 2 ≡ record { state = operational; writes = []; sent = frame 0x705 (0x05 ∷ []) ∷ []; synced = false })
+    × (beats Operational 2 ≡ record { state = operational; writes = []; sent = frame 0x705 (0x05 ∷ []) ∷ []; occasion = Plain })
     × (beats Stopped 2 .sent ≡ frame 0x705 (0x04 ∷ []) ∷ []) × (beats PreOperational 2 .sent ≡ frame 0x705 (0x7F ∷ []) ∷ [])
     × (tick operational fresh ≡ becomes operational)
 unfolding beats open-edges
@@ -248,16 +255,16 @@ unfolding open-edges
 emergencies = (refl, refl)
 
 -- "event number unknown, wrong argument size, voltage flag not 0/1, fault code 0"
-events-told : (map (λ k. eventOf k []) (0 ∷ 10 ∷ 3 ∷ []) ≡ badEvent ∷ badEvent ∷ badEvent ∷ [])
-    × (eventOf 1 (0 ∷ []) ≡ badEvent) × (eventOf 9 (0 ∷ []) ≡ event (voltage false)) × (eventOf 9 (1 ∷ []) ≡ event (voltage true)) × (eventOf 9 (2 ∷ []) ≡ badEvent)
-    × (eventOf 3 (0 ∷ 0 ∷ 1 ∷ []) ≡ badEvent) × (eventOf 3 (0 ∷ 1 ∷ 2 ∷ []) ≡ event (fault 256 2))
+events-told : (map (λ k. eventOf k []) (0 ∷ 10 ∷ 3 ∷ []) ≡ Bad ∷ Bad ∷ Bad ∷ [])
+    × (eventOf 1 (0 ∷ []) ≡ Bad) × (eventOf 9 (0 ∷ []) ≡ Happened (Voltage false)) × (eventOf 9 (1 ∷ []) ≡ Happened (Voltage true)) × (eventOf 9 (2 ∷ []) ≡ Bad)
+    × (eventOf 3 (0 ∷ 0 ∷ 1 ∷ []) ≡ Bad) × (eventOf 3 (0 ∷ 1 ∷ 2 ∷ []) ≡ Happened (Fault 256 2))
 unfolding open-edges
 events-told = (refl, refl, refl, refl, refl, refl, refl)
 
 -- each in its place alone
-places : (map (λ s. isInPlace started (node Operational s)) (NotReady ∷ SwitchOnDisabled ∷ []) ≡ true ∷ false ∷ [])
-    × (map (λ s. isInPlace reactionDone (node Operational s)) (FaultReactionActive ∷ Fault ∷ []) ≡ true ∷ false ∷ [])
-    × (isInPlace quickStopDone operational ≡ false) × (isInPlace causeGone operational ≡ false) × (isInPlace setPointReached operational ≡ false)
+places : (map (λ s. isInPlace Started (node Operational s)) (NotReady ∷ SwitchOnDisabled ∷ []) ≡ true ∷ false ∷ [])
+    × (map (λ s. isInPlace ReactionDone (node Operational s)) (FaultReactionActive ∷ InFault ∷ []) ≡ true ∷ false ∷ [])
+    × (isInPlace QuickStopDone operational ≡ false) × (isInPlace CauseGone operational ≡ false) × (isInPlace SetPointReached operational ≡ false)
 unfolding open-edges
 places = (refl, refl, refl, refl, refl)
 
@@ -265,30 +272,36 @@ caused : NmtState → DriveState → State
 caused m v = withDrive (withCause true (node m v .axis .drive)) (node m v)
 
 -- "603Fh is the code, 1001h gains the register and bit 0, cause present, emergency"; in a fault state it stays there; Stopped, no frame
-faults : (happens (fault 0x2310 0x04) operational (store errorRegister 0x02 fresh)
+faults : (happens (Fault 0x2310 0x04) operational (store errorRegister 0x02 fresh)
     ≡ record {
       state = caused Operational FaultReactionActive;
       writes = write errorCode 0x2310 ∷ write errorRegister 0x07 ∷ [];
       sent = frame 0x085 (0x10 ∷ 0x23 ∷ 0x07 ∷ 0x00 ∷ 0x00 ∷ 0x00 ∷ 0x00 ∷ 0x00 ∷ []) ∷ [];
-      synced = false;
+      occasion = Plain;
     })
-    × (happens (fault 0x2310 0x00) (node Stopped Fault) fresh
-    ≡ record { state = caused Stopped Fault; writes = write errorCode 0x2310 ∷ write errorRegister 0x01 ∷ []; sent = []; synced = false })
+    × (happens (Fault 0x2310 0x00) (node Stopped InFault) fresh
+    ≡ record { state = caused Stopped InFault; writes = write errorCode 0x2310 ∷ write errorRegister 0x01 ∷ []; sent = []; occasion = Plain })
 unfolding caused open-edges
 faults = (refl, refl)
 
 -- a fault reset: 1001h to 0, 603Fh stays, emergency 0000h with the register just after
-reset-by-control : sdo (0x2B ∷ 0x40 ∷ 0x60 ∷ 0x00 ∷ 0x80 ∷ 0x00 ∷ 0x00 ∷ 0x00 ∷ []) (node Operational Fault) (store errorRegister 0x81 fresh)
+reset-by-control : sdo (0x2B ∷ 0x40 ∷ 0x60 ∷ 0x00 ∷ 0x80 ∷ 0x00 ∷ 0x00 ∷ 0x00 ∷ []) (node Operational InFault) (store errorRegister 0x81 fresh)
     ≡ record {
       state = operational;
       writes = write controlWord 0x80 ∷ write errorRegister 0 ∷ [];
       sent = frame 0x585 (0x60 ∷ 0x40 ∷ 0x60 ∷ 0x00 ∷ 0x00 ∷ 0x00 ∷ 0x00 ∷ 0x00 ∷ []) ∷ emcy 0x00 0x00 ∷ [];
-      synced = false;
+      occasion = Plain;
     }
 unfolding open-edges
 reset-by-control = refl
 
 -- event 5 writes 6064h and 606Ch, and no more
-feedback-writes : happens (feedback 7 9) operational fresh ≡ record { state = operational; writes = write position 7 ∷ write velocity 9 ∷ []; sent = []; synced = false }
+feedback-writes : happens (Feedback 7 9) operational fresh ≡ record { state = operational; writes = write position 7 ∷ write velocity 9 ∷ []; sent = []; occasion = Plain }
 unfolding open-edges
 feedback-writes = refl
+
+-- what a call is to its own end: a SYNC that is served, a tick, any other
+occasions : (sync [] operational fresh .occasion ≡ Synced) × (sync [] preOperational fresh .occasion ≡ Plain) × (happens Tick operational fresh .occasion ≡ Ticked)
+    × (happens CauseGone operational fresh .occasion ≡ Plain)
+unfolding open-edges
+occasions = (refl, refl, refl, refl)

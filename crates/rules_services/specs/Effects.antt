@@ -1,11 +1,13 @@
--- What a service does, as data: the state's own parts after it, its writes in order, what it sends in order, and whether it
--- was a SYNC. Plans, ready frames, counts and due marks are not a service's to change: `rules` works them out at the call's end.
+-- What a service does, as data: the state's own parts after it, its writes in order, what it sends in order, and the occasion that it is to
+-- the call's end. Plans, ready frames and the transmit PDOs' paces are not a service's to change: `rules` works them out at that end.
 -- Assumes nothing.
 use Prim.Native.Nat.{ℕ}
 use mathlib.Core.List.{List, [], _++_}
-use mathlib.Core.Bool.{Bool, true, false, _||_}
+use mathlib.Core.Bool.{Bool}
 use Rattle.state.specs.declared.NmtState.{NmtState}
-use Rattle.state.specs.declared.NmtState.the-variants.{PreOperational, Operational, Stopped}
+use Rattle.state.specs.declared.Occasion.{Occasion}
+use Rattle.state.specs.declared.Occasion.the-variants.{Plain}
+use Rattle.state.specs.declared.Pace.{Pace}
 use Rattle.drive.specs.declared.Drive.{Drive}
 use Rattle.rules_dictionary.specs.declared.PdoData.{PdoData}
 use Rattle.state.specs.declared.Axis.{Axis}
@@ -25,28 +27,29 @@ pub record Effect : Type 0 where
   pub state : State
   pub writes : List Write
   pub sent : List Frame
-  pub synced : Bool
+  pub occasion : Occasion
 
 -- ---- effects
 
 -- the state, and nothing written or sent
 abbrev pub becomes : State → Effect
-becomes s = record { state = s; writes = []; sent = []; synced = false }
+becomes s = record { state = s; writes = []; sent = []; occasion = Plain }
 
 abbrev pub sends : List Frame → Effect → Effect
-sends fs e = record { state = e .state; writes = e .writes; sent = fs ++ e .sent; synced = e .synced }
+sends fs e = record { state = e .state; writes = e .writes; sent = fs ++ e .sent; occasion = e .occasion }
 
 abbrev pub writes : List Write → Effect → Effect
-writes ws e = record { state = e .state; writes = ws ++ e .writes; sent = e .sent; synced = e .synced }
+writes ws e = record { state = e .state; writes = ws ++ e .writes; sent = e .sent; occasion = e .occasion }
 
-abbrev pub syncs : Effect → Effect
-syncs e = record { state = e .state; writes = e .writes; sent = e .sent; synced = true }
+-- on that occasion
+abbrev pub on : Occasion → Effect → Effect
+on o e = record { state = e .state; writes = e .writes; sent = e .sent; occasion = o }
 
--- one effect, and then another that starts from what the first leaves
+-- one effect, and then another that starts from what the first leaves, on the occasion of the first
 unfoldable pub andThen : List ℕ → Effect → (State → List ℕ → Effect) → Effect
 andThen d e f =
     let e′ = f (e .state) (stored (e .writes) d) in
-    record { state = e′ .state; writes = e .writes ++ e′ .writes; sent = e .sent ++ e′ .sent; synced = e .synced || e′ .synced }
+    record { state = e′ .state; writes = e .writes ++ e′ .writes; sent = e .sent ++ e′ .sent; occasion = e .occasion }
 
 -- ---- the state with one part changed
 
@@ -59,17 +62,17 @@ withNode n s = record { node = n; axis = s .axis }
 abbrev pub withDrive : Drive → State → State
 withDrive v s =
     let a = s .axis in
-    withAxis (record { drive = v; plans = a .plans; ready = a .ready; held = a .held; counts = a .counts; due = a .due }) s
+    withAxis (record { drive = v; plans = a .plans; ready = a .ready; held = a .held; paces = a .paces }) s
 
 abbrev pub withHeld : List PdoData → State → State
 withHeld h s =
     let a = s .axis in
-    withAxis (record { drive = a .drive; plans = a .plans; ready = a .ready; held = h; counts = a .counts; due = a .due }) s
+    withAxis (record { drive = a .drive; plans = a .plans; ready = a .ready; held = h; paces = a .paces }) s
 
-abbrev pub withPacing : List ℕ → List Bool → State → State
-withPacing c u s =
+abbrev pub withPaces : List Pace → State → State
+withPaces ks s =
     let a = s .axis in
-    withAxis (record { drive = a .drive; plans = a .plans; ready = a .ready; held = a .held; counts = c; due = u }) s
+    withAxis (record { drive = a .drive; plans = a .plans; ready = a .ready; held = a .held; paces = ks }) s
 
 abbrev pub withNmt : NmtState → State → State
 withNmt m s =
@@ -85,23 +88,6 @@ abbrev pub withHeartbeat : ℕ → State → State
 withHeartbeat k s =
     let n = s .node in
     withNode (record { id = n .id; nmt = n .nmt; voltage = n .voltage; heartbeat = k }) s
-
--- ---- tests of the NMT state
-
-abbrev pub isPreOperational : NmtState → Bool
-isPreOperational PreOperational = true
-isPreOperational Operational = false
-isPreOperational Stopped = false
-
-abbrev pub isStopped : NmtState → Bool
-isStopped PreOperational = false
-isStopped Operational = false
-isStopped Stopped = true
-
-abbrev pub isOperational : NmtState → Bool
-isOperational PreOperational = false
-isOperational Operational = true
-isOperational Stopped = false
 
 -- opens every definition of this module, where a proof computes
 unfoldable pub open-effects : Unit {0}

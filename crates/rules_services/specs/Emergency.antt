@@ -7,7 +7,8 @@ use Rattle.state.specs.declared.State.{State}
 use Rattle.rules_dictionary.specs.Numbers.{bytes}
 use Rattle.rules_dictionary.specs.Table.{errorRegister}
 use Rattle.rules_dictionary.specs.Values.{read}
-use Rattle.rules_services.specs.Effects.{isStopped, Frame, frame}
+use Rattle.state.specs.NmtStates.{isStopped}
+use Rattle.rules_services.specs.Effects.{Frame, frame}
 
 abbrev pub emergencyBase : ℕ
 emergencyBase = 0x80
@@ -26,8 +27,8 @@ pdoTooShort = 0x8210
 abbrev pub pdoTooLong : ℕ
 pdoTooLong = 0x8220
 
-abbrev pub syncLength : ℕ
-syncLength = 0x8240
+abbrev pub badSyncLength : ℕ
+badSyncLength = 0x8240
 
 -- the dictionary is the one just after the cause
 unfoldable pub emergency : ℕ → State → List ℕ → List Frame

@@ -2,23 +2,24 @@
 -- Assumes nothing.
 use Prim.Native.Nat.{ℕ, suc, _+_}
 use mathlib.Core.List.{List, [], _∷_}
-use mathlib.Core.Bool.{Bool, false, cond, _&&_, _||_}
+use mathlib.Core.Bool.{Bool, false, cond, not, _&&_, _||_}
 use lib.Dec.{eqb, ltb}
 use lib.ListN.{getD, length}
 use Rattle.state.specs.declared.NmtState.{NmtState}
 use Rattle.state.specs.declared.NmtState.the-variants.{PreOperational, Operational, Stopped}
+use Rattle.state.specs.NmtStates.{isOperational, isPreOperational}
 use Rattle.rules_dictionary.specs.declared.Mode.the-variants.{NoMode}
 use Rattle.drive.specs.declared.DriveState.the-variants.{NotReady}
 use Rattle.drive.specs.declared.Store.the-variants.{Empty}
 use Rattle.state.specs.declared.State.{State}
-use Rattle.rules_dictionary.specs.Numbers.{filter}
-use Rattle.rules_dictionary.specs.Table.{table, heartbeatTime, isReset}
+use Rattle.rules_dictionary.specs.Numbers.{between, filter}
+use Rattle.rules_dictionary.specs.Table.{Row, table, same, errorRegister, heartbeatTime, isReset}
 use Rattle.rules_dictionary.specs.Values.{read, toDefaults}
 use Rattle.drive.specs.declared.Command.the-variants.{DisableVoltage}
 use Rattle.drive.specs.DriveStates.{next}
 use Rattle.drive.specs.SetPoints.{enters}
-use Rattle.rules_services.specs.Effects.{Effect, Frame, frame, becomes, sends, writes, withDrive, withHeld, withPacing, withNmt, withHeartbeat, isOperational, isPreOperational}
-use Rattle.rules_services.specs.PdoTraffic.{noneHeld}
+use Rattle.rules_services.specs.Effects.{Effect, Frame, frame, becomes, sends, writes, withDrive, withHeld, withPaces, withNmt, withHeartbeat}
+use Rattle.rules_services.specs.PdoTraffic.{noneHeld, allIdle}
 
 -- ---- heartbeat and boot-up on 700h+N
 
@@ -50,12 +51,6 @@ tick s d =
 
 -- ---- power-up
 
-abbrev pub noCounts : List ℕ
-noCounts = 0 ∷ 0 ∷ 0 ∷ 0 ∷ []
-
-abbrev pub noneDue : List Bool
-noneDue = false ∷ false ∷ false ∷ false ∷ []
-
 -- "Power-up ends in Pre-operational, Not ready, voltage off"; plans and ready frames are worked out at the call's end
 unfoldable pub freshState : ℕ → State
 freshState n =
@@ -66,8 +61,7 @@ freshState n =
         plans = [];
         ready = [];
         held = noneHeld;
-        counts = noCounts;
-        due = noneDue;
+        paces = allIdle;
       };
     }
 
@@ -86,18 +80,18 @@ nmtLength = 2
 abbrev pub everyNode : ℕ
 everyNode = 0
 
-pub data Command : Type 0 where
-  start stop enterPreOperational resetNode resetCommunication unknown : Command
+pub data NmtCommand : Type 0 where
+  start stop enterPreOperational resetNode resetCommunication unknown : NmtCommand
 
 -- "01h Operational, 02h Stopped, 80h Pre-operational, 81h as power-up, 82h .."
-unfoldable pub commandOf : ℕ → Command
+unfoldable pub commandOf : ℕ → NmtCommand
 commandOf c =
     cond (eqb c 0x01) start
     (cond (eqb c 0x02) stop (cond (eqb c 0x80) enterPreOperational (cond (eqb c 0x81) resetNode (cond (eqb c 0x82) resetCommunication unknown))))
 
 -- "Leaving Operational clears held frames, counts and due marks."
 unfoldable pub left : State → State
-left s = withHeld noneHeld (withPacing noCounts noneDue s)
+left s = withHeld noneHeld (withPaces allIdle s)
 
 -- "02h and 82h also act as Disable voltage (001); 6040h keeps its value."
 unfoldable pub voltageDisabled : State → State
@@ -106,7 +100,7 @@ voltageDisabled s =
     withDrive (enters (next (v .cause) (v .state) DisableVoltage) v) s
 
 -- "01h and 80h to the present state do nothing."
-unfoldable pub commanded : Command → State → Effect
+unfoldable pub commanded : NmtCommand → State → Effect
 commanded start s = cond (isOperational (s .node .nmt)) (becomes s) (becomes (withNmt Operational s))
 commanded stop s = becomes (withNmt Stopped (left (voltageDisabled s)))
 commanded enterPreOperational s = cond (isPreOperational (s .node .nmt)) (becomes s) (becomes (withNmt PreOperational (left s)))

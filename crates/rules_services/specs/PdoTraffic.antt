@@ -6,6 +6,12 @@ use mathlib.Core.Bool.{Bool, true, false, cond, not, _&&_, _||_}
 use lib.Dec.{eqb, ltb}
 use lib.ListN.{getD, length, take, set}
 use Rattle.state.specs.declared.NmtState.{NmtState}
+use Rattle.state.specs.declared.Occasion.{Occasion}
+use Rattle.state.specs.declared.Occasion.the-variants.{Synced}
+use Rattle.state.specs.declared.Pace.{Pace}
+use Rattle.state.specs.NmtStates.{isOperational, isStopped}
+use Rattle.state.specs.Occasions.{isSynced}
+use Rattle.rules_services.specs.declared.Paced.{Paced}
 use Rattle.rules_dictionary.specs.declared.PdoData.{PdoData}
 use Rattle.state.specs.declared.State.{State}
 use Rattle.rules_dictionary.specs.Numbers.{all, sum}
@@ -14,8 +20,8 @@ use Rattle.rules_dictionary.specs.Values.{Write, read, unpacked}
 use Rattle.rules_dictionary.specs.Aborts.{isGood}
 use Rattle.rules_dictionary.specs.Legal.{isValid, frameIdentifier, isSynchronous, isCyclic, valueVerdict}
 use Rattle.rules_dictionary.specs.Plans.{mapped, pdoData}
-use Rattle.rules_services.specs.Effects.{isStopped, Effect, Frame, frame, becomes, sends, syncs, andThen, withHeld, isOperational}
-use Rattle.rules_services.specs.Emergency.{emergency, pdoTooShort, pdoTooLong, valueRefused, syncLength}
+use Rattle.rules_services.specs.Effects.{Effect, Frame, frame, becomes, sends, on, andThen, withHeld}
+use Rattle.rules_services.specs.Emergency.{emergency, pdoTooShort, pdoTooLong, valueRefused, badSyncLength}
 use Rattle.rules_services.specs.Written.{applied}
 
 -- "A PDO works only in Operational, valid, with something mapped."
@@ -91,38 +97,40 @@ releaseAll (p ∷ ps) s d = andThen d (release p s d) (releaseAll ps)
 unfoldable pub sync : List ℕ → State → List ℕ → Effect
 sync bs s d =
     cond (isStopped (s .node .nmt)) (becomes s)
-    (cond (not (eqb (length bs) 0)) (sends (emergency syncLength s d) (becomes s))
-    (cond (isOperational (s .node .nmt)) (syncs (releaseAll receivePdos s d)) (becomes s)))
+    (cond (not (eqb (length bs) 0)) (sends (emergency badSyncLength s d) (becomes s))
+    (cond (isOperational (s .node .nmt)) (on Synced (releaseAll receivePdos s d)) (becomes s)))
 
 -- ---- transmit
 
--- what is decided of one transmit PDO at a call's end: whether it is sent, and what is kept
-pub record Pace : Type 0 where
-  pub send : Bool
-  pub count : ℕ
-  pub due : Bool
+-- whether a transmit PDO is sent at a call's end, and what is kept of it
+abbrev pub paced : Bool → ℕ → Bool → Paced
+paced send count due = record { send = send; kept = record { count = count; due = due } }
 
-abbrev pub pace : Bool → ℕ → Bool → Pace
-pace b c u = record { send = b; count = c; due = u }
+-- nothing counted, and not due
+abbrev pub idle : Pace
+idle = record { count = 0; due = false }
+
+abbrev pub allIdle : List Pace
+allIdle = idle ∷ idle ∷ idle ∷ idle ∷ []
 
 -- "Type 1..240: each n-th SYNC since entering Operational."
-unfoldable pub cyclic : ℕ → Bool → ℕ → Pace
+unfoldable pub cyclic : ℕ → Bool → ℕ → Paced
 cyclic n synced count =
-    cond synced (cond (eqb (suc count) n) (pace true 0 false) (pace false (suc count) false)) (pace false count false)
+    cond synced (cond (eqb (suc count) n) (paced true 0 false) (paced false (suc count) false)) (paced false count false)
 
 -- "Type 0: if any call, this one included, changed its ready frame since last sent, or none was sent since entering."
-unfoldable pub acyclic : Bool → Bool → Pace
-acyclic synced due = pace (synced && due) 0 (not synced && due)
+unfoldable pub acyclic : Bool → Bool → Paced
+acyclic synced due = paced (synced && due) 0 (not synced && due)
 
 -- "254, 255: whenever a call that ends Operational changed its ready frame or entered Operational."
-unfoldable pub eventDriven : Bool → Pace
-eventDriven changed = pace changed 0 false
+unfoldable pub eventDriven : Bool → Paced
+eventDriven changed = paced changed 0 false
 
 -- by type; `changed` is: this call changed the ready frame or entered Operational
-unfoldable pub paceOf : ℕ → Bool → Bool → ℕ → Bool → Pace
-paceOf type synced changed count due =
-    cond (isCyclic type) (cyclic type synced count)
-    (cond (eqb type 0) (acyclic synced (due || changed)) (eventDriven changed))
+unfoldable pub paceOf : ℕ → Occasion → Bool → Pace → Paced
+paceOf type occasion changed k =
+    cond (isCyclic type) (cyclic type (isSynced occasion) (k .count))
+    (cond (eqb type 0) (acyclic (isSynced occasion) (k .due || changed)) (eventDriven changed))
 
 -- the frame of a transmit PDO
 unfoldable pub transmitted : List ℕ → ℕ → PdoData → Frame

@@ -14,7 +14,10 @@ use Rattle.rules_dictionary.specs.Table.{Row, ValueType, u8, u16, u32, i8, i32,
 use Rattle.rules_dictionary.specs.Values.{read, write}
 use Rattle.rules_dictionary.specs.Aborts.{Abort, abortCode, Verdict, good, bad, test, firstOf, unknownCommand, noObject, noSubindex, noWriting, tooLong, tooShort, wrongTime}
 use Rattle.rules_dictionary.specs.Legal.{valueVerdict, isValid}
-use Rattle.rules_services.specs.Effects.{Effect, Frame, frame, becomes, sends, isPreOperational}
+use Rattle.state.specs.NmtStates.{isPreOperational}
+use Rattle.rules_services.specs.declared.SdoCommand.{SdoCommand}
+use Rattle.rules_services.specs.declared.SdoCommand.the-variants.{Download, Upload, ClientAbort, Unknown}
+use Rattle.rules_services.specs.Effects.{Effect, Frame, frame, becomes, sends}
 use Rattle.rules_services.specs.Written.{applied}
 
 abbrev pub requestBase : ℕ
@@ -62,13 +65,12 @@ abbrev pub unusedBytes : ℕ → ℕ
 unusedBytes c = bits 2 4 c
 
 -- "Command bits 7-5: 1 download, 2 upload, 4 client abort (no reply), else abort 05040001h. Download: bit 1 must be 1, else 05040001h"
-pub data Command : Type 0 where
-  download upload clientAbort unknown : Command
-
-unfoldable pub commandOf : ℕ → Command
+unfoldable pub commandOf : ℕ → SdoCommand
 commandOf c =
     let k = commandNumber c in
-    cond (eqb k 1) (cond (bit expeditedBit c) download unknown) (cond (eqb k 2) upload (cond (eqb k 4) clientAbort unknown))
+    cond (eqb k 1) (cond (bit expeditedBit c) Download Unknown) (cond (eqb k 2) Upload (cond (eqb k 4) ClientAbort Unknown))
+
+-- ---- a download
 
 -- "with bit 0 set the size is 4 minus bits 3-2, else the object's"
 unfoldable pub toldSize : List ℕ → Row → ℕ
@@ -77,6 +79,16 @@ toldSize rq x = cond (bit sizeToldBit (commandByte rq)) (dataSize - unusedBytes 
 -- the value: the object's size, first bytes
 unfoldable pub askedValue : List ℕ → Row → ℕ
 askedValue rq x = value (part dataPlace (sizeOf x) rq)
+
+-- what a download offers an object: how many bytes, and the value of as many as the object has
+pub record Offer : Type 0 where
+  pub row : Row
+  pub size : ℕ
+  pub value : ℕ
+
+-- by an expedited request
+abbrev pub expedited : List ℕ → Row → Offer
+expedited rq x = record { row = x; size = toldSize rq x; value = askedValue rq x }
 
 -- ---- replies on 580h+N: "Index and subindex are echoed, unused bytes zero."
 
@@ -108,28 +120,32 @@ isWrongTime nmt d (MappingCount p) = not (isPreOperational nmt) || isValid (read
 isWrongTime nmt d (MappingEntry p) = not (isPreOperational nmt) || isValid (read d (identifier p)) || not (eqb (read d (mapCount p)) 0)
 
 -- "download to c or o 06010002h; longer 06070012h, shorter 06070013h; wrong time 08000022h;" and then the value's own tests
-unfoldable pub downloadVerdict : List ℕ → NmtState → List ℕ → Row → Verdict
-downloadVerdict rq nmt d x =
+unfoldable pub offerVerdict : NmtState → List ℕ → Offer → Verdict
+offerVerdict nmt d t =
+    let x = t .row in
     firstOf
     (test (not (isWritable (x .access))) noWriting
-    ∷ test (ltb (sizeOf x) (toldSize rq x)) tooLong
-    ∷ test (ltb (toldSize rq x) (sizeOf x)) tooShort
+    ∷ test (ltb (sizeOf x) (t .size)) tooLong
+    ∷ test (ltb (t .size) (sizeOf x)) tooShort
     ∷ test (isWrongTime nmt d (x .role)) wrongTime
     ∷ [])
-    (valueVerdict d x (askedValue rq x))
+    (valueVerdict d x (t .value))
+
+abbrev pub downloadVerdict : List ℕ → NmtState → List ℕ → Row → Verdict
+downloadVerdict rq nmt d x = offerVerdict nmt d (expedited rq x)
 
 -- ---- the services
 
 unfoldable pub abort : Abort → List ℕ → State → Effect
 abort a rq s = sends (reply aborted rq s (bytes dataSize (abortCode a))) (becomes s)
 
-unfoldable pub decided : Verdict → List ℕ → Row → State → List ℕ → Effect
-decided good rq x s d =
-    sends (reply downloaded rq s (bytes dataSize 0)) (applied (write x (askedValue rq x) ∷ []) s d)
-decided (bad a) rq x s d = abort a rq s
+unfoldable pub judged : Verdict → List ℕ → Offer → State → List ℕ → Effect
+judged good rq t s d =
+    sends (reply downloaded rq s (bytes dataSize 0)) (applied (write (t .row) (t .value) ∷ []) s d)
+judged (bad a) rq t s d = abort a rq s
 
 unfoldable pub toRow : Bool → List ℕ → Row → State → List ℕ → Effect
-toRow true rq x s d = decided (downloadVerdict rq (s .node .nmt) d x) rq x s d
+toRow true rq x s d = judged (downloadVerdict rq (s .node .nmt) d x) rq (expedited rq x) s d
 toRow false rq x s d = sends (reply (uploaded (x .type)) rq s (bytes dataSize (read d x))) (becomes s)
 
 -- "no object 06020000h; no subindex 06090011h;"
@@ -138,16 +154,16 @@ toObject writing rq (found x) s d = toRow writing rq x s d
 toObject writing rq missing s d = abort noObject rq s
 toObject writing rq missingSubindex s d = abort noSubindex rq s
 
-unfoldable pub asked : Command → List ℕ → State → List ℕ → Effect
-asked download rq s d = toObject true rq (lookup (askedIndex rq) (askedSubindex rq)) s d
-asked upload rq s d = toObject false rq (lookup (askedIndex rq) (askedSubindex rq)) s d
-asked clientAbort rq s d = becomes s
-asked unknown rq s d = abort unknownCommand rq s
+unfoldable pub asked : SdoCommand → List ℕ → State → List ℕ → Effect
+asked Download rq s d = toObject true rq (lookup (askedIndex rq) (askedSubindex rq)) s d
+asked Upload rq s d = toObject false rq (lookup (askedIndex rq) (askedSubindex rq)) s d
+asked ClientAbort rq s d = becomes s
+asked Unknown rq s d = abort unknownCommand rq s
 
 unfoldable pub sdo : List ℕ → State → List ℕ → Effect
 sdo rq s d = asked (commandOf (commandByte rq)) rq s d
 
 -- opens every definition of this module, where a proof computes
 unfoldable pub open-sdo : Unit {0}
-unfolding commandOf toldSize askedValue reply isWrongTime downloadVerdict abort decided toRow toObject asked sdo
+unfolding commandOf toldSize askedValue reply isWrongTime offerVerdict abort judged toRow toObject asked sdo
 open-sdo = tt

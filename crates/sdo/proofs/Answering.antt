@@ -4,21 +4,27 @@ use Prim.Native.Nat.{ℕ, _+_, _/_, _%_, _≤_}
 use native.Mathlib.Omega.{arith}
 use mathlib.Core.Path.{_≡_, refl, sym, _∙_, ap, subst}
 use mathlib.Core.List.{List, [], _∷_}
+use mathlib.Core.Bool.{true, false}
 use lib.Dec.{lit≤}
 use lib.ListN.{length, getD}
 use Rattle.rules_dictionary.specs.declared.PdoData.{PdoData}
-use Rattle.state.specs.declared.State.{State}
+use Rattle.state.specs.declared.Occasion.the-variants.{Plain}
 use Rattle.rules_dictionary.specs.Numbers.{bytes}
+use Rattle.rules_dictionary.specs.Table.{Row, ValueType, u8, u16, u32, i8, i32, size}
 use Rattle.rules_dictionary.specs.Values.{stored}
 use Rattle.rules_dictionary.specs.Plans.{pdoData}
-use Rattle.rules_services.specs.Effects.{Frame, becomes, sends}
-use Rattle.rules_services.specs.Sdo.{reply, replyBase, requestLength, dataSize}
+use Rattle.rules_services.specs.Effects.{Frame}
+use Rattle.rules_services.specs.Sdo.{reply, replyBase, requestLength, dataSize, uploaded}
+use Rattle.rules.specs.Outcome.{sentInto}
+use Rattle.dictionary.specs.declared.Entry.{Entry}
+use Rattle.dictionary.specs.Entries.{entryOf}
 use Rattle.output.specs.Laying.{IsData, frameOf}
-use Rattle.output.proofs.Laws.{is-data, frame-of-data}
-use Rattle.effects.specs.declared.Done.{Done}
-use Rattle.effects.proofs.Laws.{calm-said}
-use Rattle.sdo.specs.Serving.{Served}
-use Rattle.sdo.specs.Requests.{replyBytes, replyOf, Replied}
+use Rattle.output.proofs.Frames.{is-data, frame-of-data}
+use Rattle.output.specs.declared.Parts.{Parts}
+use Rattle.output.specs.Leaves.{withParts}
+use Rattle.output.proofs.Left.{calm-said}
+use Rattle.sdo.specs.Requests.{replyBytes, replyOf, uploadedBy}
+use Rattle.sdo.specs.Serving.{Says}
 
 -- ---- the frame of a reply
 
@@ -52,9 +58,22 @@ module _ (c v : ℕ) (rq : List ℕ) (content : PdoData) (is : content ≡ pdoDa
   pub reply-sent : (n : ℕ) → frameOf (replyBase + n) content ∷ [] ≡ replyOf c v rq n
   reply-sent n = ap (λ (f : Frame). f ∷ []) (ap (frameOf (replyBase + n)) is ∙ frame-of-data (replyBase + n) (replyBytes c v rq) (reply-short c v rq))
 
+-- the reply's command to an upload, by the entry's size
+pub uploaded-by : (e : Entry) (x : Row) → e ≡ entryOf x → uploadedBy (e .size) ≡ uploaded (x .type)
+uploaded-by e x is = ap (λ (y : Entry). uploadedBy (y .size)) is ∙ go (x .type)
+  where
+    go : (t : ValueType) → uploadedBy (size t) ≡ uploaded t
+    go u8 = refl
+    go u16 = refl
+    go u32 = refl
+    go i8 = refl
+    go i32 = refl
+
 -- THE LAW of a reply alone
-pub replied : (c v : ℕ) (rq : List ℕ) (s : State) (d o : List ℕ) (r : Done) (o′ : List ℕ) →
-    Replied c v rq s o r o′ → Served s (sends (reply c rq s (bytes dataSize v)) (becomes s)) d o r d o′
+pub replied : (c v : ℕ) (rq : List ℕ) (p : Parts) (o o′ : List ℕ) → o′ ≡ sentInto o (replyOf c v rq (p .node .id)) →
+    Says c v rq p o (record { parts = p; frames = 1; touched = false; remapped = false; occasion = Plain; quiet = true }) o′
 unfolding reply stored
-replied c v rq s d o r o′ h =
-    rw (h .left) (record { parts = refl; frames = refl; touched = refl; remapped = refl; synced = refl; quiet = λ q. calm-said s (reply c rq s (bytes dataSize v)); dictionary = refl; output = h .output })
+replied c v rq p o o′ h d s = (
+  record { parts = refl; frames = refl; touched = refl; remapped = refl; occasion = refl; dictionary = refl; output = h },
+  λ q. calm-said (withParts p s) (reply c rq (withParts p s) (bytes dataSize v)),
+)

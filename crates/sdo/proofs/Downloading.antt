@@ -1,82 +1,205 @@
--- A good download: the reply, the value stored, and acted on where it is of no mapping, are the effect that the rules give it.
+-- A download: what is offered to an entry is offered to its row; refused it is aborted, and a good value is stored and acted on behind the reply.
 -- Assumes nothing.
-use Prim.Native.Nat.{ℕ}
+use Prim.Native.Nat.{ℕ, _+_, _-_, _^_, _<_, _≤_}
 use native.Mathlib.Omega.{arith}
-use mathlib.Core.Path.{_≡_, refl, _∙_, ap}
-use mathlib.Core.Bool.{Bool, true, false, _||_}
-use mathlib.Core.List.{List, [], _∷_}
-use lib.Dec.{eqb}
+use mathlib.Core.Path.{_≡_, refl, sym, _∙_, ap}
+use mathlib.Core.Bool.{Bool, true, false, cond, not, _||_, Bool·beq}
+use mathlib.Core.List.{List, [], _∷_, _++_}
+use lib.Dec.{eqb, lit≤}
+use lib.Seq.{sets}
+use lib.ListN.{length, take, drop}
 use Rattle.state.specs.declared.State.{State}
-use Rattle.rules_dictionary.specs.Numbers.{bytes}
-use Rattle.rules_dictionary.specs.Table.{Row, table, placeOf, isWritable, controlWord, mode}
+use Rattle.state.specs.declared.NmtState.{NmtState}
+use Rattle.rules_dictionary.specs.TheNode.{lastNode}
+use Rattle.rules_dictionary.specs.Numbers.{all, value, bytes, part}
+use Rattle.rules_dictionary.specs.Table.{Row, table, placeOf, isWritable, transmit, mode, controlWord, heartbeatTime, open-table}
 use Rattle.rules_dictionary.specs.Values.{write, read, store, stored}
+use Rattle.rules_dictionary.specs.Legal.{suits, valueVerdict}
 use Rattle.rules_dictionary.specs.Members.{In}
-use Rattle.rules_services.specs.Effects.{Effect, sends, writes}
-use Rattle.rules_services.specs.Sdo.{reply, downloaded, dataSize}
-use Rattle.rules_services.specs.Written.{applied, countRestarted}
+use Rattle.rules_dictionary.specs.Aborts.{Test, Verdict, good, bad, test, firstOf, noWriting}
+use Rattle.rules_dictionary.proofs.Tests.{all-in}
+use Rattle.rules_services.specs.Effects.{Effect, Frame, becomes, sends, writes, withDrive, withHeartbeat}
+use Rattle.rules_services.specs.Sdo as sdo
+use Rattle.rules_services.specs.Written.{wrote, applied, countRestarted, faultReset}
+use Rattle.rules_services.specs.Emergency.{emergency}
+use Rattle.drive.specs.SetPoints.{controlWritten}
+use Rattle.state.specs.NmtStates.{isStopped}
+use Rattle.rules.specs.Outcome.{frameSize, sentInto}
+use Rattle.dictionary.specs.declared.Entry.{Entry}
+use Rattle.dictionary.specs.Entries.{entryOf, Stands}
 use Rattle.output.specs.Laying.{emitted}
-use Rattle.output.proofs.Laws.{emitted-then}
-use Rattle.effects.specs.declared.Done.{Done}
-use Rattle.effects.specs.Leaves.{partsOf, Did}
-use Rattle.effects.specs.Acts.{acts}
-use Rattle.effects.proofs.Laws.{stored-acted, loud}
-use Rattle.sdo.specs.Serving.{restartedAt, isMapping, Served}
-use Rattle.sdo.proofs.Acting.{mode-at, control-at, heartbeat-at, unsent, mapping-applied, Acted, acts-leave}
+use Rattle.output.proofs.Frames.{emitted-then, lent-back}
+use Rattle.output.specs.declared.Parts.{Parts}
+use Rattle.output.specs.declared.Done.{Done}
+use Rattle.output.specs.Leaves.{bare, withParts, isMapping, Leaves}
+use Rattle.output.proofs.Left.{left-alike, loud}
+use Rattle.emergency.specs.Acts.{acts, controlActs, modeActs}
+use Rattle.emergency.proofs.Written.{stored-acted, acts-alike}
+use Rattle.sdo.specs.declared.Offer.{Offer}
+use Rattle.sdo.specs.Verdicts.{verdictCode, roleVerdict, valueVerdictOf}
+use Rattle.sdo.specs.Requests.{objectAsked, replyOf, offeredBy, offerVerdictOf}
+use Rattle.sdo.specs.Serving.{said, Says, Serves, Applies, restartedIf}
+use Rattle.sdo.proofs.Verdicts.{good-code, is-good}
 
--- what is left of a written mapping: its plan is worked at the call's end
-abbrev pub remapped : State → Done
-remapped s = record { parts = partsOf s; frames = 1; touched = true; remapped = true; synced = false; quiet = false }
+-- ---- the verdict
 
-module _ (rq : List ℕ) (s : State) (d o : List ℕ) {x : Row} (i : In x table) (v : ℕ) (may : isWritable (x .access) ≡ true) where
-  abbrev answered : Effect
-  answered = sends (reply downloaded rq s (bytes dataSize 0)) (applied (write x v ∷ []) s d)
+-- over an entry it is the one over its row
+offer-of-row : (rq : List ℕ) (nmt : NmtState) (d : List ℕ) (x : Row) →
+    offerVerdictOf nmt d (entryOf x) (offeredBy rq (entryOf x .size)) ≡ sdo.downloadVerdict rq nmt d x
+unfolding offerVerdictOf sdo.offerVerdict sdo.toldSize sdo.askedValue valueVerdictOf roleVerdict valueVerdict firstOf
+offer-of-row rq nmt d x = refl
 
-  -- a mapping
-  pub mapping-served : isMapping (x .role) ≡ true → (o′ : List ℕ) → o′ ≡ emitted 0 (reply downloaded rq s (bytes dataSize 0)) o →
-      Served s answered d o (remapped s) (store x v d) o′
-  unfolding stored reply
-  mapping-served h o′ out =
-      rw (mapping-applied i v s d h)
-      (record {
-        parts = refl;
-        frames = refl;
-        touched = rw (unsent i may, h);
-        remapped = rw h;
-        synced = refl;
-        quiet = loud s _ (remapped s) refl;
-        dictionary = refl;
-        output = out;
-      })
+-- a good one is of a writable entry
+good-writable : (b : Bool) (ts : List Test) (v : Verdict) → firstOf (test (not b) noWriting ∷ ts) v ≡ good → b ≡ true
+unfolding firstOf
+good-writable true ts v h = refl
+good-writable false ts v h = cc
 
-  -- any other: the value is acted on
-  module _ (plain : isMapping (x .role) ≡ false) where
-    abbrev effect : Effect
-    effect = acts (read d controlWord) (eqb (placeOf x) (placeOf mode)) (eqb (placeOf x) (placeOf controlWord)) (restartedAt (placeOf x) s) (store x v d)
+refused : (v : Verdict) (rq : List ℕ) (t : sdo.Offer) (s : State) (d : List ℕ) → (verdictCode v ≡ 0 → ⊥) →
+    sdo.judged v rq t s d ≡ said sdo.aborted (verdictCode v) rq s
+unfolding sdo.judged sdo.abort
+refused good rq t s d h = absurd (h refl)
+refused (bad a) rq t s d h = refl
 
-    acted : Acted effect
-    acted = acts-leave _ _ _ _ _
+-- THE LAWS of a download, by what its verdict's code tells
+module _ (rq : List ℕ) (p : Parts) (d : List ℕ) {e : Entry} (st : Stands (sdo.askedIndex rq) (sdo.askedSubindex rq) e)
+    {t : Offer} (offered : t ≡ offeredBy rq (e .size)) {code : ℕ} (is : code ≡ verdictCode (offerVerdictOf (p .node .nmt) d e t)) where
+  abbrev verdict : Verdict
+  verdict = offerVerdictOf (p .node .nmt) d e t
 
-    -- as the rules have it
-    is-applied : applied (write x v ∷ []) s d ≡ writes (write x v ∷ []) effect
-    unfolding stored countRestarted
-    is-applied = stored-acted (write x v ∷ []) s d ∙ rw (mode-at i v, control-at i v, heartbeat-at i v)
+  asked-is : (s : State) → s .node .nmt ≡ p .node .nmt → objectAsked true rq s d ≡ sdo.judged verdict rq (sdo.expedited rq (st .row)) s d
+  unfolding sdo.toObject sdo.toRow
+  asked-is s n =
+      let over : Entry → Verdict = λ y. offerVerdictOf (p .node .nmt) d y (offeredBy rq (y .size)) in
+      rw (st .finds, n, ← offer-of-row rq (p .node .nmt) d (st .row), ← ap over (st .is-entry), ← offered)
 
-    or-none : (b : Bool) → b ≡ (b || false)
-    or-none true = refl
-    or-none false = refl
+  pub download-refused : {o o′ : List ℕ} {r : Done} → (code ≡ 0 → ⊥) → Says sdo.aborted code rq p o r o′ → Serves (objectAsked true rq) p d o r d o′
+  download-refused n h s =
+      rw (asked-is (withParts p s) refl, refused verdict rq (sdo.expedited rq (st .row)) (withParts p s) d (λ z. n (is ∙ z)), ← is) (h d s)
 
-    pub acted-served : (r : Done) (d′ o₁ o′ : List ℕ) → o₁ ≡ emitted 0 (reply downloaded rq s (bytes dataSize 0)) o →
-        Did effect 1 (store x v d) o₁ r d′ o′ × (r .quiet ≡ false) → Served s answered d o r d′ o′
-    unfolding stored reply
-    acted-served r d′ o₁ o′ out (h, busy) =
-        rw is-applied
-        (record {
-          parts = h .parts;
-          frames = omega (arith, h .frames);
-          touched = rw (unsent i may, plain, acted .unmapped) (h .touched ∙ or-none _);
-          remapped = rw (plain, acted .unmapped) (h .remapped);
-          synced = h .synced ∙ acted .synced;
-          quiet = loud s _ r busy;
-          dictionary = h .dictionary;
-          output = h .output ∙ ap (emitted 1 (effect .sent)) out ∙ emitted-then 0 (reply downloaded rq s (bytes dataSize 0)) (effect .sent) o (omega arith);
-        })
+  module _ (zero : code ≡ 0) where
+    fine : verdict ≡ good
+    fine = is-good verdict (good-code verdict ∙ rw (← is, zero) refl)
+
+    pub download-writable : isWritable (e .access) ≡ true
+    unfolding offerVerdictOf
+    download-writable = good-writable (isWritable (e .access)) _ _ fine
+
+    pub download-applied : {o d′ o′ : List ℕ} {r : Done} → Applies rq e (t .value) p d o r d′ o′ → Serves (objectAsked true rq) p d o r d′ o′
+    unfolding sdo.judged sdo.askedValue
+    download-applied h s =
+        let v = ap (λ (u : Offer). u .value) offered ∙ ap (λ (y : Entry). value (part sdo.dataPlace (y .size) rq)) (st .is-entry) in
+        rw (asked-is (withParts p s) refl, fine, ← v) (h st s)
+
+-- ---- a value stored and acted on
+
+-- a test by place is the test by index and subindex
+isAt : Row → Row → Bool
+isAt y x = Bool·beq (wrote y (write x 0 ∷ [])) (eqb (placeOf x) (placeOf y))
+
+same-test : (a b : Bool) → Bool·beq a b ≡ true → a ≡ b
+same-test true true h = refl
+same-test true false h = sym h
+same-test false true h = h
+same-test false false h = refl
+
+wrote-at : (y : Row) → all (isAt y) table ≡ true → {x : Row} → In x table → (v : ℕ) → wrote y (write x v ∷ []) ≡ eqb (placeOf x) (placeOf y)
+unfolding isAt
+wrote-at y test i v = same-test _ _ (all-in (isAt y) i test)
+
+-- a writable row is not mapped to transmit
+unsent : {x : Row} → In x table → isWritable (x .access) ≡ true → suits transmit (x .mappable) ≡ false
+unfolding open-table
+unsent {x} i h =
+    go (isWritable (x .access)) (suits transmit (x .mappable)) h
+    (all-in (λ x. not (isWritable (x .access)) || not (suits transmit (x .mappable))) i refl)
+  where
+    go : (a b : Bool) → a ≡ true → (not a || not b) ≡ true → b ≡ false
+    go a true h t = let z : _≡_ {A = Bool} false true = rw h at t in sym z
+    go a false h t = refl
+
+-- at most the emergency of a fault reset follows
+acts-short : (old : ℕ) (m c : Bool) (s : State) (d : List ℕ) → length (acts old m c s d .sent) ≤ 1
+unfolding acts controlActs faultReset emergency
+acts-short old m false s d = lit≤ tt
+acts-short old m true s d =
+    let t = withDrive (modeActs m (s .axis .drive) d) s in
+    let c = controlWritten d old (t .axis .drive) in
+    by (c .reset) (withDrive (c .drive) t)
+  where
+    one : (stopped : Bool) (f : Frame) → length (cond stopped [] (f ∷ []) ++ []) ≤ 1
+    one true f = lit≤ tt
+    one false f = lit≤ tt
+
+    by : (reset : Bool) (t : State) → length (cond reset (faultReset t d) (becomes t) .sent) ≤ 1
+    by true t = one (isStopped (t .node .nmt)) _
+    by false t = lit≤ tt
+
+pub acts-fit : (old : ℕ) (m c : Bool) (s : State) (d : List ℕ) (n : ℕ) → n ≡ length (acts old m c s d .sent) → n + 1 < 2 ^ 64
+acts-fit old m c s d n e = omega (arith, acts-short old m c s d)
+
+-- the node-ID stays
+pub restarted-id : (b : Bool) (p q : Parts) → q ≡ restartedIf b p → p .node .id ≤ lastNode → q .node .id ≤ lastNode
+restarted-id true p q e h = rw e h
+restarted-id false p q e h = rw e h
+
+-- what is left behind the reply: its frame too, and the mapping that was written
+abbrev pub behindReply : Bool → Done → Done
+behindReply m r =
+    record { parts = r .parts; frames = r .frames + 1; touched = r .touched; remapped = m || r .remapped; occasion = r .occasion; quiet = false }
+
+-- the count restarted
+restarts : (b : Bool) (p : Parts) (s : State) → cond b (withHeartbeat 0 (withParts p s)) (withParts p s) ≡ withParts (restartedIf b p) s
+restarts true p s = refl
+restarts false p s = refl
+
+module _ (rq : List ℕ) (p : Parts) (d o : List ℕ) {e : Entry} (st : Stands (sdo.askedIndex rq) (sdo.askedSubindex rq) e) (v : ℕ)
+    (may : isWritable (e .access) ≡ true) where
+  x : Row
+  x = st .row
+
+  -- what follows from the value, in a state of which the count is restarted
+  abbrev acting : State → Effect
+  acting s =
+      acts (read d controlWord) (eqb (placeOf x) (placeOf mode)) (eqb (placeOf x) (placeOf controlWord))
+      (withParts (restartedIf (eqb (placeOf x) (placeOf heartbeatTime)) p) s) (store x v d)
+
+  is-applied : (s : State) → applied (write x v ∷ []) (withParts p s) d ≡ writes (write x v ∷ []) (acting s)
+  unfolding stored countRestarted x isAt open-table
+  is-applied s =
+      let i = st .listed in
+      stored-acted (write x v ∷ []) (withParts p s) d
+      ∙ rw (
+        wrote-at mode refl i v,
+        wrote-at controlWord refl i v,
+        wrote-at heartbeatTime refl i v,
+        restarts (eqb (placeOf x) (placeOf heartbeatTime)) p s,
+      )
+
+  -- THE LAW of a good value: behind the reply, in the output from the next frame on, it is acted on
+  pub apply-left : {m : Bool} {old : ℕ} {next : Parts} {r : Done} {d₁ o₁ d′ back : List ℕ} → m ≡ isMapping (e .role) →
+      d₁ ≡ sets d (e .place) (bytes (e .size) v) → o₁ ≡ sentInto o (replyOf sdo.downloaded 0 rq (p .node .id)) → old ≡ read d controlWord →
+      next ≡ restartedIf (eqb (e .place) (placeOf heartbeatTime)) p →
+      Leaves (acts old (eqb (e .place) (placeOf mode)) (eqb (e .place) (placeOf controlWord)) (bare next) d₁) d₁
+      (take (length o₁ - frameSize) (drop frameSize o₁)) r d′ back →
+      Serves (λ s d. sends (sdo.reply sdo.downloaded rq s (bytes sdo.dataSize 0)) (applied (write (st .row) v ∷ []) s d)) p d o
+      (behindReply m r) d′ (take frameSize o₁ ++ (back ++ drop (length o₁ - frameSize) (drop frameSize o₁)))
+  unfolding x stored sdo.reply emitted
+  apply-left {m} {old} {next} {r} {d₁} {o₁} {d′} {back} named put told was restarted h s =
+      let k = length o₁ - frameSize in
+      let at : e .place ≡ placeOf x = ap (λ (y : Entry). y .place) (st .is-entry) in
+      let f : Leaves (acting s) (store x v d) (take k (drop frameSize o₁)) r d′ back =
+      rw (restarted, was, put, st .writes v d, at) at (left-alike (acts-alike old _ _ (withParts next s) d₁) h) in
+      rw (is-applied s) (
+        record {
+          parts = f .parts;
+          frames = omega (arith, f .frames);
+          touched = rw (unsent (st .listed) (rw (st .is-entry) at may)) (f .touched);
+          remapped = rw (named, f .remapped, ← ap (λ (y : Entry). isMapping (y .role)) (st .is-entry)) refl;
+          occasion = f .occasion;
+          dictionary = f .dictionary;
+          output = lent-back o₁ back (acting s .sent) 1 k (omega arith) (f .output) ∙ ap (emitted 1 (acting s .sent)) told
+              ∙ emitted-then 0 (replyOf sdo.downloaded 0 rq (p .node .id)) (acting s .sent) o (omega arith);
+        },
+        loud _ _ (behindReply m r) refl,
+      )

@@ -1,6 +1,5 @@
+pub mod Verdicts
+pub mod Names
+pub mod Maps
 pub mod Answering
-pub mod Acting
 pub mod Downloading
-pub mod Testing
-pub mod Asking
-pub mod Laws

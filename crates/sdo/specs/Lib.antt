@@ -1,2 +1,3 @@
-pub mod Serving
+pub mod Verdicts
 pub mod Requests
+pub mod Serving

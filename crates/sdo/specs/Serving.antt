@@ -1,54 +1,53 @@
--- What the SDO server leaves behind, against the effect that the rules give it: as `Did` of `effects`, and whether a mapping was written.
+-- What the SDO server needs, and what it leaves: `Leaves` and `Rests` of `output`, in every state that has the parts that the code is handed.
 -- Assumes nothing.
 use Prim.Native.Nat.{ℕ, _≤_}
 use mathlib.Core.Path.{_≡_}
-use mathlib.Core.List.{List}
-use mathlib.Core.Bool.{Bool, true, false, cond, _||_}
-use lib.Dec.{eqb}
+use mathlib.Core.List.{List, [], _∷_}
+use mathlib.Core.Bool.{Bool, true, false}
 use lib.ListN.{length}
+use Rattle.state.specs.declared.Node.{Node}
 use Rattle.state.specs.declared.State.{State}
 use Rattle.rules_dictionary.specs.TheNode.{lastNode}
-use Rattle.rules_dictionary.specs.Numbers.{any}
-use Rattle.rules_dictionary.specs.declared.Role.{Role}
-use Rattle.rules_dictionary.specs.declared.Role.the-variants.{Plain, ModeOfOperation, PdoIdentifier, PdoType, MappingCount, MappingEntry}
-use Rattle.rules_dictionary.specs.Table.{heartbeatTime, placeOf, dictionaryLength}
-use Rattle.rules_dictionary.specs.Values.{Write, stored}
-use Rattle.rules_services.specs.Effects.{Effect, withHeartbeat}
+use Rattle.rules_dictionary.specs.Numbers.{bytes}
+use Rattle.rules_dictionary.specs.Table.{dictionaryLength}
+use Rattle.rules_dictionary.specs.Values.{write}
+use Rattle.rules_services.specs.Effects.{Effect, becomes, sends}
+use Rattle.rules_services.specs.Sdo.{reply, downloaded, dataSize, askedIndex, askedSubindex}
+use Rattle.rules_services.specs.Written.{applied}
 use Rattle.rules.specs.Calls.{outputLength}
-use Rattle.output.specs.Laying.{emitted}
-use Rattle.effects.specs.declared.Done.{Done}
-use Rattle.effects.specs.Leaves.{touches, partsOf, Rests}
-
--- the heartbeat's count restarted where the value of 1017h is written
-abbrev pub restartedAt : ℕ → State → State
-restartedAt place s = cond (eqb place (placeOf heartbeatTime)) (withHeartbeat 0 s) s
-
--- the row is of a PDO's mapping
-abbrev pub isMapping : Role → Bool
-isMapping Plain = false
-isMapping ModeOfOperation = false
-isMapping (PdoIdentifier p) = false
-isMapping (PdoType p) = false
-isMapping (MappingCount p) = true
-isMapping (MappingEntry p) = true
-
--- a mapping row is among the written ones
-abbrev pub remaps : List Write → Bool
-remaps ws = any (λ w. isMapping (w .row .role)) ws
+use Rattle.dictionary.specs.declared.Entry.{Entry}
+use Rattle.dictionary.specs.Entries.{Stands}
+use Rattle.output.specs.declared.Parts.{Parts}
+use Rattle.output.specs.declared.Done.{Done}
+use Rattle.output.specs.Leaves.{withParts, Leaves, Rests}
 
 -- what a request needs: a dictionary and an output of their lengths, and a node-ID
-pub record Servable (s : State) (d o : List ℕ) : Type 0 where
+pub record Servable (n : Node) (d o : List ℕ) : Type 0 where
   pub long : length d ≡ dictionaryLength
   pub room : outputLength ≤ length o
-  pub id : s .node .id ≤ lastNode
+  pub id : n .id ≤ lastNode
 
--- the effect e of a request in the state s: the parts of the state, the frames' number, what is left to do, and every lent byte
-pub record Served (s : State) (e : Effect) (d o : List ℕ) (r : Done) (d′ o′ : List ℕ) : Type 0 where
-  pub parts : r .parts ≡ partsOf (e .state)
-  pub frames : r .frames ≡ length (e .sent)
-  pub touched : r .touched ≡ (touches (e .writes) || remaps (e .writes))
-  pub remapped : r .remapped ≡ remaps (e .writes)
-  pub synced : r .synced ≡ false
-  pub quiet : Rests s e r
-  pub dictionary : d′ ≡ stored (e .writes) d
-  pub output : o′ ≡ emitted 0 (e .sent) o
+-- what is left of a service, in whatever state has those parts
+abbrev pub Serves : (State → List ℕ → Effect) → Parts → List ℕ → List ℕ → Done → List ℕ → List ℕ → Type 0
+Serves f p d o r d′ o′ =
+    (s : State) → Leaves (f (withParts p s) d) d o r d′ o′ × Rests (withParts p s) (f (withParts p s) d) r
+
+-- a reply with that value, and nothing else
+abbrev pub said : ℕ → ℕ → List ℕ → State → Effect
+said c v rq s = sends (reply c rq s (bytes dataSize v)) (becomes s)
+
+abbrev pub Says : ℕ → ℕ → List ℕ → Parts → List ℕ → Done → List ℕ → Type 0
+Says c v rq p o r o′ = (d : List ℕ) → Serves (λ s d. said c v rq s) p d o r d o′
+
+-- the reply, and then the value stored in the row that the entry is of, and acted on
+abbrev pub Applies : List ℕ → Entry → ℕ → Parts → List ℕ → List ℕ → Done → List ℕ → List ℕ → Type 0
+Applies rq e v p d o r d′ o′ =
+    (st : Stands (askedIndex rq) (askedSubindex rq) e) →
+    Serves (λ s d. sends (reply downloaded rq s (bytes dataSize 0)) (applied (write (st .row) v ∷ []) s d)) p d o r d′ o′
+
+-- the heartbeat's count restarted where that is so
+abbrev pub restartedIf : Bool → Parts → Parts
+restartedIf true p =
+    let n = p .node in
+    record { node = record { id = n .id; nmt = n .nmt; voltage = n .voltage; heartbeat = 0 }; drive = p .drive; held = p .held }
+restartedIf false p = p

@@ -1,17 +1,20 @@
 // Document 01, 'SDO': the expedited server.
 
-mod places; // where the parts of a request stand
+mod aborts; // the abort codes
+mod identifiers; // what the identifier of a PDO may be
+mod mappings; // what the mapping of a PDO may be
+mod values; // what value an entry may hold
+mod offers; // what may be offered to an entry, and when
+mod request; // what a request asks, and what it offers
 mod replies; // replies on 580h+N
-mod tests; // the tests of a download
 mod downloads; // a value written
 mod uploads; // a value read
 mod server; // requests by command, index and subindex
 
 pub use server::serve;
 
-// The commands: an object written, where the flag is set, or read; a client's abort; any other.
-enum Command {
-    Object(bool),
-    ClientAbort,
-    Unknown,
+// What a download offers an entry: how many bytes, and the value of as many as the entry has.
+struct Offer {
+    size: u8,
+    value: u32,
 }

@@ -3,12 +3,12 @@ ghost use mathlib.Core.Path.{_≡_};
 ghost use Prim.Native.Nat.{_≤_};
 ghost use lib.ListN.{length};
 ghost use Rattle.rules_dictionary.specs.Plans.{pdoData};
-ghost use Rattle.rules.specs.Calls.{outputLength};
-ghost use Rattle.output.specs.Laying.{emitted};
-ghost use Rattle.effects.specs.Leaves.{bare};
-ghost use Rattle.sdo.specs.Requests.{replyBytes, replyOf, Replied};
-use effects::Done;
-use effects::Parts;
+ghost use Rattle.rules.specs.Outcome.{frameSize, sentInto};
+ghost use Rattle.sdo.specs.Requests.{replyBytes, replyOf};
+ghost use Rattle.sdo.specs.Serving.{Says};
+use output::Done;
+use output::Parts;
+use output::becomes;
 use output::send;
 use rules_dictionary::PdoData;
 
@@ -37,31 +37,25 @@ fn reply_data(command: u8, v: u32, request: [u8; 8]) -> PdoData
     }
 }
 
-// The reply as frame 0; the number of frames then.
-pub fn reply(command: u8, v: u32, request: [u8; 8], id: u8, output: &mut [u8]) -> usize
-    requires { ⌜ outputLength ≤ length (now output) ⌝ }
-    ensures { λ r. ⌜ (r ≡ 1) × (now (output .exit) ≡ emitted 0 (replyOf command v request id) (now (output .entry))) ⌝ }
+// The reply at the start of the bytes, which are the output from its frame on.
+pub fn reply(command: u8, v: u32, request: [u8; 8], id: u8, output: &mut [u8])
+    requires { ⌜ frameSize ≤ length (now output) ⌝ }
+    ensures { λ r. ⌜ now (output .exit) ≡ sentInto (now (output .entry)) (replyOf command v request id) ⌝ }
 {
     send(
         output,
-        0,
         REPLY_BASE + (id as u16),
         reply_data(command, v, request),
-    )
+    );
 }
 
 // A reply alone: nothing is written, the state stays, and nothing is left to do.
 pub fn answer(command: u8, v: u32, request: [u8; 8], parts: Parts, output: &mut [u8]) -> Done
-    requires { ⌜ outputLength ≤ length (now output) ⌝ }
-    ensures { λ r. ⌜ Replied command v request (bare parts) (now (output .entry)) r (now (output .exit)) ⌝ }
+    requires { ⌜ frameSize ≤ length (now output) ⌝ }
+    ensures { λ r. ⌜ Says command v request parts (now (output .entry)) r (now (output .exit)) ⌝ }
 {
-    let frames = reply(command, v, request, parts.node.id, output);
-    Done {
-        parts: parts,
-        frames: frames,
-        touched: false,
-        remapped: false,
-        synced: false,
-        quiet: true,
-    }
+    reply(command, v, request, parts.node.id, output);
+    let mut done = becomes(parts, true);
+    done.frames = 1;
+    done
 }

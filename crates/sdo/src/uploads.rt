@@ -3,14 +3,13 @@ ghost use mathlib.Core.Path.{_≡_};
 ghost use mathlib.Core.Bool.{false};
 ghost use Rattle.rules_services.specs.Sdo.{askedIndex, askedSubindex};
 ghost use Rattle.dictionary.specs.Entries.{Stands};
-ghost use Rattle.effects.specs.Leaves.{bare};
 ghost use Rattle.sdo.specs.Requests.{objectAsked, uploadedBy};
-ghost use Rattle.sdo.specs.Serving.{Servable, Served};
+ghost use Rattle.sdo.specs.Serving.{Servable, Serves};
 use crate::replies::answer;
 use dictionary::Entry;
 use dictionary::read;
-use effects::Done;
-use effects::Parts;
+use output::Done;
+use output::Parts;
 
 // The reply's command: "4Fh, 4Bh, 43h for 1, 2, 4 bytes".
 fn uploaded(size: u8) -> u8
@@ -25,8 +24,8 @@ fn uploaded(size: u8) -> u8
 
 // An upload of an entry.
 pub fn upload(request: [u8; 8], e: Entry, parts: Parts, d: &[u8], output: &mut [u8]) -> Done
-    requires { ⌜ Servable (bare parts) (now d) (now output) × Stands (askedIndex request) (askedSubindex request) e ⌝ }
-    ensures { λ r. ⌜ Served (bare parts) (objectAsked false request (bare parts) (now (d .entry))) (now (d .entry)) (now (output .entry)) r (now (d .entry)) (now (output .exit)) ⌝ }
+    requires { ⌜ Servable (parts .node) (now d) (now output) × Stands (askedIndex request) (askedSubindex request) e ⌝ }
+    ensures { λ r. ⌜ Serves (objectAsked false request) parts (now (d .entry)) (now (output .entry)) r (now (d .entry)) (now (output .exit)) ⌝ }
 {
     let size = e.size;
     let v = read(d, e.place as usize, size);

@@ -12,6 +12,9 @@ use Rattle.rules_dictionary.specs.Table.{pdos, receivePdos, transmitPdos}
 use Rattle.rules_dictionary.proofs.Tests.{and-left, and-right, and-both}
 use Rattle.rules.specs.Sound.{pairwise}
 
+four-true : {a b c e : Bool} → a ≡ true → b ≡ true → c ≡ true → e ≡ true → (a && (b && (c && (e && true)))) ≡ true
+four-true f g h i = rw (f, g, h, i)
+
 module _ {B : Type 0} (z : B) where
   -- so many elements, from the one of that number on
   abbrev listed : ℕ → ℕ → List B → List B
@@ -27,14 +30,14 @@ module _ {B : Type 0} (z : B) where
 
   -- ---- tests of four
 
-  pub four-all : (f : B → Bool) (ys : List B) → length ys ≡ 4 → (f (getD ys 0 z) && (f (getD ys 1 z) && (f (getD ys 2 z) && f (getD ys 3 z)))) ≡ all f ys
+  pub four-all : (f : B → Bool) (ys : List B) → length ys ≡ 4 →
+      (f (getD ys 0 z) && (f (getD ys 1 z) && (f (getD ys 2 z) && f (getD ys 3 z)))) ≡ all f ys
   four-all f ys l = rw (← and-true (f (getD ys 3 z))) (ap (all f) (all-listed 4 ys l))
 
   module _ (f : ℕ → B → Bool) (ys : List B) where
     pub four-sent : length ys ≡ 4 → f 4 (getD ys 0 z) ≡ true → f 5 (getD ys 1 z) ≡ true → f 6 (getD ys 2 z) ≡ true → f 7 (getD ys 3 z) ≡ true →
         pairwise f transmitPdos ys ≡ true
-    four-sent l a b c e =
-        subst (λ (xs : List B). pairwise f transmitPdos xs ≡ true) (all-listed 4 ys l) (and-both _ _ a (and-both _ _ b (and-both _ _ c (and-both _ _ e refl))))
+    four-sent l a b c e = subst (λ (xs : List B). pairwise f transmitPdos xs ≡ true) (all-listed 4 ys l) (four-true a b c e)
 
     -- ---- tests of eight, and of their halves
 
@@ -45,13 +48,11 @@ module _ {B : Type 0} (z : B) where
 
     pub receive-half : length ys ≡ 8 → f 0 (getD ys 0 z) ≡ true → f 1 (getD ys 1 z) ≡ true → f 2 (getD ys 2 z) ≡ true → f 3 (getD ys 3 z) ≡ true →
         pairwise f receivePdos (take 4 ys) ≡ true
-    receive-half l a b c e =
-        subst (λ (xs : List B). pairwise f receivePdos (take 4 xs) ≡ true) (all-listed 8 ys l) (and-both _ _ a (and-both _ _ b (and-both _ _ c (and-both _ _ e refl))))
+    receive-half l a b c e = subst (λ (xs : List B). pairwise f receivePdos (take 4 xs) ≡ true) (all-listed 8 ys l) (four-true a b c e)
 
     pub transmit-half : length ys ≡ 8 → f 4 (getD ys 4 z) ≡ true → f 5 (getD ys 5 z) ≡ true → f 6 (getD ys 6 z) ≡ true → f 7 (getD ys 7 z) ≡ true →
         pairwise f transmitPdos (drop 4 ys) ≡ true
-    transmit-half l a b c e =
-        subst (λ (xs : List B). pairwise f transmitPdos (drop 4 xs) ≡ true) (all-listed 8 ys l) (and-both _ _ a (and-both _ _ b (and-both _ _ c (and-both _ _ e refl))))
+    transmit-half l a b c e = subst (λ (xs : List B). pairwise f transmitPdos (drop 4 xs) ≡ true) (all-listed 8 ys l) (four-true a b c e)
 
 module _ {B : Type 0} where
   joined : (f : ℕ → B → Bool) (xs zs : List ℕ) (ys : List B) →
@@ -60,7 +61,8 @@ module _ {B : Type 0} where
   joined f (x ∷ xs) zs [] h i = absurd (false≢true h)
   joined f (x ∷ xs) zs (y ∷ ys) h i = and-both (f x y) _ (and-left (f x y) _ h) (joined f xs zs ys (and-right (f x y) _ h) i)
 
-  pub halves : (f : ℕ → B → Bool) (ys : List B) → pairwise f receivePdos (take 4 ys) ≡ true → pairwise f transmitPdos (drop 4 ys) ≡ true → pairwise f pdos ys ≡ true
+  pub halves : (f : ℕ → B → Bool) (ys : List B) → pairwise f receivePdos (take 4 ys) ≡ true → pairwise f transmitPdos (drop 4 ys) ≡ true →
+      pairwise f pdos ys ≡ true
   halves f ys h i = joined f receivePdos transmitPdos ys h i
 
   -- what follows from two tests pair by pair, and from a test of each alone
@@ -70,11 +72,13 @@ module _ {B : Type 0} where
   by-two f g h law [] (y ∷ ys) a b = a
   by-two f g h law (x ∷ xs) [] a b = a
   by-two f g h law (x ∷ xs) (y ∷ ys) a b =
-      and-both (h x y) _ (law x y (and-left (f x y) _ a) (and-left (g x y) _ b)) (by-two f g h law xs ys (and-right (f x y) _ a) (and-right (g x y) _ b))
+      and-both (h x y) _ (law x y (and-left (f x y) _ a) (and-left (g x y) _ b))
+      (by-two f g h law xs ys (and-right (f x y) _ a) (and-right (g x y) _ b))
 
-  pub by-each : (f : B → Bool) (h : ℕ → B → Bool) → ((x : ℕ) (y : B) → f y ≡ true → h x y ≡ true) → (xs : List ℕ) (ys : List B) → length xs ≡ length ys →
-      all f ys ≡ true → pairwise h xs ys ≡ true
+  pub by-each : (f : B → Bool) (h : ℕ → B → Bool) → ((x : ℕ) (y : B) → f y ≡ true → h x y ≡ true) → (xs : List ℕ) (ys : List B) →
+      length xs ≡ length ys → all f ys ≡ true → pairwise h xs ys ≡ true
   by-each f h law [] [] l a = refl
   by-each f h law [] (y ∷ ys) l a = absurd (omega arith)
   by-each f h law (x ∷ xs) [] l a = absurd (omega arith)
-  by-each f h law (x ∷ xs) (y ∷ ys) l a = and-both (h x y) _ (law x y (and-left (f y) _ a)) (by-each f h law xs ys (omega arith) (and-right (f y) _ a))
+  by-each f h law (x ∷ xs) (y ∷ ys) l a =
+      and-both (h x y) _ (law x y (and-left (f y) _ a)) (by-each f h law xs ys (omega arith) (and-right (f y) _ a))

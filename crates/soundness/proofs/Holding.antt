@@ -21,9 +21,9 @@ use Rattle.rules_dictionary.specs.Plans.{pdoData, mapped}
 use Rattle.rules_services.specs.PdoTraffic.{works, typeOf, noData, mappedLength, areLegal}
 use Rattle.rules.specs.Outcome.{sameBy, sameData}
 use Rattle.rules.specs.Sound.{heldSound}
-use Rattle.transfer.specs.Transfer.{movesOf, sizes}
-use Rattle.plans.proofs.Worked.{tested}
-use Rattle.transfer.proofs.Laws.{Receives, length-is, tested-receives}
+use Rattle.mapping.specs.Received.{movesOf, sizes, Receives}
+use Rattle.mapping.proofs.Worked.{tested}
+use Rattle.mapping.proofs.Unpacked.{length-is, tested-receives}
 use Rattle.soundness.specs.Kept.{planKept}
 use Rattle.soundness.specs.Waiting.{zeroFrom}
 
@@ -42,7 +42,8 @@ same-front n zero (b ∷ bs) l = absurd (omega arith)
 same-front zero (suc m) (b ∷ bs) l = ap (λ (r : Bool). eqb b 0 && r) (same-front zero m bs (omega arith))
 same-front (suc n) (suc m) (b ∷ bs) l = rw (eq-eqb b b refl) (same-front n m bs (omega arith))
 
-pub full : (f : PdoData) (n : ℕ) → length (f .bytes) ≡ 8 → n ≤ 8 → sameData f (pdoData (take n (f .bytes))) ≡ (eqb (f .length) n && zeroFrom n (f .bytes))
+pub full : (f : PdoData) (n : ℕ) → length (f .bytes) ≡ 8 → n ≤ 8 →
+    sameData f (pdoData (take n (f .bytes))) ≡ (eqb (f .length) n && zeroFrom n (f .bytes))
 unfolding pdoData
 full f n l h = rw (length-take-le n (f .bytes) (omega arith)) (ap (λ (r : Bool). eqb (f .length) n && r) (same-front n 8 (f .bytes) l))
 
@@ -58,7 +59,8 @@ module _ (m : NmtState) (d : List ℕ) (p : ℕ) (f : PdoData) where
 
   pub held-some : (f .length ≡ 0 → ⊥) →
       heldSound m d p f
-      ≡ (works m d p && isSynchronous (typeOf d p) && sameData f (pdoData (take (mappedLength (mapped d p)) (f .bytes))) && areLegal d (unpacked (mapped d p) (f .bytes)))
+      ≡ (works m d p && isSynchronous (typeOf d p) && sameData f (pdoData (take (mappedLength (mapped d p)) (f .bytes)))
+      && areLegal d (unpacked (mapped d p) (f .bytes)))
   unfolding heldSound
   held-some h = rw (lt-ltb 0 (f .length) (omega arith))
 

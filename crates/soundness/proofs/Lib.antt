@@ -1,6 +1,11 @@
+pub mod RowTests
+pub mod Distinct
+pub mod KeyMeaning
+pub mod KeysLegal
+pub mod InOrder
 pub mod Counting
 pub mod Pairs
-pub mod Laws
+pub mod Fresh
 pub mod Holding
 pub mod Pending
 pub mod Parts

@@ -36,7 +36,8 @@ module _ {B : Type 0} (f : ℕ → B → Bool) (xs : List ℕ) (ys : List B) (k 
   step z h l = rw (add-one k, drop-cons xs k 0 h, drop-cons ys k z l)
 
   module _ (left : Left) where
-    pub fails : (z : B) {p : ℕ} {r : Bool} → k < length xs → k < length ys → getD xs k 0 ≡ p → r ≡ f p (getD ys k z) → not r ≡ true → false ≡ pairwise f xs ys
+    pub fails : (z : B) {p : ℕ} {r : Bool} → k < length xs → k < length ys → getD xs k 0 ≡ p → r ≡ f p (getD ys k z) → not r ≡ true →
+        false ≡ pairwise f xs ys
     fails z {r = r} h l at e t = sym (sym left ∙ step z h l ∙ rw (at, ← e, not-true r t))
 
     pub passes : (z : B) {p : ℕ} {r : Bool} → k < length xs → k < length ys → getD xs k 0 ≡ p → r ≡ f p (getD ys k z) → not r ≡ false →

@@ -17,7 +17,8 @@ use Rattle.rules_dictionary.specs.Members.{In}
 use Rattle.rules_dictionary.proofs.Tests.{and-left, and-right, all-in}
 use Rattle.rules_dictionary.proofs.Members.{all-of, in-map, count-in, unpacked-table}
 use Rattle.rules.specs.Outcome.{sameBy, samePlan, sameData}
-use Rattle.rules.specs.Sound.{pairwise, constantsAsListed, inRange, valuesInRange, mappingLegal, mappingsLegal, identifiersLegal, dictionarySound, statusAsMade, modeAsMade, plansFresh, readyFresh, driveSound, heartbeatSound, waitingSound, sound}
+use Rattle.rules.specs.Sound.{pairwise, constantsAsListed, inRange, valuesInRange, mappingLegal, mappingsLegal, identifiersLegal, dictionarySound}
+use Rattle.rules.specs.Sound.{statusAsMade, modeAsMade, plansFresh, readyFresh, driveSound, heartbeatSound, waitingSound, sound}
 use Rattle.soundness.specs.Kept.{plansKept, readyKept}
 use Rattle.soundness.specs.Parts.{driveClauses, pdoClauses}
 
@@ -65,7 +66,8 @@ module _ (s : State) (d : List ℕ) where
   unfolding fewMoves plansKept mappingsLegal plansFresh plansOf
   plans-kept =
       apart (fewMoves d) (mappingLegal d) (λ p x. samePlan x (planFor (mapped d p))) pdos (s .axis .plans)
-      ∙ ap (λ (b : Bool). all (fewMoves d) pdos && (all (mappingLegal d) pdos && b)) (sym (same-pairs samePlan (λ p. planFor (mapped d p)) pdos (s .axis .plans)))
+      ∙ ap (λ (b : Bool). all (fewMoves d) pdos && (all (mappingLegal d) pdos && b))
+      (sym (same-pairs samePlan (λ p. planFor (mapped d p)) pdos (s .axis .plans)))
 
   -- counts in range are eight at the most
   few-at : valuesInRange d ≡ true → (p : ℕ) → In p pdos → fewMoves d p ≡ true
@@ -90,10 +92,12 @@ module _ (s : State) (d : List ℕ) where
   unfolding sound dictionarySound driveClauses pdoClauses
   sound-parts =
       rw (plans-kept, ← ready-kept)
-      (ordered (isNodeId (s .node .id)) (constantsAsListed (s .node .id) d) (valuesInRange d) (mappingsLegal d) (identifiersLegal d) (statusAsMade s d) (modeAsMade s d)
-      (plansFresh s d) (readyFresh s d) (driveSound (s .axis .drive) d) (heartbeatSound (s .node .heartbeat) d) (waitingSound s d) (all (fewMoves d) pdos) few-in-range)
+      (ordered (isNodeId (s .node .id)) (constantsAsListed (s .node .id) d) (valuesInRange d) (mappingsLegal d) (identifiersLegal d)
+      (statusAsMade s d) (modeAsMade s d)
+      (plansFresh s d) (readyFresh s d) (driveSound (s .axis .drive) d) (heartbeatSound (s .node .heartbeat) d) (waitingSound s d)
+      (all (fewMoves d) pdos) few-in-range)
 
   -- the PDOs' clauses are all that is left behind the others
-  pub by-pdos : {r : Bool} → isNodeId (s .node .id) ≡ true → (constantsAsListed (s .node .id) d && (valuesInRange d && identifiersLegal d)) ≡ true → driveClauses s d ≡ true →
-      r ≡ pdoClauses s d → r ≡ sound s d
+  pub by-pdos : {r : Bool} → isNodeId (s .node .id) ≡ true → (constantsAsListed (s .node .id) d && (valuesInRange d && identifiersLegal d)) ≡ true →
+      driveClauses s d ≡ true → r ≡ pdoClauses s d → r ≡ sound s d
   by-pdos i l v e = sym (sound-parts ∙ rw (i, l, v, ← e))

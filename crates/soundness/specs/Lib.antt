@@ -1,3 +1,5 @@
+pub mod Rows
+pub mod Keys
 pub mod Kept
 pub mod Waiting
 pub mod Parts

@@ -6,17 +6,22 @@ use mathlib.Core.Bool.{Bool, not, _&&_}
 use lib.Dec.{eqb}
 use Rattle.rules_dictionary.specs.declared.Plan.{Plan}
 use Rattle.rules_dictionary.specs.declared.PdoData.{PdoData}
+use Rattle.state.specs.declared.Pace.{Pace}
 use Rattle.rules_dictionary.specs.Numbers.{all}
 use Rattle.rules_dictionary.specs.Table.{pdos}
 use Rattle.rules_services.specs.PdoTraffic.{noData}
 use Rattle.rules.specs.Outcome.{sameData}
 use Rattle.rules.specs.Sound.{pairwise}
-use Rattle.plans.specs.Usual.{isShort, pairUsual}
+use Rattle.mapping.specs.Usual.{isShort, pairUsual}
 
 -- every mapping is short, and usual in its first two slots
 unfoldable pub plansUsual : List ℕ → List Plan → Bool
 plansUsual d plans = pairwise (isShort d) pdos plans && pairwise (pairUsual d) pdos plans
 
--- no SYNC is counted, no PDO due, no frame held
-unfoldable pub nothingWaits : List ℕ → List Bool → List PdoData → Bool
-nothingWaits counts due held = all (λ c. eqb c 0) counts && (all not due && all (λ f. sameData f noData) held)
+-- no SYNC is counted for a transmit PDO, nor is it due
+abbrev pub isIdle : Pace → Bool
+isIdle pace = eqb (pace .count) 0 && not (pace .due)
+
+-- so of all, and no frame is held
+unfoldable pub nothingWaits : List Pace → List PdoData → Bool
+nothingWaits paces held = all isIdle paces && all (λ f. sameData f noData) held

@@ -6,15 +6,15 @@ use mathlib.Core.Bool.{Bool, _&&_}
 use lib.Dec.{eqb}
 use lib.ListN.{drop}
 use Rattle.state.specs.declared.NmtState.{NmtState}
+use Rattle.state.specs.declared.Pace.{Pace}
 use Rattle.rules_dictionary.specs.declared.PdoData.{PdoData}
 use Rattle.rules_dictionary.specs.Numbers.{all}
 use Rattle.rules_dictionary.specs.Table.{receivePdos, transmitPdos}
-use Rattle.rules.specs.Sound.{pairwise, countSound, dueSound, heldSound}
+use Rattle.rules.specs.Sound.{pairwise, paceSound, heldSound}
 
--- counts, due marks and held frames are sound
-unfoldable pub waitSound : NmtState → List ℕ → List ℕ → List Bool → List PdoData → Bool
-waitSound m d counts due held =
-    pairwise (countSound m d) transmitPdos counts && pairwise (dueSound m d) transmitPdos due && pairwise (heldSound m d) receivePdos held
+-- paces and held frames are sound
+unfoldable pub waitSound : NmtState → List ℕ → List Pace → List PdoData → Bool
+waitSound m d paces held = pairwise (paceSound m d) transmitPdos paces && pairwise (heldSound m d) receivePdos held
 
 -- every byte from that place on is zero
 abbrev pub zeroFrom : ℕ → List ℕ → Bool

@@ -5,33 +5,20 @@ use drive::states::has;
 use drive::states::is_faulty;
 use drive::status::status;
 use rules_dictionary::Mode;
-use state::NmtState;
 use state::State;
 ghost use mathlib.Core.Path.{_≡_};
-ghost use mathlib.Core.Bool.{not, _&&_};
+ghost use mathlib.Core.Bool.{_&&_};
 ghost use lib.Dec.{eqb};
 ghost use lib.ListN.{length};
 ghost use Rattle.rules_dictionary.specs.Table.{statusWord, mode, modeDisplay, dictionaryLength};
 ghost use Rattle.rules_dictionary.specs.Values.{read};
 ghost use Rattle.rules_dictionary.specs.Legal.{modeNumber};
 ghost use Rattle.drive.specs.StatusWord.{status};
-ghost use Rattle.rules_services.specs.Effects.{isStopped};
 ghost use Rattle.rules.specs.Sound.{storeInPlace, takenInPlace, causeInPlace, driveSound, heartbeatSound};
 ghost use Rattle.soundness.specs.Parts.{driveClauses};
 
 // Bit 4 of 6040h.
 const NEW_SET_POINT: u16 = 16;
-
-// Is the node in a state other than Stopped.
-fn is_remote(m: NmtState) -> bool
-    ensures { λ r. ⌜ r ≡ not (isStopped m) ⌝ }
-{
-    match m {
-        NmtState::PreOperational => true,
-        NmtState::Operational => true,
-        NmtState::Stopped => false,
-    }
-}
 
 // The number of a mode in 6060h and 6061h.
 fn mode_number(m: Mode) -> u8
@@ -111,6 +98,6 @@ pub fn is_drive_clear(s: State, d: &[u8]) -> bool
     let axis = s.axis;
     let drive = axis.drive;
     let mode = drive.mode;
-    let made = is_status_made(is_remote(nmt), node.voltage, drive, d) & is_mode_made(mode, d);
+    let made = is_status_made(!nmt.is_stopped(), node.voltage, drive, d) & is_mode_made(mode, d);
     made & (is_drive_sound(drive, d) & is_heartbeat_sound(node.heartbeat, d))
 }

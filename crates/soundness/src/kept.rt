@@ -1,7 +1,7 @@
 // Plans and ready frames beside the mappings in the dictionary.
-use plans::mapping_sound;
-use plans::ready_of;
-use plans::same_data;
+use mapping::mapping_sound;
+use mapping::ready_of;
+use mapping::same_data;
 use rules_dictionary::PdoData;
 use rules_dictionary::Plan;
 ghost use mathlib.Core.Path.{_≡_};

@@ -1,16 +1,19 @@
 // Whether state and dictionary are sound: document 01, 'Calls and refusals', the paragraph that begins "Sound:". It is tested at
 // every call, so what is usual is tested first and in few steps.
 
+mod rows; // constants and ranges, by row
+mod identifiers; // the PDO identifiers, each alone and against the others
+mod legal; // the dictionary's own clauses
 mod axis; // the drive, 6041h, 6061h and the heartbeat count
 mod kept; // plans and ready frames beside the mappings
 mod pdos; // whether a PDO works, and its type
 mod usual; // what most nodes keep for their PDOs
-mod waiting; // what waits for SYNC: counts, due marks, held frames
+mod waiting; // what waits for SYNC: paces and held frames
 
 use axis::is_drive_clear;
 use kept::are_frames_kept;
 use kept::are_plans_kept;
-use legality::dictionary_legal;
+use legal::dictionary_legal;
 pub use pdos::type_of;
 pub use pdos::works;
 use state::FIRST_NODE;
@@ -46,10 +49,9 @@ fn are_pdos_clear(s: State, d: &[u8]) -> bool
     if !are_frames_kept(d, plans, ready) {
         return false;
     }
-    let counts = axis.counts;
-    let due = axis.due;
+    let paces = axis.paces;
     let held = axis.held;
-    is_waiting_sound(nmt, d, plans, counts, due, held)
+    is_waiting_sound(nmt, d, plans, paces, held)
 }
 
 // Whether every mapping is usual, with its kept plan.
@@ -81,14 +83,13 @@ fn does_wait_soundly(s: State, d: &[u8]) -> bool
     let node = s.node;
     let nmt = node.nmt;
     let axis = s.axis;
-    let counts = axis.counts;
-    let due = axis.due;
+    let paces = axis.paces;
     let held = axis.held;
-    if does_nothing_wait(counts, due, held) {
+    if does_nothing_wait(paces, held) {
         return true;
     }
     let plans = axis.plans;
-    is_waiting_sound(nmt, d, plans, counts, due, held)
+    is_waiting_sound(nmt, d, plans, paces, held)
 }
 
 // "N legal".

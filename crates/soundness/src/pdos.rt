@@ -7,7 +7,6 @@ ghost use lib.ListN.{length};
 ghost use Rattle.rules_dictionary.specs.Table.{identifier, dictionaryLength};
 ghost use Rattle.rules_dictionary.specs.Values.{read};
 ghost use Rattle.rules_dictionary.specs.Legal.{isValid};
-ghost use Rattle.rules_services.specs.Effects.{isOperational};
 ghost use Rattle.rules_services.specs.PdoTraffic.{works, typeOf};
 
 // Bit 31 of an identifier.
@@ -29,23 +28,12 @@ fn is_valid(d: &[u8], p: usize) -> bool
     records::identifier(d, p) / INVALID % 2 != 1
 }
 
-// Is the node in Operational.
-fn is_operational(m: NmtState) -> bool
-    ensures { λ r. ⌜ r ≡ isOperational m ⌝ }
-{
-    match m {
-        NmtState::PreOperational => false,
-        NmtState::Operational => true,
-        NmtState::Stopped => false,
-    }
-}
-
 // "A PDO works only in Operational, valid, with something mapped."
 pub fn works(m: NmtState, d: &[u8], p: usize) -> bool
     requires { ⌜ (length (now d) ≡ dictionaryLength) × (p < 8) ⌝ }
     ensures { λ r. ⌜ r ≡ works m (now (d .entry)) p ⌝ }
 {
-    if !is_operational(m) {
+    if !m.is_operational() {
         return false;
     }
     if !is_valid(d, p) {

@@ -1,23 +1,23 @@
 // What most nodes keep for their PDOs, told in few steps: usual mappings with their frames, and nothing that waits for SYNC. Array
 // elements are read at fixed places, so that nothing of the state is copied.
 use crate::waiting::is_none_held;
-use plans::is_frame_usual;
-use plans::is_pair_usual;
-use plans::is_short;
+use mapping::is_frame_usual;
+use mapping::is_pair_usual;
+use mapping::is_short;
 use rules_dictionary::PdoData;
 use rules_dictionary::Plan;
+use state::Pace;
 ghost use mathlib.Core.Path.{_≡_};
-ghost use mathlib.Core.Bool.{true, not};
-ghost use lib.Dec.{eqb};
+ghost use mathlib.Core.Bool.{true};
 ghost use lib.ListN.{length, take, drop};
 ghost use Rattle.rules_dictionary.specs.Numbers.{all};
 ghost use Rattle.rules_dictionary.specs.Table.{pdos, receivePdos, transmitPdos, dictionaryLength};
 ghost use Rattle.rules_services.specs.PdoTraffic.{noData};
 ghost use Rattle.rules.specs.Outcome.{sameData};
 ghost use Rattle.rules.specs.Sound.{pairwise};
-ghost use Rattle.plans.specs.Usual.{isShort, pairUsual};
+ghost use Rattle.mapping.specs.Usual.{isShort, pairUsual};
 ghost use Rattle.soundness.specs.Kept.{readyKept};
-ghost use Rattle.soundness.specs.Usual.{plansUsual, nothingWaits};
+ghost use Rattle.soundness.specs.Usual.{plansUsual, isIdle, nothingWaits};
 
 // Whether no PDO has anything from its third slot on.
 fn are_short(d: &[u8], plans: [Plan; 8]) -> bool
@@ -89,18 +89,18 @@ pub fn are_frames_usual(d: &[u8], plans: [Plan; 8], ready: [PdoData; 4]) -> bool
             & (is_frame_usual(d, plans[6], ready[2]) & is_frame_usual(d, plans[7], ready[3])))
 }
 
-// Whether no SYNC is counted.
-fn is_none_counted(counts: [u8; 4]) -> bool
-    ensures { λ r. ⌜ r ≡ all (λ c. eqb c 0) counts ⌝ }
+// Whether no SYNC is counted for a transmit PDO, nor is it due.
+fn is_idle(pace: Pace) -> bool
+    ensures { λ r. ⌜ r ≡ isIdle pace ⌝ }
 {
-    (counts[0] == 0) & ((counts[1] == 0) & ((counts[2] == 0) & (counts[3] == 0)))
+    (pace.count == 0) & !pace.due
 }
 
-// Whether no PDO is due.
-fn is_none_due(due: [bool; 4]) -> bool
-    ensures { λ r. ⌜ r ≡ all not due ⌝ }
+// Whether that is so for every transmit PDO.
+fn are_idle(paces: [Pace; 4]) -> bool
+    ensures { λ r. ⌜ r ≡ all isIdle paces ⌝ }
 {
-    !due[0] & (!due[1] & (!due[2] & !due[3]))
+    is_idle(paces[0]) & (is_idle(paces[1]) & (is_idle(paces[2]) & is_idle(paces[3])))
 }
 
 // Whether no frame is held.
@@ -112,8 +112,8 @@ fn are_none_held(held: [PdoData; 4]) -> bool
 }
 
 // Whether nothing waits for SYNC.
-pub fn does_nothing_wait(counts: [u8; 4], due: [bool; 4], held: [PdoData; 4]) -> bool
-    ensures { λ r. ⌜ (r ≡ nothingWaits counts due held) × ((length counts ≡ 4) × ((length due ≡ 4) × (length held ≡ 4))) ⌝ }
+pub fn does_nothing_wait(paces: [Pace; 4], held: [PdoData; 4]) -> bool
+    ensures { λ r. ⌜ (r ≡ nothingWaits paces held) × ((length paces ≡ 4) × (length held ≡ 4)) ⌝ }
 {
-    is_none_counted(counts) & (is_none_due(due) & are_none_held(held))
+    are_idle(paces) & are_none_held(held)
 }

@@ -1,23 +1,24 @@
-// What waits for SYNC: counts, due marks and held frames.
+// What waits for SYNC: paces (SYNC counts and due marks) and held frames.
 use crate::pdos::type_of;
 use crate::pdos::works;
-use plans::same_data;
+use mapping::are_legal;
+use mapping::length_of;
+use mapping::same_data;
 use rules_dictionary::PdoData;
 use rules_dictionary::Plan;
 use state::NmtState;
-use transfer::are_legal;
-use transfer::length_of;
+use state::Pace;
 ghost use mathlib.Core.Path.{_≡_};
 ghost use mathlib.Core.Bool.{true};
 ghost use Prim.Native.Nat.{_<_};
 ghost use lib.ListN.{length, take};
 ghost use Rattle.rules_dictionary.specs.Table.{dictionaryLength};
 ghost use Rattle.rules_dictionary.specs.Plans.{pdoData};
-ghost use Rattle.plans.specs.Moves.{MovesFit};
-ghost use Rattle.transfer.specs.Transfer.{movesOf, sizes};
+ghost use Rattle.mapping.specs.Moves.{MovesFit};
+ghost use Rattle.mapping.specs.Received.{movesOf, sizes};
 ghost use Rattle.rules.specs.Outcome.{sameData};
 ghost use Rattle.rules_services.specs.PdoTraffic.{noData};
-ghost use Rattle.rules.specs.Sound.{countSound, dueSound, heldSound};
+ghost use Rattle.rules.specs.Sound.{countSound, dueSound, paceSound, heldSound};
 ghost use Rattle.soundness.specs.Kept.{planKept, plansKept};
 ghost use Rattle.soundness.specs.Waiting.{waitSound, zeroFrom};
 
@@ -54,6 +55,14 @@ fn is_mark_sound(m: NmtState, d: &[u8], p: usize, due: bool) -> bool
         return false;
     }
     type_of(d, p) == 0
+}
+
+// Whether what is kept of a transmit PDO is sound.
+fn is_pace_sound(m: NmtState, d: &[u8], p: usize, pace: Pace) -> bool
+    requires { ⌜ (length (now d) ≡ dictionaryLength) × (p < 8) ⌝ }
+    ensures { λ r. ⌜ r ≡ paceSound m (now (d .entry)) p pace ⌝ }
+{
+    is_count_sound(m, d, p, pace.count) & is_mark_sound(m, d, p, pace.due)
 }
 
 // Whether no frame is held, nor a byte of one.
@@ -122,20 +131,16 @@ pub fn is_waiting_sound(
     m: NmtState,
     d: &[u8],
     plans: [Plan; 8],
-    counts: [u8; 4],
-    due: [bool; 4],
+    paces: [Pace; 4],
     held: [PdoData; 4],
 ) -> bool
     requires { ⌜ (length (now d) ≡ dictionaryLength) × (plansKept (now d) plans ≡ true) ⌝ }
-    ensures { λ r. ⌜ r ≡ waitSound m (now (d .entry)) counts due held ⌝ }
+    ensures { λ r. ⌜ r ≡ waitSound m (now (d .entry)) paces held ⌝ }
 {
     let mut t: usize = 0;
     while t < 4 {
-        let p = t + 4;
-        if !is_count_sound(m, d, p, counts[t]) {
-            return false;
-        }
-        if !is_mark_sound(m, d, p, due[t]) {
+        let pace = paces[t];
+        if !is_pace_sound(m, d, t + 4, pace) {
             return false;
         }
         let plan = plans[t];

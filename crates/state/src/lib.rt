@@ -1,11 +1,14 @@
-// What the node keeps between calls, and what a call answers. Types alone: the rules of document 01 are
-// stated over them, and the node's functions take them and hand them back by value.
+// What the node keeps between calls, and what a call answers: the rules of document 01 are stated over these types, and the node's
+// functions take them and hand them back by value.
 //
 // The axis's part stands apart from the node's, so that a second axis can stand beside the first.
 
 use drive::Drive;
 use rules_dictionary::PdoData;
 use rules_dictionary::Plan;
+ghost use mathlib.Core.Path.{_≡_};
+ghost use Rattle.state.specs.NmtStates.{isPreOperational, isOperational, isStopped};
+ghost use Rattle.state.specs.Occasions.{isSynced};
 
 // The NMT states.
 pub enum NmtState {
@@ -14,15 +17,70 @@ pub enum NmtState {
     Stopped,
 }
 
-// One axis. PDO 0 to 3 receive and 4 to 7 transmit; `held` is by receive PDO, and
-// `ready`, `counts` (SYNCs since last sent) and `due` are by transmit PDO.
+impl NmtState {
+    pub fn is_pre_operational(self) -> bool
+        ensures { λ r. ⌜ r ≡ isPreOperational self ⌝ }
+    {
+        match self {
+            NmtState::PreOperational => true,
+            NmtState::Operational => false,
+            NmtState::Stopped => false,
+        }
+    }
+
+    pub fn is_operational(self) -> bool
+        ensures { λ r. ⌜ r ≡ isOperational self ⌝ }
+    {
+        match self {
+            NmtState::PreOperational => false,
+            NmtState::Operational => true,
+            NmtState::Stopped => false,
+        }
+    }
+
+    pub fn is_stopped(self) -> bool
+        ensures { λ r. ⌜ r ≡ isStopped self ⌝ }
+    {
+        match self {
+            NmtState::PreOperational => false,
+            NmtState::Operational => false,
+            NmtState::Stopped => true,
+        }
+    }
+}
+
+// What is kept of one transmit PDO: the SYNCs since it was last sent, and whether the next SYNC sends it.
+pub struct Pace {
+    pub count: u8,
+    pub due: bool,
+}
+
+// One axis. PDO 0 to 3 receive and 4 to 7 transmit; `held` is by receive PDO, `ready` and `paces` are by transmit PDO.
 pub struct Axis {
     pub drive: Drive,
     pub plans: [Plan; 8],
     pub ready: [PdoData; 4],
     pub held: [PdoData; 4],
-    pub counts: [u8; 4],
-    pub due: [bool; 4],
+    pub paces: [Pace; 4],
+}
+
+// What a call is to its own end: a SYNC that is served, a tick of 1 ms, or any other.
+pub enum Occasion {
+    Plain,
+    Synced,
+    Ticked,
+}
+
+impl Occasion {
+    pub fn is_synced(self) -> bool
+        ensures { λ r. ⌜ r ≡ isSynced self ⌝ }
+    {
+        match self {
+            Occasion::Plain => false,
+            Occasion::Synced => true,
+            Occasion::Ticked => false,
+        }
+    }
 }
 
 // The first and the last node-ID.

@@ -1,14 +1,13 @@
 -- Tests that failed, and tests taken apart.
 -- Assumes nothing.
 use Prim.Native.Nat.{ℕ}
-use mathlib.Core.Path.{_≡_, refl, sym}
+use mathlib.Core.Path.{_≡_, refl, sym, _∙_}
 use mathlib.Core.Logic.{_⊎_, inl, inr}
-use mathlib.Core.Bool.{Bool, true, false, cond, not, _&&_, _||_, false≢true, true≢false}
-use mathlib.Core.List.{List, [], _∷_}
+use mathlib.Core.Bool.{Bool, true, false, cond, not, _&&_, _||_, and-assoc, false≢true, true≢false}
+use mathlib.Core.List.{List, [], _∷_, _++_}
 use lib.Dec.{eqb}
-use borrow.Author.Tests.{eqb-true, eq-eqb}
-use Rattle.rules_dictionary.specs.Numbers.{any}
-use Rattle.rules_dictionary.specs.Members.{In, here, there}
+use borrow.Author.Tests.{eqb-true, eq-eqb, ne-eqb}
+use Rattle.rules_dictionary.specs.{Numbers.all, Numbers.any, Members.In, Members.here, Members.there}
 
 -- a test passes or fails
 pub either : (b : Bool) → (b ≡ true) ⊎ (b ≡ false)
@@ -74,14 +73,16 @@ module _ {ℓ} {A : Type ℓ} (f : A → Bool) where
   any-false-of [] h = refl
   any-false-of (x ∷ xs) h = or-both-false (f x) (any f xs) (h x here) (any-false-of xs (λ y i. h y (there i)))
 
+  pub all-both : (xs ys : List A) → all f (xs ++ ys) ≡ (all f xs && all f ys)
+  all-both [] ys = refl
+  all-both (x ∷ xs) ys = rw (all-both xs ys, and-assoc)
+
 pub eqb-comm : (a b : ℕ) → eqb a b ≡ eqb b a
-eqb-comm a b = go (eqb a b) (eqb b a) refl refl
-  where
-    go : (x y : Bool) → eqb a b ≡ x → eqb b a ≡ y → x ≡ y
-    go true true p q = refl
-    go true false p q = clash (eqb b a) (eq-eqb b a (sym (eqb-true a b p))) q
-    go false true p q = clash (eqb a b) (eq-eqb a b (sym (eqb-true b a q))) p
-    go false false p q = refl
+eqb-comm a b =
+    elim (either (eqb a b)) [
+      | inl e ↦ e ∙ sym (eq-eqb b a (sym (eqb-true a b e)))
+      | inr e ↦ e ∙ sym (ne-eqb b a (λ q. clash (eqb a b) (eq-eqb a b (sym q)) e))
+    ]
 
 -- "not a, or b" is: where a, b
 pub implied : (a b : Bool) → (not a || b) ≡ true → a ≡ true → b ≡ true

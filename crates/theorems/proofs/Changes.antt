@@ -1,39 +1,17 @@
 -- What a call may change: every write of every service is of a row that the call may change, and a byte of no such row stays.
 -- Assumes nothing.
-use Prim.Native.Nat.{ℕ, suc, _+_, _<_, _≤_}
-use native.Mathlib.Omega.{arith}
-use mathlib.Core.Path.{_≡_, refl, sym, _∙_, ap, subst}
-use mathlib.Core.Logic.{_⊎_, inl, inr}
-use mathlib.Core.Bool.{true, false, _||_}
-use mathlib.Core.List.{List, [], _∷_, _++_, append-nil}
-use borrow.Author.Tests.{leb-false, ltb-false}
-use lib.Dec.{leb}
-use lib.ListN.{length, getD, set}
-use lib.Seq.{sets, getD-set-other}
-use Rattle.state.specs.declared.State.{State}
-use Rattle.rules_dictionary.specs.Numbers.{any, areBytes, bytes, filter}
-use Rattle.rules_dictionary.specs.Table.{Row, table, sizeOf, placeOf, statusWord, modeDisplay, receivePdos, lookup, isReset}
-use Rattle.rules_dictionary.specs.Values.{Write, store, stored, toDefaults}
-use Rattle.rules_dictionary.specs.Members.{In, here, there}
-use Rattle.rules_dictionary.proofs.Tests.{none-in}
-use Rattle.rules_dictionary.proofs.Members.{in-append}
+use Rattle.theorems.proofs.Words.{ℕ, suc, _+_, _<_, _≤_, arith, _≡_, refl, sym, _∙_, ap, subst, _⊎_, inl, inr, false, _||_, List, [], _∷_}
+use Rattle.theorems.proofs.Words.{_++_, append-nil, leb-false, ltb-false, leb, length, getD, set, sets, getD-set-other, State, In, here, there}
+use Rattle.theorems.proofs.Words.{none-in, in-append, either, and-then-false, or-false-left, or-false-right, any-false-in}
+use Rattle.theorems.proofs.Services.{Serves, Releases, Rows, Within}
+use Rattle.theorems.proofs.{Writes.defaults-within, Settled.status-in, Settled.display-in, Lawful.finally, Runs.Decides, Runs.decides}
+use Rattle.rules_dictionary.specs.Table.{Row, table, sizeOf, placeOf, statusWord, modeDisplay, isReset}
+use Rattle.rules_dictionary.specs.{Numbers.any, Numbers.bytes, Numbers.filter, Values.Write, Values.store, Values.stored, Values.toDefaults}
 use Rattle.rules_dictionary.proofs.Defaults.{length-bytes}
-use Rattle.rules_services.specs.Effects.{Effect, andThen, withHeld}
-use Rattle.rules_services.specs.Written.{applied}
-use Rattle.rules_services.specs.Sdo.{Command, asked, askedIndex, askedSubindex}
-use Rattle.rules_services.specs.PdoTraffic.{listens, receivedBy, sync}
-use Rattle.rules_services.specs.Nmt.{commanded, powerUp}
-use Rattle.rules_services.specs.Events.{Event, happens, faulted, isInPlace}
+use Rattle.rules_services.specs.{Effects.Effect, Effects.andThen, Effects.withHeld, Written.applied, Nmt.commanded, Nmt.powerUp, Events.faulted}
 use Rattle.rules.specs.Outcome.{ended, settled, statusOf}
 use Rattle.rules.specs.Calls.{Call, Decision, refused, accepted, answered, answer}
-use Rattle.theorems.specs.Promises.{reached, bySdo, byPdos, orReset, byEvent, mayChange, covers, ChangesNoOther}
-use Rattle.theorems.proofs.Booleans.{either, and-then-false, or-false-left, or-false-right, any-false-in}
-use Rattle.theorems.proofs.Settled.{status-in, display-in}
-use Rattle.theorems.proofs.Lawful.{Lawful}
-use Rattle.theorems.proofs.EventsKept.{ArgumentsFit}
-use Rattle.theorems.proofs.Within.{Rows, Within, defaults-within}
-use Rattle.theorems.proofs.Services.{Serves, Releases, event-serves, asked-serves, received-by-serves, sync-serves}
-use Rattle.theorems.proofs.Runs.{Decides, decides}
+use Rattle.theorems.specs.Promises.{reached, mayChange, covers, ChangesNoOther}
 
 -- ---- one byte
 
@@ -56,11 +34,11 @@ unfolding stored
 byte-stored [] d i h = refl
 byte-stored (w ∷ ws) d i h = byte-stored ws (store (w .row) (w .value) d) i (λ v j. h v (there j)) ∙ byte-store (w .row) (w .value) i d (h w here)
 
-byte-ended : (s : State) (d : List ℕ) (e : Effect) (xs : List Row) (i : ℕ) → Within e xs → covers i statusWord ≡ false → covers i modeDisplay ≡ false → any (covers i) xs ≡ false →
-    getD (ended s d e .dictionary) i 0 ≡ getD d i 0
+byte-ended : (s : State) (d : List ℕ) (e : Effect) (xs : List Row) (i : ℕ) → Within e xs → covers i statusWord ≡ false →
+    covers i modeDisplay ≡ false → any (covers i) xs ≡ false → getD (ended s d e .dictionary) i 0 ≡ getD d i 0
 unfolding ended settled
 byte-ended s d e xs i h a b c =
-    byte-store modeDisplay _ i (store statusWord (statusOf (e .state) (stored (e .writes) d)) (stored (e .writes) d)) b
+    byte-store modeDisplay _ i (store statusWord (statusOf (finally d e) (stored (e .writes) d)) (stored (e .writes) d)) b
     ∙ byte-store statusWord _ i (stored (e .writes) d) a
     ∙ byte-stored (e .writes) d i (λ w j. any-false-in (covers i) (h w j) c)
 
@@ -69,6 +47,7 @@ byte-ended s d e xs i h a b c =
 releases-within : {xs : List Row} {s : State} {d : List ℕ} {e : Effect} → Releases xs s d e → Within e xs
 unfolding andThen
 releases-within Releases.none w i = absurd (none-in i)
+releases-within (Releases.skips rest) w i = releases-within rest w i
 releases-within {s = s} {d = d} (Releases.next h ws cleared may inside rest) w i =
     elim (in-append (applied ws (withHeld h s) d .writes) i) [ inl j ↦ inside w j | inr j ↦ releases-within rest w j ]
 
@@ -90,7 +69,7 @@ within (Serves.applies ws before may inside) w i = inside w i
 within (Serves.holds bs l p on synchronous long legal) w i = absurd (none-in i)
 within (Serves.releases r) w i = releases-within r w i
 within (Serves.starts h idle) w i = absurd (none-in i)
-within (Serves.leaves m) w i = absurd (none-in i)
+within Serves.leaves w i = absurd (none-in i)
 within Serves.stops w i = absurd (none-in i)
 within {s = s} (Serves.resets inside) w i = inside (w .row) (defaults-rows (s .node .id) (filter isReset table) w i)
 within {s = s} (Serves.begins inside) w i = inside (w .row) (defaults-rows (s .node .id) table w i)
@@ -100,21 +79,9 @@ within Serves.recovers w i = absurd (none-in i)
 within (Serves.faults code register fits inside) w i = inside (w .row) (two-rows w i)
 within (Serves.feeds at speed fits inside) w i = inside (w .row) (two-rows w i)
 within (Serves.powers v) w i = absurd (none-in i)
+within Serves.rests w i = absurd (none-in i)
 within (Serves.counts e) w i = absurd (none-in i)
 within Serves.beats w i = absurd (none-in i)
-
-pub asked-within : (c : Command) (rq : List ℕ) (s : State) (d : List ℕ) → Within (asked c rq s d) (orReset (bySdo c (lookup (askedIndex rq) (askedSubindex rq))))
-asked-within c rq s d = within (asked-serves (areBytes rq ≡ true) s d rq (λ b. b) c)
-
-pub received-by-within : (ps qs : List ℕ) (i : ℕ) (bs : List ℕ) (s : State) (d : List ℕ) → ((p : ℕ) → In p ps → In p receivePdos) →
-    ((p : ℕ) → In p ps → listens i (s .node .nmt) d p ≡ true → In p qs) → Within (receivedBy ps i bs s d) (orReset (byPdos d qs))
-received-by-within ps qs i bs s d sub h = within (received-by-serves Unit s d ps qs i bs sub h)
-
-pub sync-within : (bs : List ℕ) (s : State) (d : List ℕ) → Lawful s d → Within (sync bs s d) (orReset (byPdos d receivePdos))
-sync-within bs s d law = within (sync-serves Unit s d bs law)
-
-pub event-within : (e : Event) (s : State) (d : List ℕ) → Within (happens e s d) (byEvent e)
-event-within e s d = within (event-serves ((isInPlace e s ≡ true) × ArgumentsFit e) s d e (λ k. k .0) (λ k. k .1))
 
 -- ---- the calls
 
@@ -129,7 +96,8 @@ stays {c} s d o i (Decides.begins n q legal long) h =
 stays s d o i (Decides.serves {e} xs q law v) h =
     let t : (covers i statusWord || (covers i modeDisplay || any (covers i) xs)) ≡ false = sym (ap (any (covers i)) q) ∙ h in
     let u = or-false-right (covers i statusWord) _ t in
-    byte-ended s d e xs i (within v) (or-false-left (covers i statusWord) _ t) (or-false-left (covers i modeDisplay) _ u) (or-false-right (covers i modeDisplay) _ u)
+    byte-ended s d e xs i (within v) (or-false-left (covers i statusWord) _ t) (or-false-left (covers i modeDisplay) _ u)
+    (or-false-right (covers i modeDisplay) _ u)
 
 pub changes-no-other : ChangesNoOther
 unfolding answer

@@ -1,29 +1,97 @@
--- The dictionary stays sound when a row is written with a value that it may hold.
+-- The dictionary stays sound when a row is written with a value that it may hold, and two dictionaries that agree on the rows of the PDOs have
+-- the same mappings, plans, working PDOs and legal values.
 -- Assumes nothing.
-use Prim.Native.Nat.{ℕ, zero, suc, _^_, _<_}
-use native.Mathlib.Omega.{arith}
-use mathlib.Core.Path.{_≡_, refl, sym, _∙_, ap, ap₂, subst}
-use mathlib.Core.Logic.{_⊎_, inl, inr}
-use mathlib.Core.Bool.{Bool, true, false, not, _&&_, _||_}
-use mathlib.Core.List.{List, [], _∷_, map}
-use borrow.Author.Tests.{eqb-true, eq-eqb, ltb-true}
-use lib.Dec.{eqb, ltb}
-use lib.ListN.{length, getD}
-use Rattle.rules_dictionary.specs.Numbers.{all}
-use Rattle.rules_dictionary.specs.declared.Role.{Role}
-use Rattle.rules_dictionary.specs.declared.Role.the-variants.{Plain, ModeOfOperation, PdoIdentifier, PdoType, MappingCount, MappingEntry}
-use Rattle.rules_dictionary.specs.Table.{Row, table, sizeOf, dictionaryLength, isConstant, pdos, identifier, mapCount, mapEntry, mapSlots}
+use Rattle.theorems.proofs.Words.{ℕ, _^_, _<_, arith, _≡_, refl, sym, _∙_, subst, ap, ap₂, _⊎_, inl, inr, Bool, true, false, not, _&&_, _||_}
+use Rattle.theorems.proofs.Words.{Bool·beq, map, List, [], _∷_, eq-eqb, eqb-true, ltb-true, eqb, ltb, getD, length, take, drop, Role, Plain}
+use Rattle.theorems.proofs.Words.{ModeOfOperation, PdoIdentifier, PdoType, MappingCount, MappingEntry, PdoData, NmtState, In, here, there}
+use Rattle.theorems.proofs.Words.{each-in, and-left, and-right, and-both, all-in, none-in, within, same-or-apart, found-in, read-apart}
+use Rattle.theorems.proofs.Words.{read-same, all-of, unpacked-table, words-read, pdo-in, identifier-in, count-in, entry-in, type-in, clash}
+use Rattle.theorems.proofs.Words.{or-false-left, or-false-right, or-both-false, and-false-if, and-then-false, not-false, any-false-in}
+use Rattle.theorems.proofs.Words.{any-false-of, eqb-comm, either, false-not, implied, implies}
+use Rattle.rules_dictionary.specs.Numbers.{bit, between, any, all, value}
+use Rattle.rules_dictionary.specs.Table.{pdos, directionOf, Row, table, sizeOf, dictionaryLength, isConstant, identifier, mapCount, mapEntry}
+use Rattle.rules_dictionary.specs.Table.{mapSlots, transmissionType, wordIndex, wordSubindex, Found, found, noObject, noSubindex, lookup}
+use Rattle.rules_dictionary.specs.Legal.{badIdentifier, clashes, isValid, frameIdentifier, reservedBits, transmits, transmitBit, firstIdentifier}
+use Rattle.rules_dictionary.specs.Legal.{lastIdentifier, entryVerdict, countVerdict, mapWords, identifiers, valueVerdict, otherBadValue}
+use Rattle.rules_dictionary.specs.Legal.{mappingVerdict}
 use Rattle.rules_dictionary.specs.Values.{Write, write, read, store, defaultOf, unpacked}
-use Rattle.rules_dictionary.specs.Aborts.{isGood, firstOf}
-use Rattle.rules_dictionary.specs.Legal.{entryVerdict, countVerdict, mapWords, identifiers, badIdentifier}
-use Rattle.rules_dictionary.specs.Members.{In, here, there}
-use Rattle.rules_dictionary.proofs.Tests.{and-left, and-right, and-both, all-in}
-use Rattle.rules_dictionary.proofs.Packing.{apart, within, same-or-apart}
-use Rattle.rules_dictionary.proofs.Rows.{read-apart, read-same}
-use Rattle.rules_dictionary.proofs.Members.{all-of, unpacked-table, words-read, identifier-in, count-in, entry-in}
-use Rattle.rules.specs.Sound.{constantsAsListed, inRange, valuesInRange, mappingLegal, mappingsLegal, identifiersLegal, dictionarySound}
-use Rattle.theorems.proofs.Booleans.{either, clash, not-false, false-not, implied, implies}
-use Rattle.theorems.proofs.Identifiers.{of-pdo, identifiers-stay}
+use Rattle.rules_dictionary.specs.{Aborts.isGood, Aborts.firstOf, Plans.andThen, Plans.targets, Plans.mapped}
+use Rattle.rules.specs.Sound.{constantsAsListed, inRange, valuesInRange, mappingLegal, mappingsLegal, identifiersLegal, dictionarySound, heldSound}
+use Rattle.rules_services.specs.PdoTraffic.{works, typeOf, areLegal}
+
+-- the eight PDOs are 0 to 7 in order
+pub of-pdo {ℓ} : {A : Type ℓ} (f : ℕ → A) (z : A) {p : ℕ} → In p pdos → getD (map f pdos) p z ≡ f p
+of-pdo f z i = each-in (λ p. getD (map f pdos) p z ≡ f p) i (refl, (refl, (refl, (refl, (refl, (refl, (refl, (refl, tt))))))))
+
+-- what a word must be by itself
+unfoldable pub badAlone : ℕ → ℕ → Bool
+badAlone p w =
+    not (Bool·beq (bit transmitBit w) (transmits (directionOf p)))
+    || not (eqb (reservedBits w) 0)
+    || (isValid w && not (between firstIdentifier lastIdentifier (frameIdentifier w)))
+
+-- a word is legal for PDO p among the others' words f: alone, and against each other valid one
+pub record Fits (f : ℕ → ℕ) (p w : ℕ) : Type 0 where
+  pub alone : badAlone p w ≡ false
+  pub unlike : {q : ℕ} → In q pdos → eqb q p ≡ false → isValid w ≡ true → isValid (f q) ≡ true →
+      eqb (frameIdentifier w) (frameIdentifier (f q)) ≡ false
+
+module _ (f : ℕ → ℕ) {p : ℕ} (w : ℕ) (i : In p pdos) where
+  pub fits : badIdentifier (map f pdos) p w ≡ false → Fits f p w
+  unfolding badIdentifier badAlone clashes
+  fits h =
+      let ws = map f pdos in
+      let front = or-false-left (badAlone p w || (isValid w && any (clashes ws p w) pdos)) _ h in
+      record {
+        alone = or-false-left (badAlone p w) _ front;
+        unlike = λ {q} j other valid valid′.
+            let none = and-then-false (isValid w) _ (or-false-right (badAlone p w) _ front) valid in
+            let q-free = any-false-in (clashes ws p w) j none in
+            let free = subst (λ (v : ℕ). (not (eqb q p) && isValid v && eqb (frameIdentifier w) (frameIdentifier v)) ≡ false) (of-pdo f 0 j) q-free in
+            and-then-false (not (eqb q p) && isValid (f q)) _ free (and-both (not (eqb q p)) (isValid (f q)) (rw other) valid′);
+      }
+
+  pub fits-back : Fits f p w → f p ≡ w → badIdentifier (map f pdos) p w ≡ false
+  unfolding badIdentifier badAlone clashes
+  fits-back g e =
+      let ws = map f pdos in
+      let self : eqb w (getD ws p 0) ≡ true = eq-eqb w _ (sym (of-pdo f 0 i ∙ e)) in
+      or-both-false _ _
+      (or-both-false (badAlone p w) _ (g .alone)
+      (and-false-if (isValid w) _ (λ valid. any-false-of (clashes ws p w) pdos (λ q j. free q j valid))))
+      (and-false-if (isValid w && isValid (getD ws p 0)) (not (eqb w (getD ws p 0))) (λ valid. rw self))
+    where
+      free : (q : ℕ) → In q pdos → isValid w ≡ true → clashes (map f pdos) p w q ≡ false
+      free q j valid =
+          subst (λ (v : ℕ). (not (eqb q p) && isValid v && eqb (frameIdentifier w) (frameIdentifier v)) ≡ false) (sym (of-pdo f 0 j))
+          (and-false-if (not (eqb q p) && isValid (f q)) _ (λ h.
+          g .unlike j (not-false (eqb q p) (and-left (not (eqb q p)) (isValid (f q)) h)) valid (and-right (not (eqb q p)) (isValid (f q)) h)))
+
+-- THE LAW: f are the words before and g those after, of which one at most is another, and that one is legal beside those before
+module _ (f g : ℕ → ℕ) (legal : (q : ℕ) → In q pdos → badIdentifier (map f pdos) q (f q) ≡ false)
+    (change : (q : ℕ) → In q pdos →
+    (g q ≡ f q) ⊎ ((badIdentifier (map f pdos) q (g q) ≡ false) × ((r : ℕ) → In r pdos → (g r ≡ f r) ⊎ (r ≡ q)))) where
+  -- each word fits those before, and against each word after it stands as it stood, or as the new one does
+  stays : {q : ℕ} (j : In q pdos) → Fits f q (g q) → ((r : ℕ) → In r pdos → eqb r q ≡ false → (g r ≡ f r) ⊎ ((g q ≡ f q) × Fits f r (g r))) →
+      Fits g q (g q)
+  stays {q} j own others =
+      record {
+        alone = own .alone;
+        unlike = λ {q = r} k other valid valid′. elim (others r k other) [
+          | inl s ↦ rw s (own .unlike k other valid (rw s at valid′))
+          | inr s ↦ rw (s .0)
+              (eqb-comm (frameIdentifier (f q)) (frameIdentifier (g r)) ∙ s .1 .unlike j (eqb-comm q r ∙ other) valid′ (rw (s .0) at valid))
+        ];
+      }
+
+  pub identifiers-stay : (q : ℕ) (j : In q pdos) → badIdentifier (map g pdos) q (g q) ≡ false
+  identifiers-stay q j =
+      fits-back g (g q) j
+      (elim (change q j) [
+        | inl e ↦ stays j (rw e (fits f (f q) j (legal q j)))
+            (λ r k other. elim (change r k) [ inl s ↦ inl s | inr s ↦ inr (e, fits f (g r) k (s .0)) ])
+        | inr c ↦ stays j (fits f (g q) j (c .0)) (λ r k other. elim (c .1 r k) [ inl s ↦ inl s | inr s ↦ clash (eqb r q) (eq-eqb r q s) other ])
+      ]) refl
 
 -- ---- the clauses, row by row
 
@@ -40,48 +108,53 @@ all-map f g (x ∷ xs) = ap (λ (b : Bool). f (g x) && b) (all-map f g xs)
 
 -- a test of every value, as a test of every row
 of-values : (f : Write → Bool) (d : List ℕ) → all f (unpacked table d) ≡ all (λ x. f (write x (read d x))) table
-of-values f d = ap (all f) (unpacked-table d) ∙ all-map f (λ x. write x (read d x)) table
+of-values f d = rw unpacked-table (all-map f (λ x. write x (read d x)) table)
 
-listedTest : ℕ → List ℕ → Row → Bool
-listedTest n d x = not (isConstant (x .access)) || eqb (read d x) (defaultOf n x)
-
-pub entries-good : {p : ℕ} (d : List ℕ) → In p pdos → all (λ w. isGood (entryVerdict p w)) (mapWords d p) ≡ all (λ k. isGood (entryVerdict p (read d (mapEntry p k)))) mapSlots
-entries-good {p} d i = ap (all (λ w. isGood (entryVerdict p w))) (words-read d i) ∙ all-map (λ w. isGood (entryVerdict p w)) (λ k. read d (mapEntry p k)) mapSlots
+pub entries-good : {p : ℕ} (d : List ℕ) → In p pdos →
+    all (λ w. isGood (entryVerdict p w)) (mapWords d p) ≡ all (λ k. isGood (entryVerdict p (read d (mapEntry p k)))) mapSlots
+entries-good {p} d i = rw (words-read d i) (all-map (λ w. isGood (entryVerdict p w)) (λ k. read d (mapEntry p k)) mapSlots)
 
 named-at : {p : ℕ} (d : List ℕ) → In p pdos → getD (identifiers d) p 0 ≡ read d (identifier p)
 unfolding identifiers
 named-at d i = of-pdo (λ q. read d (identifier q)) 0 i
 
+-- what the clauses ask of a value in its row
+listed : ℕ → Write → Bool
+listed n w = not (isConstant (w .row .access)) || eqb (w .value) (defaultOf n (w .row))
+
+ranged : Write → Bool
+ranged w = inRange (w .row) (w .value)
+
 pub from-test : (n : ℕ) (d : List ℕ) → dictionarySound n d ≡ true → DictionaryOk n d
-unfolding dictionarySound constantsAsListed valuesInRange mappingsLegal mappingLegal identifiersLegal listedTest
+unfolding dictionarySound constantsAsListed valuesInRange mappingsLegal mappingLegal identifiersLegal listed ranged
 from-test n d h =
-    let c = constantsAsListed n d in
-    let v = valuesInRange d in
-    let m = mappingsLegal d in
-    let abc = and-left (c && v && m) (identifiersLegal d) h in
-    let ab = and-left (c && v) m abc in
-    let maps : (p : ℕ) → In p pdos → mappingLegal d p ≡ true = λ p i. all-in (mappingLegal d) i (and-right (c && v) m abc) in
+    let a = and-left (constantsAsListed n d && valuesInRange d && mappingsLegal d) (identifiersLegal d) h in
+    let b = and-left (constantsAsListed n d && valuesInRange d) (mappingsLegal d) a in
+    let maps : (p : ℕ) → In p pdos → mappingLegal d p ≡ true =
+    λ p i. all-in (mappingLegal d) i (and-right (constantsAsListed n d && valuesInRange d) _ a) in
     record {
-      listed = λ x i k. eqb-true _ _ (implied (isConstant (x .access)) _ (all-in (listedTest n d) i (sym (of-values (λ w. not (isConstant (w .row .access)) || eqb (w .value) (defaultOf n (w .row))) d) ∙ and-left c v ab)) k);
-      ranged = λ x i. all-in (λ x. inRange x (read d x)) i (sym (of-values (λ w. inRange (w .row) (w .value)) d) ∙ and-right c v ab);
+      listed = λ x i k. eqb-true _ _ (implied (isConstant (x .access)) _
+          (all-in (λ x. listed n (write x (read d x))) i (sym (of-values (listed n) d) ∙ and-left (constantsAsListed n d) (valuesInRange d) b)) k);
+      ranged = λ x i. all-in (λ x. inRange x (read d x)) i (sym (of-values ranged d) ∙ and-right (constantsAsListed n d) (valuesInRange d) b);
       words = λ p k i j. all-in (λ k. isGood (entryVerdict p (read d (mapEntry p k)))) j (sym (entries-good d i) ∙ and-left _ _ (maps p i));
       counts = λ p i. and-right (all (λ w. isGood (entryVerdict p w)) (mapWords d p)) _ (maps p i);
-      named = λ p i. subst (λ (w : ℕ). badIdentifier (identifiers d) p w ≡ false) (named-at d i)
-          (not-false _ (all-in (λ p. not (badIdentifier (identifiers d) p (getD (identifiers d) p 0))) i (and-right (c && v && m) _ h)));
+      named = λ p i. rw (← named-at d i) (not-false _ (all-in (λ p. not (badIdentifier (identifiers d) p (getD (identifiers d) p 0))) i
+          (and-right (constantsAsListed n d && valuesInRange d && mappingsLegal d) _ h)));
     }
 
 pub to-test : (n : ℕ) (d : List ℕ) → DictionaryOk n d → dictionarySound n d ≡ true
-unfolding dictionarySound constantsAsListed valuesInRange mappingsLegal mappingLegal identifiersLegal listedTest
+unfolding dictionarySound constantsAsListed valuesInRange mappingsLegal mappingLegal identifiersLegal listed ranged
 to-test n d ok =
-    and-both _ _
-    (and-both _ _
-    (and-both _ _
-    (of-values (λ w. not (isConstant (w .row .access)) || eqb (w .value) (defaultOf n (w .row))) d
-    ∙ all-of (listedTest n d) table (λ x i. implies (isConstant (x .access)) _ (λ k. eq-eqb _ _ (ok .listed x i k))))
-    (of-values (λ w. inRange (w .row) (w .value)) d ∙ all-of (λ x. inRange x (read d x)) table (ok .ranged)))
-    (all-of (mappingLegal d) pdos (λ p i. and-both _ _ (entries-good d i ∙ all-of (λ k. isGood (entryVerdict p (read d (mapEntry p k)))) mapSlots (λ k j. ok .words p k i j)) (ok .counts p i))))
-    (all-of (λ p. not (badIdentifier (identifiers d) p (getD (identifiers d) p 0))) pdos
-    (λ p i. false-not _ (subst (λ (w : ℕ). badIdentifier (identifiers d) p w ≡ false) (sym (named-at d i)) (ok .named p i))))
+    rw (
+      of-values (listed n) d,
+      all-of (λ x. listed n (write x (read d x))) table (λ x i. implies (isConstant (x .access)) _ (λ k. eq-eqb _ _ (ok .listed x i k))),
+      of-values ranged d,
+      all-of (λ x. inRange x (read d x)) table (ok .ranged),
+      all-of (mappingLegal d) pdos
+          (λ p i. rw (entries-good d i, all-of (λ k. isGood (entryVerdict p (read d (mapEntry p k)))) mapSlots (λ k j. ok .words p k i j))
+          (ok .counts p i)),
+      all-of (λ p. not (badIdentifier (identifiers d) p (getD (identifiers d) p 0))) pdos (λ p i. rw (named-at d i) (false-not _ (ok .named p i))),
+    )
 
 -- ---- one write
 
@@ -99,7 +172,7 @@ map-same f g [] h = refl
 map-same f g (x ∷ xs) h = ap₂ _∷_ (h x here) (map-same f g xs (λ y i. h y (there i)))
 
 -- a PDO's row belongs to one of the eight
-ofPdo : Role → Bool
+abbrev pub ofPdo : Role → Bool
 ofPdo Plain = true
 ofPdo ModeOfOperation = true
 ofPdo (PdoIdentifier p) = ltb p 8
@@ -107,51 +180,9 @@ ofPdo (PdoType p) = ltb p 8
 ofPdo (MappingCount p) = ltb p 8
 ofPdo (MappingEntry p) = ltb p 8
 
-roles-test : all (λ x. ofPdo (x .role)) table ≡ true
-unfolding ofPdo table
-roles-test = refl
-
-in-pdos : (p : ℕ) → p < 8 → In p pdos
-in-pdos zero h = here
-in-pdos (suc zero) h = there here
-in-pdos (suc (suc zero)) h = there (there here)
-in-pdos (suc (suc (suc zero))) h = there (there (there here))
-in-pdos (suc (suc (suc (suc zero)))) h = there (there (there (there here)))
-in-pdos (suc (suc (suc (suc (suc zero))))) h = there (there (there (there (there here))))
-in-pdos (suc (suc (suc (suc (suc (suc zero)))))) h = there (there (there (there (there (there here)))))
-in-pdos (suc (suc (suc (suc (suc (suc (suc zero))))))) h = there (there (there (there (there (there (there here))))))
-in-pdos (suc (suc (suc (suc (suc (suc (suc (suc p)))))))) h = absurd (omega arith)
-
--- the PDO that a role names
-pub data Names (p : ℕ) : Role → Type 0 where
-  byIdentifier : Names p (PdoIdentifier p)
-  byType : Names p (PdoType p)
-  byCount : Names p (MappingCount p)
-  byEntry : Names p (MappingEntry p)
-
-pub pdo-of : {x : Row} {r : Role} {p : ℕ} → In x table → x .role ≡ r → Names p r → In p pdos
-unfolding ofPdo
-pdo-of {x} {r} {p} i e names = in-pdos p (ltb-true p 8 (go names (ap ofPdo (sym e) ∙ all-in (λ x. ofPdo (x .role)) i roles-test)))
-  where
-    go : {r : Role} → Names p r → ofPdo r ≡ true → ltb p 8 ≡ true
-    go byIdentifier h = h
-    go byType h = h
-    go byCount h = h
-    go byEntry h = h
-
-no-both : {p q : ℕ} → MappingCount p ≡ MappingEntry q → ⊥
-no-both e = let c : _≡_ {A = ℕ} 0 1 = cc in omega arith
-
-isName : Role → Bool
-isName Plain = false
-isName ModeOfOperation = false
-isName (PdoIdentifier p) = true
-isName (PdoType p) = false
-isName (MappingCount p) = false
-isName (MappingEntry p) = false
-
-same-pdo : {p q : ℕ} → PdoIdentifier p ≡ PdoIdentifier q → q ≡ p
-same-pdo e = cc
+pub pdo-of : {x : Row} {p : ℕ} → In x table → ofPdo (x .role) ≡ ltb p 8 → In p pdos
+unfolding table
+pdo-of {x} {p} i e = pdo-in p (ltb-true p 8 (sym e ∙ all-in (λ x. ofPdo (x .role)) i refl))
 
 -- no mapping at all is legal, whatever the words
 good-zero : (ws : List ℕ) → isGood (countVerdict ws 0) ≡ true
@@ -160,106 +191,157 @@ good-zero ws = refl
 
 module _ (n : ℕ) (d : List ℕ) (x : Row) (v : ℕ) (here-in : In x table) (long : length d ≡ dictionaryLength)
     (ok : DictionaryOk n d) (may : MayHold n d x v) where
-  d′ : List ℕ
+  abbrev d′ : List ℕ
   d′ = store x v d
 
   -- a row after the write: it is the row written, or it stays
   after : (y : Row) → In y table → ((x ≡ y) × (read d′ y ≡ v)) ⊎ (read d′ y ≡ read d y)
-  unfolding d′
-  after y j = go (same-or-apart here-in j)
-    where
-      go : (x ≡ y) ⊎ (apart x y ≡ true) → ((x ≡ y) × (read (store x v d) y ≡ v)) ⊎ (read (store x v d) y ≡ read d y)
-      go (inl e) = inl (e, subst (λ (z : Row). read (store x v d) z ≡ v) e (read-same x v d (omega (arith, within here-in)) (may .fits)))
-      go (inr a) = inr (read-apart x y v d a)
-
-  listed-after : (y : Row) → In y table → isConstant (y .access) ≡ true → read d′ y ≡ defaultOf n y
-  listed-after y j k = go (after y j)
-    where
-      go : ((x ≡ y) × (read d′ y ≡ v)) ⊎ (read d′ y ≡ read d y) → read d′ y ≡ defaultOf n y
-      go (inl s) = s .1 ∙ may .listed (ap (λ (z : Row). isConstant (z .access)) (s .0) ∙ k) ∙ ap (defaultOf n) (s .0)
-      go (inr s) = s ∙ ok .listed y j k
-
-  ranged-after : (y : Row) → In y table → inRange y (read d′ y) ≡ true
-  ranged-after y j = go (after y j)
-    where
-      go : ((x ≡ y) × (read d′ y ≡ v)) ⊎ (read d′ y ≡ read d y) → inRange y (read d′ y) ≡ true
-      go (inl s) = ap₂ inRange (sym (s .0)) (s .1) ∙ may .ranged
-      go (inr s) = ap (inRange y) s ∙ ok .ranged y j
+  after y j =
+      elim (same-or-apart here-in j) [
+        | inl e ↦ inl (e, subst (λ (z : Row). read d′ z ≡ v) e (read-same x v d (omega (arith, within here-in)) (may .fits)))
+        | inr a ↦ inr (read-apart x y v d a)
+      ]
 
   words-after : (p k : ℕ) → In p pdos → In k mapSlots → isGood (entryVerdict p (read d′ (mapEntry p k))) ≡ true
-  words-after p k i j = go (after (mapEntry p k) (entry-in i j))
-    where
-      go : ((x ≡ mapEntry p k) × (read d′ (mapEntry p k) ≡ v)) ⊎ (read d′ (mapEntry p k) ≡ read d (mapEntry p k)) → isGood (entryVerdict p (read d′ (mapEntry p k))) ≡ true
-      go (inl s) = ap (λ (w : ℕ). isGood (entryVerdict p w)) (s .1) ∙ may .entry p (ap (λ (z : Row). z .role) (s .0)) .0
-      go (inr s) = ap (λ (w : ℕ). isGood (entryVerdict p w)) s ∙ ok .words p k i j
+  words-after p k i j =
+      elim (after (mapEntry p k) (entry-in i j)) [
+        | inl s ↦ rw (s .1) (may .entry p (ap (λ (z : Row). z .role) (s .0)) .0)
+        | inr s ↦ rw s (ok .words p k i j)
+      ]
 
   -- the words stay where no entry of the PDO was written
   words-stay : (p : ℕ) → In p pdos → ((k : ℕ) → In k mapSlots → x ≡ mapEntry p k → ⊥) → mapWords d′ p ≡ mapWords d p
   words-stay p i other =
-      words-read d′ i ∙ map-same (λ k. read d′ (mapEntry p k)) (λ k. read d (mapEntry p k)) mapSlots (λ k j. go k j (after (mapEntry p k) (entry-in i j))) ∙ sym (words-read d i)
-    where
-      go : (k : ℕ) → In k mapSlots → ((x ≡ mapEntry p k) × (read d′ (mapEntry p k) ≡ v)) ⊎ (read d′ (mapEntry p k) ≡ read d (mapEntry p k)) → read d′ (mapEntry p k) ≡ read d (mapEntry p k)
-      go k j (inl s) = absurd (other k j (s .0))
-      go k j (inr s) = s
+      words-read d′ i
+      ∙ map-same (λ k. read d′ (mapEntry p k)) (λ k. read d (mapEntry p k)) mapSlots
+      (λ k j. elim (after (mapEntry p k) (entry-in i j)) [ inl s ↦ absurd (other k j (s .0)) | inr s ↦ s ])
+      ∙ sym (words-read d i)
 
   counts-after : (p : ℕ) → In p pdos → isGood (countVerdict (mapWords d′ p) (read d′ (mapCount p))) ≡ true
-  counts-after p i = go (after (mapCount p) (count-in i)) (either (eqb (read d (mapCount p)) 0))
-    where
-      go : ((x ≡ mapCount p) × (read d′ (mapCount p) ≡ v)) ⊎ (read d′ (mapCount p) ≡ read d (mapCount p)) →
-          (eqb (read d (mapCount p)) 0 ≡ true) ⊎ (eqb (read d (mapCount p)) 0 ≡ false) → isGood (countVerdict (mapWords d′ p) (read d′ (mapCount p))) ≡ true
-      go (inl s) z =
-          ap₂ (λ (ws : List ℕ) (k : ℕ). isGood (countVerdict ws k)) (words-stay p i (λ k j e. no-both (ap (λ (z : Row). z .role) (sym (s .0) ∙ e)))) (s .1)
-          ∙ may .count p (ap (λ (z : Row). z .role) (s .0))
-      go (inr s) (inl z) = ap (λ (k : ℕ). isGood (countVerdict (mapWords d′ p) k)) (s ∙ eqb-true _ _ z) ∙ good-zero (mapWords d′ p)
-      go (inr s) (inr z) =
-          ap₂ (λ (ws : List ℕ) (k : ℕ). isGood (countVerdict ws k))
-          (words-stay p i (λ k j e. clash _ (eq-eqb _ _ (may .entry p (ap (λ (z : Row). z .role) e) .1)) z)) s
-          ∙ ok .counts p i
+  counts-after p i =
+      elim (after (mapCount p) (count-in i)) [
+        | inl s ↦ rw (words-stay p i (λ k j e. let z : _≡_ {A = ℕ} 0 1 = cc (ap (λ (z : Row). z .role) (sym (s .0) ∙ e)) in omega arith), s .1)
+            (may .count p (ap (λ (z : Row). z .role) (s .0)))
+        | inr s ↦ elim (either (eqb (read d (mapCount p)) 0)) [
+          | inl z ↦ rw (s, eqb-true (read d (mapCount p)) 0 z) (good-zero (mapWords d′ p))
+          | inr z ↦ rw (words-stay p i (λ k j e. clash _ (eq-eqb _ _ (may .entry p (ap (λ (z : Row). z .role) e) .1)) z), s) (ok .counts p i)
+        ]
+      ]
 
-  -- the identifiers stay where none of them was written
-  names-stay : ((q : ℕ) → x .role ≡ PdoIdentifier q → ⊥) → (q : ℕ) → In q pdos → read d′ (identifier q) ≡ read d (identifier q)
-  names-stay other q j = go (after (identifier q) (identifier-in j))
-    where
-      go : ((x ≡ identifier q) × (read d′ (identifier q) ≡ v)) ⊎ (read d′ (identifier q) ≡ read d (identifier q)) → read d′ (identifier q) ≡ read d (identifier q)
-      go (inl s) = absurd (other q (ap (λ (z : Row). z .role) (s .0)))
-      go (inr s) = s
-
-  names-kept : ((q : ℕ) → x .role ≡ PdoIdentifier q → ⊥) → (q : ℕ) → In q pdos → badIdentifier (identifiers d′) q (read d′ (identifier q)) ≡ false
-  unfolding identifiers
-  names-kept other q j =
-      ap₂ (λ (ws : List ℕ) (w : ℕ). badIdentifier ws q w) (map-same (λ q. read d′ (identifier q)) (λ q. read d (identifier q)) pdos (names-stay other)) (names-stay other q j)
-      ∙ ok .named q j
-
-  one-named : (p : ℕ) → x .role ≡ PdoIdentifier p → (q : ℕ) → In q pdos → badIdentifier (identifiers d′) q (read d′ (identifier q)) ≡ false
-  unfolding identifiers
-  one-named p e q j =
-      identifiers-stay (λ q. read d (identifier q)) (λ q. read d′ (identifier q)) p v (pdo-of here-in e byIdentifier)
-      (λ r k. go r (after (identifier r) (identifier-in k))) (ok .named) (may .named p e) q j
-    where
-      go : (r : ℕ) → ((x ≡ identifier r) × (read d′ (identifier r) ≡ v)) ⊎ (read d′ (identifier r) ≡ read d (identifier r)) →
-          (read d′ (identifier r) ≡ read d (identifier r)) ⊎ ((r ≡ p) × (read d′ (identifier r) ≡ v))
-      go r (inl s) = inr (same-pdo (sym e ∙ ap (λ (z : Row). z .role) (s .0)), s .1)
-      go r (inr s) = inl s
-
+  -- the identifiers: one of them is written, or all stay
   named-after : (q : ℕ) → In q pdos → badIdentifier (identifiers d′) q (read d′ (identifier q)) ≡ false
-  unfolding isName
-  named-after q j = go (x .role) refl
-    where
-      go : (r : Role) → x .role ≡ r → badIdentifier (identifiers d′) q (read d′ (identifier q)) ≡ false
-      go Plain e = names-kept (λ p h. clash (isName (x .role)) (ap isName h) (ap isName e)) q j
-      go ModeOfOperation e = names-kept (λ p h. clash (isName (x .role)) (ap isName h) (ap isName e)) q j
-      go (PdoIdentifier p) e = one-named p e q j
-      go (PdoType p) e = names-kept (λ p h. clash (isName (x .role)) (ap isName h) (ap isName e)) q j
-      go (MappingCount p) e = names-kept (λ p h. clash (isName (x .role)) (ap isName h) (ap isName e)) q j
-      go (MappingEntry p) e = names-kept (λ p h. clash (isName (x .role)) (ap isName h) (ap isName e)) q j
+  unfolding identifiers
+  named-after =
+      identifiers-stay (λ q. read d (identifier q)) (λ q. read d′ (identifier q)) (ok .named)
+      (λ q j. elim (after (identifier q) (identifier-in j)) [
+        | inl s ↦ inr (
+          rw (s .1) (may .named q (ap (λ (z : Row). z .role) (s .0))),
+          λ r k. elim (after (identifier r) (identifier-in k)) [
+            | inl u ↦ inr (cc (ap (λ (z : Row). z .role) (sym (u .0) ∙ s .0)))
+            | inr u ↦ inl u
+          ],
+        )
+        | inr s ↦ inl s
+      ])
 
-pub store-ok : (n : ℕ) (d : List ℕ) (x : Row) (v : ℕ) → In x table → length d ≡ dictionaryLength → DictionaryOk n d → MayHold n d x v → DictionaryOk n (store x v d)
-unfolding d′
+pub store-ok : (n : ℕ) (d : List ℕ) (x : Row) (v : ℕ) → In x table → length d ≡ dictionaryLength → DictionaryOk n d → MayHold n d x v →
+    DictionaryOk n (store x v d)
 store-ok n d x v i l ok may =
     record {
-      listed = listed-after n d x v i l ok may;
-      ranged = ranged-after n d x v i l ok may;
+      listed = λ y j k. elim (after n d x v i l ok may y j) [
+        | inl s ↦ rw (s .1) (subst (λ (z : Row). isConstant (z .access) ≡ true → v ≡ defaultOf n z) (s .0) (may .listed) k)
+        | inr s ↦ s ∙ ok .listed y j k
+      ];
+      ranged = λ y j. elim (after n d x v i l ok may y j) [
+        | inl s ↦ rw (s .1) (subst (λ (z : Row). inRange z v ≡ true) (s .0) (may .ranged))
+        | inr s ↦ rw s (ok .ranged y j)
+      ];
       words = words-after n d x v i l ok may;
       counts = counts-after n d x v i l ok may;
       named = named-after n d x v i l ok may;
     }
+
+-- the row is of a PDO
+abbrev pub isPdo : Role → Bool
+isPdo Plain = false
+isPdo ModeOfOperation = false
+isPdo (PdoIdentifier p) = true
+isPdo (PdoType p) = true
+isPdo (MappingCount p) = true
+isPdo (MappingEntry p) = true
+
+-- ---- what a mapping names stands in the table
+
+targets-in : (ws : List ℕ) {x : Row} → In x (targets ws) → In x table
+unfolding targets andThen
+targets-in [] i = absurd (none-in i)
+targets-in (w ∷ ws) {x} i = go (lookup (wordIndex w) (wordSubindex w)) refl i (λ j. targets-in ws j)
+  where
+    go : (f : Found) → lookup (wordIndex w) (wordSubindex w) ≡ f → In x (andThen f (targets ws)) → (In x (targets ws) → In x table) → In x table
+    go (found y) e here rest = found-in (wordIndex w) (wordSubindex w) e
+    go (found y) e (there j) rest = rest j
+    go noObject e j rest = rest j
+    go noSubindex e j rest = rest j
+
+pub mapped-in : (d : List ℕ) (p : ℕ) {x : Row} → In x (mapped d p) → In x table
+unfolding mapped
+mapped-in d p i = targets-in _ i
+
+-- ---- two dictionaries
+
+module _ (d d′ : List ℕ) (alike : (y : Row) → In y table → isPdo (y .role) ≡ true → read d′ y ≡ read d y) where
+  pub identifiers-alike : identifiers d′ ≡ identifiers d
+  unfolding identifiers
+  identifiers-alike = map-same (λ p. read d′ (identifier p)) (λ p. read d (identifier p)) pdos (λ p i. alike (identifier p) (identifier-in i) refl)
+
+  pub words-alike : {p : ℕ} → In p pdos → mapWords d′ p ≡ mapWords d p
+  words-alike {p} i =
+      words-read d′ i ∙ map-same (λ k. read d′ (mapEntry p k)) (λ k. read d (mapEntry p k)) mapSlots (λ k j. alike (mapEntry p k) (entry-in i j) refl)
+      ∙ sym (words-read d i)
+
+  pub count-alike : {p : ℕ} → In p pdos → read d′ (mapCount p) ≡ read d (mapCount p)
+  count-alike {p} i = alike (mapCount p) (count-in i) refl
+
+  pub mapped-alike : {p : ℕ} → In p pdos → mapped d′ p ≡ mapped d p
+  unfolding mapped
+  mapped-alike i = ap₂ (λ (n : ℕ) (ws : List ℕ). targets (take n ws)) (count-alike i) (words-alike i)
+
+  pub works-alike : (m : NmtState) {p : ℕ} → In p pdos → works m d′ p ≡ works m d p
+  unfolding works
+  works-alike m {p} i = rw (alike (identifier p) (identifier-in i) refl, count-alike i)
+
+  pub type-alike : {p : ℕ} → In p pdos → typeOf d′ p ≡ typeOf d p
+  type-alike {p} i = alike (transmissionType p) (type-in i) refl
+
+  other-alike : (v : ℕ) (r : Role) → otherBadValue d′ r v ≡ otherBadValue d r v
+  unfolding otherBadValue
+  other-alike v Plain = refl
+  other-alike v ModeOfOperation = refl
+  other-alike v (PdoIdentifier p) = rw identifiers-alike
+  other-alike v (PdoType p) = refl
+  other-alike v (MappingCount p) = refl
+  other-alike v (MappingEntry p) = refl
+
+  mapping-alike : {x : Row} → In x table → (v : ℕ) (r : Role) → x .role ≡ r → mappingVerdict d′ r v ≡ mappingVerdict d r v
+  unfolding mappingVerdict
+  mapping-alike i v Plain e = refl
+  mapping-alike i v ModeOfOperation e = refl
+  mapping-alike i v (PdoIdentifier p) e = refl
+  mapping-alike i v (PdoType p) e = refl
+  mapping-alike i v (MappingCount p) e = rw (words-alike (pdo-of i (ap ofPdo e)))
+  mapping-alike i v (MappingEntry p) e = refl
+
+  pub verdict-alike : (x : Row) → In x table → (v : ℕ) → valueVerdict d′ x v ≡ valueVerdict d x v
+  unfolding valueVerdict
+  verdict-alike x i v = rw (other-alike v (x .role), mapping-alike i v (x .role) refl)
+
+  legal-alike : (xs : List Row) (bs : List ℕ) → ((x : Row) → In x xs → In x table) → areLegal d′ (unpacked xs bs) ≡ areLegal d (unpacked xs bs)
+  unfolding areLegal unpacked
+  legal-alike [] bs h = refl
+  legal-alike (x ∷ xs) bs h =
+      ap₂ _&&_ (ap isGood (verdict-alike x (h x here) (value (take (sizeOf x) bs)))) (legal-alike xs (drop (sizeOf x) bs) (λ y i. h y (there i)))
+
+  pub held-alike : (m : NmtState) {p : ℕ} → In p pdos → (f : PdoData) → heldSound m d′ p f ≡ heldSound m d p f
+  unfolding heldSound
+  held-alike m {p} i f =
+      rw (works-alike m i, type-alike i, mapped-alike i, legal-alike (mapped d p) (f .bytes) (λ x j. mapped-in d p j))

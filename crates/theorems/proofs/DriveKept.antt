@@ -1,25 +1,15 @@
 -- The drive stays sound through every command, mode and event: the store, both marks and the cause stay in their place.
 -- Assumes nothing.
-use Prim.Native.Nat.{ℕ}
-use mathlib.Core.Path.{_≡_, refl, sym, _∙_, ap}
-use mathlib.Core.Bool.{Bool, true, false, cond, not, _&&_, _||_, or-true}
-use mathlib.Core.List.{List, [], _∷_}
-use Rattle.drive.specs.declared.DriveState.{DriveState}
-use Rattle.drive.specs.declared.DriveState.the-variants.{NotReady, SwitchOnDisabled, ReadyToSwitchOn, SwitchedOn, OperationEnabled, QuickStopActive, FaultReactionActive, Fault}
-use Rattle.drive.specs.declared.Store.{Store}
-use Rattle.drive.specs.declared.Store.the-variants.{Empty, Rested, Moving, Queued}
-use Rattle.drive.specs.declared.Drive.{Drive}
-use Rattle.rules_dictionary.specs.Numbers.{all, bit}
-use Rattle.rules_dictionary.specs.Table.{controlWord, mode}
-use Rattle.rules_dictionary.specs.Values.{read}
-use Rattle.rules_dictionary.specs.Members.{In, here, there}
-use Rattle.rules_dictionary.proofs.Tests.{and-left, and-right, and-both, or-left, or-right, all-in}
-use Rattle.drive.specs.declared.Command.{Command}
-use Rattle.drive.specs.declared.Command.the-variants.{None, FaultReset, DisableVoltage, QuickStop, Shutdown, SwitchOn, Enable}
+use Rattle.theorems.proofs.Words.{ℕ, _≡_, refl, sym, _∙_, ap, Bool, true, false, not, _&&_, _||_, or-true, and-eq-true-iff, List, [], _∷_}
+use Rattle.theorems.proofs.Words.{DriveState, NotReady, SwitchOnDisabled, ReadyToSwitchOn, SwitchedOn, OperationEnabled, QuickStopActive}
+use Rattle.theorems.proofs.Words.{FaultReactionActive, Fault, Store, Empty, Rested, Moving, Queued, Drive, Command, None, FaultReset}
+use Rattle.theorems.proofs.Words.{DisableVoltage, QuickStop, Shutdown, SwitchOn, Enable, In, here, there, and-left, and-right, and-both}
+use Rattle.theorems.proofs.Words.{or-left, all-in, clash, by-test, whichever, implied, implies}
+use Rattle.rules_dictionary.specs.{Numbers.all, Numbers.bit, Table.controlWord, Table.mode, Values.read}
 use Rattle.drive.specs.DriveStates.{isFaulty, command, next}
-use Rattle.drive.specs.SetPoints.{positions, emptied, enters, withState, withMode, withStore, withMarks, isEmpty, isMoving, isQueued, reached, offered, target, withinLimits, setPoint, setPointRule, modeWritten, modeOf, controlWritten, newSetPointBit, atOnceBit, withTaken}
+use Rattle.drive.specs.SetPoints.{positions, emptied, enters, withState, withMode, withStore, isEmpty, isMoving, isQueued, reached, withTaken}
+use Rattle.drive.specs.SetPoints.{offered, target, withinLimits, setPointRule, modeWritten, modeOf, controlWritten, newSetPointBit, atOnceBit}
 use Rattle.rules.specs.Sound.{storeInPlace, takenInPlace, causeInPlace, driveSound}
-use Rattle.theorems.proofs.Booleans.{clash, by-test, whichever, implied, implies}
 
 -- ---- a test of every state, and of every command in it, with a cause and without
 
@@ -58,6 +48,19 @@ on-ways f h b s c =
     let k = all-in (λ c. f true s c && f false s c) (command-in c) (all-in (λ s. all (λ c. f true s c && f false s c) commands) (state-in s) h) in
     elim b [ true ↦ and-left (f true s c) (f false s c) k | false ↦ and-right (f true s c) (f false s c) k ]
 
+-- ---- a sound drive, by its parts
+
+pub record Parts (v : Drive) (d : List ℕ) : Type 0 where
+  pub store : storeInPlace v ≡ true
+  pub taken : takenInPlace v d ≡ true
+  pub cause : causeInPlace v ≡ true
+
+pub parts : (v : Drive) (d : List ℕ) → driveSound v d ≡ true → Parts v d
+unfolding driveSound
+parts v d h =
+    let k = simp and-eq-true-iff at h in
+    record { store = k .0 .0; taken = k .0 .1; cause = k .1 }
+
 -- ---- emptied: the store and both marks are in place; the taken mark at most goes
 
 -- what a rule of set-points leaves alone
@@ -93,7 +96,8 @@ pub enters-store : (s : DriveState) (v : Drive) → storeInPlace (enters s v) �
 unfolding enters
 enters-store s v = emptied-store (withState s v)
 
-pub enters-sound : (s : DriveState) (v : Drive) (d : List ℕ) → takenInPlace v d ≡ true → (v .cause ≡ true → isFaulty s ≡ true) → driveSound (enters s v) d ≡ true
+pub enters-sound : (s : DriveState) (v : Drive) (d : List ℕ) → takenInPlace v d ≡ true → (v .cause ≡ true → isFaulty s ≡ true) →
+    driveSound (enters s v) d ≡ true
 unfolding driveSound enters takenInPlace
 enters-sound s v d t h = and-both _ _ (and-both _ _ (emptied-store (withState s v)) (emptied-taken (withState s v) d t)) (enters-cause s v h)
 
@@ -158,23 +162,18 @@ control-mode d old v = rule-same d old (read d controlWord) _ .mode ∙ emptied-
 -- ---- 6060h
 
 -- THE LAW of a mode: in place, whatever the mode
-pub mode-store : (d : List ℕ) (v : Drive) → storeInPlace (modeWritten d v) ≡ true
-unfolding modeWritten
-mode-store d v = emptied-store (withMode (modeOf (read d mode)) v)
+pub record Moded (d : List ℕ) (v w : Drive) : Type 0 where
+  pub mode : w .mode ≡ modeOf (read d mode)
+  pub store : storeInPlace w ≡ true
+  pub cause : causeInPlace v ≡ true → causeInPlace w ≡ true
+  pub taken : (d′ : List ℕ) → takenInPlace v d′ ≡ true → takenInPlace w d′ ≡ true
 
-pub mode-taken : (d d′ : List ℕ) (v : Drive) → takenInPlace v d′ ≡ true → takenInPlace (modeWritten d v) d′ ≡ true
-unfolding modeWritten takenInPlace
-mode-taken d d′ v h = emptied-taken (withMode (modeOf (read d mode)) v) d′ h
-
-pub mode-cause : (d : List ℕ) (v : Drive) → causeInPlace v ≡ true → causeInPlace (modeWritten d v) ≡ true
-unfolding modeWritten causeInPlace
-mode-cause d v h =
-    let k = emptied-same (withMode (modeOf (read d mode)) v) in
-    rw (k .cause, k .state) h
-
-pub mode-now : (d : List ℕ) (v : Drive) → modeWritten d v .mode ≡ modeOf (read d mode)
-unfolding modeWritten
-mode-now d v = emptied-same (withMode (modeOf (read d mode)) v) .mode
+pub mode-moded : (d : List ℕ) (v : Drive) → Moded d v (modeWritten d v)
+unfolding modeWritten causeInPlace takenInPlace
+mode-moded d v =
+    let w = withMode (modeOf (read d mode)) v in
+    let k = emptied-same w in
+    record { mode = k .mode; store = emptied-store w; cause = λ h. rw (k .cause, k .state) h; taken = emptied-taken w }
 
 -- ---- events
 
@@ -186,10 +185,10 @@ moving-positions false t l (Rested p) h m = h
 moving-positions false t l (Moving p) h m = h
 moving-positions false t l (Queued p q) h m = h
 
-pub reached-sound : (v : Drive) (d : List ℕ) → driveSound v d ≡ true → isMoving (v .store) ≡ true → driveSound (withStore (reached (v .store)) v) d ≡ true
+pub reached-sound : (v : Drive) (d : List ℕ) → driveSound v d ≡ true → isMoving (v .store) ≡ true →
+    driveSound (withStore (reached (v .store)) v) d ≡ true
 unfolding driveSound storeInPlace takenInPlace causeInPlace
 reached-sound v d h m =
-    let st = and-left (storeInPlace v && takenInPlace v d) (causeInPlace v) h in
-    and-both _ _
-    (and-both _ _ (or-left (positions v) _ (moving-positions (positions v) (v .taken) (v .limit) (v .store) (and-left (storeInPlace v) (takenInPlace v d) st) m))
-    (and-right (storeInPlace v) (takenInPlace v d) st)) (and-right (storeInPlace v && takenInPlace v d) (causeInPlace v) h)
+    let k = parts v d h in
+    and-both _ _ (and-both _ _ (or-left (positions v) _ (moving-positions (positions v) (v .taken) (v .limit) (v .store) (k .store) m)) (k .taken))
+    (k .cause)

@@ -1,46 +1,32 @@
 -- Every call keeps what holds between calls, and so do runs.
 -- Assumes nothing.
-use Prim.Native.Nat.{ℕ, zero, suc, _^_, _<_, _≤_}
-use native.Mathlib.Omega.{arith}
-use mathlib.Core.Path.{_≡_, refl, sym, _∙_, ap, subst}
-use mathlib.Core.Logic.{inl, inr}
-use mathlib.Core.Bool.{Bool, true, false, cond, not, _&&_, _||_, or-true}
-use mathlib.Core.List.{List, [], _∷_, append-nil}
-use borrow.Author.Tests.{eq-eqb, eqb-true, le-leb, ltb-true}
-use lib.Dec.{eqb, leb}
-use lib.ListN.{length, getD, drop}
-use Rattle.state.specs.declared.NmtState.the-variants.{Stopped}
-use Rattle.state.specs.declared.State.{State}
-use Rattle.state.specs.declared.Refusal.{Refusal}
-use Rattle.state.specs.declared.Refusal.the-variants.{Accepted, DictionaryLength, OutputLength, NodeId, NotSound, BadFrame, BadEvent, OutOfPlace}
 use Rattle.rules_dictionary.specs.Numbers.{areBytes, isByte, value, part}
-use Rattle.rules_dictionary.specs.TheNode.{isNodeId}
-use Rattle.rules_dictionary.specs.Table.{Row, dictionaryLength, statusWord, modeDisplay, position, velocity}
-use Rattle.rules_dictionary.specs.Values.{store, stored}
-use Rattle.rules_dictionary.specs.Plans.{plansOf, readyOf}
-use Rattle.rules_dictionary.proofs.Tests.{and-left, and-right}
-use Rattle.rules_dictionary.proofs.Rows.{stored-bytes, store-bytes, length-stored, all-drop}
+use Rattle.rules_dictionary.specs.Table.{Row, dictionaryLength, statusWord, modeDisplay, position, velocity, eachWay}
+use Rattle.rules_dictionary.specs.{Legal.modeNumber, TheNode.isNodeId, Values.store, Values.stored, Plans.plansOf, Plans.readyOf}
+use Rattle.theorems.proofs.Words.{ℕ, zero, suc, _^_, _<_, _≤_, arith, _≡_, refl, sym, _∙_, ap, subst, inl, inr, Bool, true, false, not, In}
+use Rattle.theorems.proofs.Words.{PreOperational, here, there, isStopped, _+_, whichever, _&&_, _||_, or-true, List, [], _∷_, append-nil}
+use Rattle.theorems.proofs.Words.{eq-eqb, eqb-true, le-leb, ltb-true, eqb, leb, length, getD, drop, Stopped, State, Refusal, Accepted}
+use Rattle.theorems.proofs.Words.{DictionaryLength, OutputLength, NodeId, NotSound, BadFrame, BadEvent, OutOfPlace, Event, Started}
+use Rattle.theorems.proofs.Words.{QuickStopDone, ReactionDone, SetPointReached, Tick, CauseGone, Feedback, Voltage, Told, Happened, Bad}
+use Rattle.theorems.proofs.Words.{and-left, and-right, stored-bytes, store-bytes, length-stored, all-drop, clash, by-match, or-either}
+use Rattle.theorems.proofs.Words.{not-false, false-not}
+use Rattle.theorems.proofs.Settled.{settled-length, status-fits, mode-fits, settled-status, settled-display, settled-motion, status-same}
+use Rattle.theorems.proofs.Lawful.{Lawful, finally, sound-lawful, drive-lawful, node-lawful, at-end-lawful, paced-sound, same-refl, plan-refl}
+use Rattle.theorems.proofs.Lawful.{data-refl, same-rules}
+use Rattle.theorems.proofs.NmtKept.{LawfulAfter, fresh-lawful, start-lawful, left-lawful, disabled-lawful, reset-lawful, status-row}
+use Rattle.theorems.proofs.NmtKept.{display-row, ArgumentsFit, value-take, enters-lawful, gone-lawful, fault-lawful, plain-lawful}
+use Rattle.theorems.proofs.NmtKept.{position-row, velocity-row}
+use Rattle.theorems.proofs.{Dictionary.to-test, DriveKept.reached-sound, Writes.stored-append, Writes.applied-lawful, PdoKept.held-lawful}
+use Rattle.theorems.proofs.{PdoKept.new-held, Services.Serves, Services.Releases, Services.framed-serves, Services.event-serves}
 use Rattle.drive.specs.SetPoints.{withStore, reached as reachedBy}
-use Rattle.rules_services.specs.Effects.{Effect, andThen, withHeld}
-use Rattle.rules_services.specs.Written.{applied}
-use Rattle.rules_services.specs.Nmt.{Command, commanded, voltageDisabled, powerUp}
-use Rattle.rules_services.specs.Events.{Event, started, quickStopDone, reactionDone, setPointReached, tick, causeGone, fault, feedback, voltage}
-use Rattle.rules_services.specs.Events.{Told, event, badEvent, eventOf, provided, isInPlace, happens}
-use Rattle.rules.specs.Outcome.{ended, settled, mostData}
-use Rattle.rules.specs.Sound.{sound, heartbeatSound}
-use Rattle.rules.specs.Calls.{Call, powerUpCall, frameCall, eventCall, Decision, refuses as refusedBy, does as performs, framed, eventDecision}
-use Rattle.rules.specs.Calls.{decision, decided, refused, accepted, answered, answer, Outcome, refusalNumber, outputLength, lastIdentifier}
-use Rattle.theorems.specs.Promises.{Step, Stand, left, after, octets, allOctets, Run, reached, SoundAt, SoundAlways, NeverUnsound}
-use Rattle.theorems.specs.Promises.{byEvent, byTold, byFrame, mayChange}
-use Rattle.theorems.proofs.Booleans.{clash, by-match, or-either, not-false, false-not}
-use Rattle.theorems.proofs.Settled.{settled-length}
-use Rattle.theorems.proofs.Lawful.{Lawful, sound-lawful, ended-sound}
-use Rattle.theorems.proofs.DriveKept.{reached-sound}
-use Rattle.theorems.proofs.Writes.{stored-append, applied-lawful}
-use Rattle.theorems.proofs.NmtKept.{LawfulAfter, fresh-lawful, start-lawful, left-lawful, disabled-lawful, reset-lawful, beat-lawful, drive-lawful}
-use Rattle.theorems.proofs.EventsKept.{ArgumentsFit, value-take, enters-lawful, gone-lawful, fault-lawful, plain-lawful, position-row, velocity-row}
-use Rattle.theorems.proofs.PdoKept.{held-lawful, new-held}
-use Rattle.theorems.proofs.Services.{Serves, Releases, framed-serves, event-serves, command-serves}
+use Rattle.rules_services.specs.{Effects.Effect, Effects.andThen, Effects.withHeld, Written.applied, Nmt.commanded, Nmt.voltageDisabled, Nmt.powerUp}
+use Rattle.rules_services.specs.{declared.Event.the-variants.Fault, Events.eventOf, Events.provided, Events.isInPlace, Events.happens}
+use Rattle.rules.specs.Outcome.{ended, settled, mostData, statusOf, transmitters, paceFor, samePlan, sameData}
+use Rattle.rules.specs.Sound.{sound, heartbeatSound, statusAsMade, modeAsMade, plansFresh, readyFresh, waitingSound, paceSound}
+use Rattle.rules.specs.Calls.{Call, powerUpCall, frameCall, eventCall, Decision, refuses as refusedBy, does as performs, eventDecision, decision}
+use Rattle.rules.specs.Calls.{decided, refused, accepted, answered, answer, Outcome, refusalNumber, outputLength, lastFrameIdentifier}
+use Rattle.theorems.specs.Promises.{Step, Stand, left, after, octets, allOctets, Run, reached, SoundAt, SoundAlways, NeverUnsound, byEvent}
+use Rattle.theorems.specs.Promises.{byTold, byFrame, mayChange}
 
 -- ---- what holds between calls
 
@@ -49,32 +35,73 @@ pub record Holds (a : Stand) : Type 0 where
   pub plans : a .state .axis .plans ≡ plansOf (a .dictionary)
   pub ready : a .state .axis .ready ≡ readyOf (a .dictionary)
 
-settled-bytes : (s : State) (d : List ℕ) → areBytes d ≡ true → areBytes (settled s d) ≡ true
-unfolding settled
-settled-bytes s d h = store-bytes _ _ _ (store-bytes _ _ d h)
-
 pub ended-bytes : (s : State) (d : List ℕ) (e : Effect) → areBytes d ≡ true → areBytes (ended s d e .dictionary) ≡ true
-unfolding ended
-ended-bytes s d e h = settled-bytes (e .state) (stored (e .writes) d) (stored-bytes (e .writes) d h)
+unfolding ended settled
+ended-bytes s d e h = store-bytes _ _ _ (store-bytes _ _ _ (stored-bytes (e .writes) d h))
 
-pub ended-long : (s : State) (d : List ℕ) (e : Effect) → length (ended s d e .dictionary) ≡ length d
-unfolding ended
-ended-long s d e = settled-length (e .state) (stored (e .writes) d) ∙ length-stored (e .writes) d
+-- 6041h and 6061h are plain rows: made at the call's end they leave a lawful state
+settled-lawful : (s : State) (d : List ℕ) → Lawful s d → Lawful s (settled s d)
+unfolding settled statusOf
+settled-lawful s d law =
+    plain-lawful s (store statusWord (statusOf s d) d) modeDisplay (modeNumber (s .axis .drive .mode))
+    (plain-lawful s d statusWord (statusOf s d) law status-row (status-fits _ _ _ d)) display-row (mode-fits (s .axis .drive .mode))
+
+-- THE THEOREM: a lawful effect ends sound
+ended-sound : (s : State) (d : List ℕ) (e : Effect) → LawfulAfter d e → sound (ended s d e .state) (ended s d e .dictionary) ≡ true
+unfolding ended sound statusAsMade modeAsMade plansFresh readyFresh waitingSound statusOf
+ended-sound s d e before =
+    let d1 = stored (e .writes) d in
+    let s′ = finally d e in
+    let v = s′ .axis .drive in
+    let d2 = settled s′ d1 in
+    let then = at-end-lawful (e .state) (e .occasion) d1 before in
+    let law = settled-lawful s′ d1 then in
+    let word = status-same d1 d2 v v (settled-motion s′ d1) same-rules (not (isStopped (s′ .node .nmt))) (s′ .node .voltage) in
+    let paced : (t : ℕ) → In t transmitters → paceSound (s′ .node .nmt) d2 (eachWay + t) (paceFor s s′ (e .occasion) d2 (readyOf d2) t .kept) ≡ true =
+    λ t i. paced-sound s s′ (e .occasion) d2 (readyOf d2) t (law .waits .counts t i) in
+    rw (
+      law .id,
+      to-test (s′ .node .id) d2 (law .dictionary),
+      eq-eqb _ _ (settled-status s′ d1 (then .long) ∙ sym word),
+      eq-eqb _ _ (settled-display s′ d1 (then .long) ∙ sym (law .mode)),
+      eq-eqb _ _ (law .mode),
+      same-refl samePlan plan-refl (plansOf d2),
+      same-refl sameData data-refl (readyOf d2),
+      law .drive,
+      law .heartbeat,
+      paced 0 here,
+      paced 1 (there here),
+      paced 2 (there (there here)),
+      paced 3 (there (there (there here))),
+      law .waits .held,
+    )
 
 ended-holds : (s : State) (d : List ℕ) (e : Effect) → length d ≡ dictionaryLength → areBytes d ≡ true → LawfulAfter d e →
     Holds (record { state = ended s d e .state; dictionary = ended s d e .dictionary })
 unfolding ended
-ended-holds s d e l b law = record { at = record { sound = ended-sound s d e law; long = ended-long s d e ∙ l; bytes = ended-bytes s d e b }; plans = refl; ready = refl }
+ended-holds s d e l b law =
+    record {
+      at = record {
+        sound = ended-sound s d e law;
+        long = settled-length (finally d e) (stored (e .writes) d) ∙ length-stored (e .writes) d
+            ∙ l;
+        bytes = ended-bytes s d e b;
+      };
+      plans = refl;
+      ready = refl;
+    }
 
 -- ---- every service leaves a lawful state
 
 releases-lawful : {xs : List Row} {s : State} {d : List ℕ} {e : Effect} → Releases xs s d e → Lawful s d → LawfulAfter d e
 unfolding andThen stored
 releases-lawful Releases.none law = law
+releases-lawful (Releases.skips rest) law = releases-lawful rest law
 releases-lawful {s = s} {d = d} (Releases.next h ws {e} cleared may inside rest) law =
     rw (stored-append (applied ws (withHeld h s) d .writes) (e .writes) d) (releases-lawful rest (applied-lawful (withHeld h s) d ws cleared may))
 
-pub lawful : {K : Type 0} {s : State} {d : List ℕ} {xs : List Row} {e : Effect} → Serves K s d xs e → K → areBytes d ≡ true → Lawful s d → LawfulAfter d e
+pub lawful : {K : Type 0} {s : State} {d : List ℕ} {xs : List Row} {e : Effect} → Serves K s d xs e → K → areBytes d ≡ true → Lawful s d →
+    LawfulAfter d e
 unfolding stored heartbeatSound commanded
 lawful Serves.nothing k b law = law
 lawful (Serves.replies c v rq small octet) k b law = law
@@ -84,7 +111,7 @@ lawful {s = s} {d = d} (Serves.holds bs l i on synchronous long legal) k b law =
     held-lawful s d _ law i (new-held (s .node .id) d bs (s .node .nmt) (law .dictionary) i on synchronous long legal)
 lawful (Serves.releases r) k b law = releases-lawful r law
 lawful {s = s} {d = d} (Serves.starts h idle) k b law = start-lawful s d (law .long) h idle
-lawful {s = s} {d = d} (Serves.leaves m) k b law = left-lawful s d m law
+lawful {s = s} {d = d} Serves.leaves k b law = left-lawful s d PreOperational law
 lawful {s = s} {d = d} Serves.stops k b law = left-lawful (voltageDisabled s) d Stopped (disabled-lawful s d law)
 lawful {s = s} {d = d} (Serves.resets inside) k b law = rw append-nil (reset-lawful s d law)
 lawful {s = s} {d = d} (Serves.begins inside) k b law = fresh-lawful (s .node .id) d (law .id) (law .long)
@@ -95,36 +122,28 @@ lawful {s = s} {d = d} Serves.recovers k b law = gone-lawful s d law
 lawful {s = s} {d = d} (Serves.faults code register fits inside) k b law = fault-lawful code register s d law b (fits k .0) (fits k .1)
 lawful {s = s} {d = d} (Serves.feeds at speed fits inside) k b law =
     plain-lawful s (store position at d) velocity speed (plain-lawful s d position at law position-row (fits k .0)) velocity-row (fits k .1)
-lawful (Serves.powers v) k b law =
-    record { id = law .id; long = law .long; dictionary = law .dictionary; mode = law .mode; drive = law .drive; heartbeat = law .heartbeat; counts = law .counts; held = law .held }
-lawful {s = s} {d = d} (Serves.counts e) k b law = beat-lawful s d (suc (s .node .heartbeat)) law (rw e (or-true (eqb (suc (s .node .heartbeat)) 0)))
-lawful {s = s} {d = d} Serves.beats k b law = beat-lawful s d 0 law refl
+lawful {s = s} {d = d} (Serves.powers v) k b law =
+    node-lawful s d (s .node .nmt) v (s .node .heartbeat) (s .axis .paces) (s .axis .held) law (law .heartbeat) (law .waits)
+lawful Serves.rests k b law = law
+lawful {s = s} {d = d} (Serves.counts e) k b law =
+    node-lawful s d (s .node .nmt) (s .node .voltage) (suc (s .node .heartbeat)) (s .axis .paces) (s .axis .held) law
+    (rw e (or-true (eqb (suc (s .node .heartbeat)) 0))) (law .waits)
+lawful {s = s} {d = d} Serves.beats k b law =
+    node-lawful s d (s .node .nmt) (s .node .voltage) 0 (s .axis .paces) (s .axis .held) law refl (law .waits)
 
-pub framed-lawful : (i : ℕ) (bs : List ℕ) (s : State) (d : List ℕ) → length d ≡ dictionaryLength → sound s d ≡ true → areBytes d ≡ true → areBytes bs ≡ true →
-    LawfulAfter d (framed i bs s d)
-framed-lawful i bs s d l h b octet =
-    let law = sound-lawful s d l h in
-    lawful (framed-serves Unit s d i bs (λ k. octet) law h) tt b law
-
-pub command-lawful : (c : Command) (s : State) (d : List ℕ) → length d ≡ dictionaryLength → sound s d ≡ true → areBytes d ≡ true → LawfulAfter d (commanded c s)
-command-lawful c s d l h b = lawful (command-serves Unit s d c h) tt b (sound-lawful s d l h)
-
-pub event-lawful : (e : Event) (s : State) (d : List ℕ) → Lawful s d → areBytes d ≡ true → isInPlace e s ≡ true → ArgumentsFit e → LawfulAfter d (happens e s d)
+pub event-lawful : (e : Event) (s : State) (d : List ℕ) → Lawful s d → areBytes d ≡ true → isInPlace e s ≡ true → ArgumentsFit e →
+    LawfulAfter d (happens e s d)
 event-lawful e s d law b placed fits = lawful (event-serves Unit s d e (λ k. placed) (λ k. fits)) tt b law
 
 -- ---- events' arguments
 
 abbrev pub ToldFits : Told → Type 0
-ToldFits (event e) = ArgumentsFit e
-ToldFits badEvent = Unit
+ToldFits (Happened e) = ArgumentsFit e
+ToldFits Bad = Unit
 
 told : (b : Bool) (e : Event) → ArgumentsFit e → ToldFits (provided b e)
 told true e h = h
 told false e h = tt
-
-choice {ℓ} : {A : Type 0} (P : A → Type ℓ) (b : Bool) {x y : A} → P x → P y → P (cond b x y)
-choice P true h k = h
-choice P false h k = k
 
 byte-at : (xs : List ℕ) (i : ℕ) → areBytes xs ≡ true → getD xs i 0 < 256 ^ 1
 byte-at [] i h = omega arith
@@ -135,17 +154,17 @@ pub arguments-fit : (k : ℕ) (xs : List ℕ) → areBytes xs ≡ true → ToldF
 unfolding eventOf
 arguments-fit k xs h =
     let bare = eqb (length xs) 0 in
-    choice ToldFits (eqb k 1) (told bare started tt)
-    (choice ToldFits (eqb k 2) (told bare quickStopDone tt)
-    (choice ToldFits (eqb k 3)
-    (told (eqb (length xs) 3 && not (eqb (value (part 0 2 xs)) 0)) (fault (value (part 0 2 xs)) (getD xs 2 0)) (value-take 2 xs h, byte-at xs 2 h))
-    (choice ToldFits (eqb k 4) (told bare reactionDone tt)
-    (choice ToldFits (eqb k 5)
-    (told (eqb (length xs) 8) (feedback (value (part 0 4 xs)) (value (part 4 4 xs))) (value-take 4 xs h, value-take 4 (drop 4 xs) (all-drop 4 xs h)))
-    (choice ToldFits (eqb k 6) (told bare setPointReached tt)
-    (choice ToldFits (eqb k 7) (told bare tick tt)
-    (choice ToldFits (eqb k 8) (told bare causeGone tt)
-    (choice ToldFits (eqb k 9) (told (eqb (length xs) 1 && leb (getD xs 0 0) 1) (voltage (eqb (getD xs 0 0) 1)) tt) tt))))))))
+    whichever ToldFits (eqb k 1) (told bare Started tt)
+    (whichever ToldFits (eqb k 2) (told bare QuickStopDone tt)
+    (whichever ToldFits (eqb k 3)
+    (told (eqb (length xs) 3 && not (eqb (value (part 0 2 xs)) 0)) (Fault (value (part 0 2 xs)) (getD xs 2 0)) (value-take 2 xs h, byte-at xs 2 h))
+    (whichever ToldFits (eqb k 4) (told bare ReactionDone tt)
+    (whichever ToldFits (eqb k 5)
+    (told (eqb (length xs) 8) (Feedback (value (part 0 4 xs)) (value (part 4 4 xs))) (value-take 4 xs h, value-take 4 (drop 4 xs) (all-drop 4 xs h)))
+    (whichever ToldFits (eqb k 6) (told bare SetPointReached tt)
+    (whichever ToldFits (eqb k 7) (told bare Tick tt)
+    (whichever ToldFits (eqb k 8) (told bare CauseGone tt)
+    (whichever ToldFits (eqb k 9) (told (eqb (length xs) 1 && leb (getD xs 0 0) 1) (Voltage (eqb (getD xs 0 0) 1)) tt) tt))))))))
 
 -- ---- what a call decides on: a refusal, power-up, or a service of a sound state
 
@@ -155,22 +174,24 @@ isUnsound r = eqb (refusalNumber r) (refusalNumber NotSound)
 pub data Decides (s : State) (d : List ℕ) (c : Call) : Decision → Type 0 where
   refuses : (r : Refusal) → (not (isUnsound r) || not (sound s d)) ≡ true → Decides s d c (refusedBy r)
   begins : (n : ℕ) → c ≡ powerUpCall n → isNodeId n ≡ true → length d ≡ dictionaryLength → Decides s d c (performs (powerUp n))
-  serves : {e : Effect} (xs : List Row) → mayChange c s d ≡ statusWord ∷ modeDisplay ∷ xs → Lawful s d → Serves (octets c ≡ true) s d xs e → Decides s d c (performs e)
+  serves : {e : Effect} (xs : List Row) → mayChange c s d ≡ statusWord ∷ modeDisplay ∷ xs → Lawful s d → Serves (octets c ≡ true) s d xs e →
+      Decides s d c (performs e)
 
 module _ (s : State) (d : List ℕ) where
-  told-decides : (k : ℕ) (xs : List ℕ) (t : Told) → mayChange (eventCall k xs) s d ≡ statusWord ∷ modeDisplay ∷ byTold t → (areBytes xs ≡ true → ToldFits t) → Lawful s d →
-      Decides s d (eventCall k xs) (eventDecision t s d)
+  told-decides : (k : ℕ) (xs : List ℕ) (t : Told) → mayChange (eventCall k xs) s d ≡ statusWord ∷ modeDisplay ∷ byTold t →
+      (areBytes xs ≡ true → ToldFits t) → Lawful s d → Decides s d (eventCall k xs) (eventDecision t s d)
   unfolding eventDecision
-  told-decides k xs badEvent q fits law = refuses BadEvent refl
-  told-decides k xs (event e) q fits law =
-      by-match (Decides s d (eventCall k xs)) (isInPlace e s) (λ h. serves (byEvent e) q law (event-serves (areBytes xs ≡ true) s d e (λ b. h) fits)) (λ h. refuses OutOfPlace refl)
+  told-decides k xs Bad q fits law = refuses BadEvent refl
+  told-decides k xs (Happened e) q fits law =
+      by-match (Decides s d (eventCall k xs)) (isInPlace e s) (λ h. serves (byEvent e) q law (event-serves (areBytes xs ≡ true) s d e (λ b. h) fits))
+      (λ h. refuses OutOfPlace refl)
 
   decision-decides : (c : Call) → length d ≡ dictionaryLength → Decides s d c (decision c s d)
   unfolding decision mayChange
   decision-decides (powerUpCall n) l = by-match (Decides s d (powerUpCall n)) (isNodeId n) (λ h. begins n refl h l) (λ h. refuses NodeId refl)
   decision-decides (frameCall i bs) l =
       by-match (Decides s d (frameCall i bs)) (sound s d)
-      (λ h. by-match (Decides s d (frameCall i bs)) (leb i lastIdentifier && leb (length bs) mostData)
+      (λ h. by-match (Decides s d (frameCall i bs)) (leb i lastFrameIdentifier && leb (length bs) mostData)
       (λ fine. serves (byFrame i bs s d) refl (sound-lawful s d l h) (framed-serves (areBytes bs ≡ true) s d i bs (λ b. b) (sound-lawful s d l h) h))
       (λ bad. refuses BadFrame refl)) (λ h. refuses NotSound (false-not (sound s d) h))
   decision-decides (eventCall k xs) l =
@@ -212,26 +233,22 @@ pub passed {ℓ} : {A : Type ℓ} (b : Bool) (x y : A) → b ≡ true → (elim 
 passed true x y h = refl
 passed false x y h = clash false h refl
 
-power-up-decided : (n : ℕ) (s : State) (d o : List ℕ) → isNodeId n ≡ true → length d ≡ dictionaryLength → outputLength ≤ length o → decided (powerUpCall n) s d o ≡ performs (powerUp n)
-unfolding decided decision
-power-up-decided n s d o legal long room =
-    passed (eqb (length d) dictionaryLength) _ _ (eq-eqb _ _ long) ∙ passed (leb outputLength (length o)) _ _ (le-leb _ _ room) ∙ passed (isNodeId n) _ _ legal
-
-power-up-holds : (n : ℕ) (a : Stand) (o : List ℕ) → isNodeId n ≡ true → length (a .dictionary) ≡ dictionaryLength → areBytes (a .dictionary) ≡ true → outputLength ≤ length o →
-    Holds (left (record { call = powerUpCall n; output = o }) a)
-unfolding answer answered accepted
+power-up-holds : (n : ℕ) (a : Stand) (o : List ℕ) → isNodeId n ≡ true → length (a .dictionary) ≡ dictionaryLength → areBytes (a .dictionary) ≡ true →
+    outputLength ≤ length o → Holds (left (record { call = powerUpCall n; output = o }) a)
+unfolding answer answered accepted decided decision
 power-up-holds n a o legal long bytes room =
-    subst (λ (x : Decision). Holds (standing (answered x (a .state) (a .dictionary) o))) (sym (power-up-decided n (a .state) (a .dictionary) o legal long room))
-    (ended-holds (a .state) (a .dictionary) (powerUp n) long bytes (fresh-lawful n (a .dictionary) legal long))
+    let d = a .dictionary in
+    let accepted = passed (eqb (length d) dictionaryLength) _ _ (eq-eqb _ _ long)
+    ∙ passed (leb outputLength (length o)) _ _ (le-leb _ _ room)
+    ∙ passed (isNodeId n) _ _ legal in
+    subst (λ (x : Decision). Holds (standing (answered x (a .state) d o))) (sym accepted)
+    (ended-holds (a .state) d (powerUp n) long bytes (fresh-lawful n d legal long))
 
 -- THE INVARIANT of every run
 pub run-holds : (r : Run) → Holds (reached r)
 run-holds r = after-holds (r .steps) _ (r .given) (power-up-holds (r .node) (r .found) (r .output) (r .legal) (r .long) (r .bytes) (r .room))
 
 -- ---- demand 3
-
-or-false-at : {a : Bool} → (a || false) ≡ true → a ≡ true
-or-false-at {a} h = elim (or-either a false h) [ inl e ↦ e | inr e ↦ clash false e refl ]
 
 pub sound-always : SoundAlways
 sound-always r = run-holds r .at
@@ -243,6 +260,8 @@ never-unsound r k =
     sure (a .state) (a .dictionary) (decides (a .state) (a .dictionary) (k .call) (k .output)) (run-holds r .at .sound)
   where
     sure : (s : State) (d : List ℕ) {x : Decision} → Decides s d (k .call) x → sound s d ≡ true → answered x s d (k .output) .refusal ≡ NotSound → ⊥
-    sure s d (refuses x q) h e = clash (isUnsound x) (ap isUnsound e) (not-false (isUnsound x) (or-false-at (rw h at q)))
+    sure s d (refuses x q) h e =
+        clash (isUnsound x) (ap isUnsound e)
+        (not-false (isUnsound x) (elim (or-either (not (isUnsound x)) _ q) [ inl k ↦ k | inr k ↦ clash (sound s d) h (not-false _ k) ]))
     sure s d (begins n q legal long) h e = clash (isUnsound Accepted) (ap isUnsound e) refl
     sure s d (serves xs q law v) h e = clash (isUnsound Accepted) (ap isUnsound e) refl

@@ -1,29 +1,30 @@
 -- What is sent: a reply, emergencies, a boot-up or heartbeat, never more than two of these, and then the transmit PDOs; all of bytes.
 -- Assumes nothing.
-use Prim.Native.Nat.{ℕ, zero, suc, _+_, _*_, _/_, _%_, _<_, _≤_}
-use native.Mathlib.Omega.{arith}
-use mathlib.Core.Path.{_≡_, refl, sym, _∙_, ap}
-use mathlib.Core.Bool.{Bool, true, false, cond, _&&_}
-use mathlib.Core.List.{List, [], _∷_, _++_, append-nil, append-assoc}
-use borrow.Author.Tests.{eq-eqb, le-leb, lt-ltb, leb-true}
-use lib.Dec.{leb}
-use lib.ListN.{length, drop, length-append, length-take}
-use lib.Seq.{drop-drop}
-use Rattle.state.specs.declared.State.{State}
-use Rattle.rules_dictionary.specs.Numbers.{all, areBytes, isByte, bytes, part, padded}
-use Rattle.rules_dictionary.specs.Table.{dictionaryLength, errorRegister}
-use Rattle.rules_dictionary.specs.Values.{read}
-use Rattle.rules_dictionary.proofs.Tests.{and-left, and-right, and-both}
-use Rattle.rules_dictionary.proofs.Packing.{within}
+use Rattle.theorems.proofs.Words.{ℕ, suc, _+_, _<_, _≤_, zero, _*_, _/_, _%_, arith, _≡_, refl, sym, _∙_, ap, ap₂, subst, _⊎_, inl, inr, Bool}
+use Rattle.theorems.proofs.Words.{true, false, not, _||_, _&&_, and-eq-true-iff, List, [], _∷_, _++_, map, append-nil, append-assoc, le-leb}
+use Rattle.theorems.proofs.Words.{eq-eqb, lt-ltb, leb-true, length, getD, take, length-append, length-take, drop, leb, drop-drop, PdoData}
+use Rattle.theorems.proofs.Words.{DriveState, Drive, Command, NmtState, PreOperational, Operational, Stopped, State, Paced, Event, In, here}
+use Rattle.theorems.proofs.Words.{there, and-both, and-left, and-right, all-drop, part-bytes, all-take, store-bytes, stored-bytes}
+use Rattle.theorems.proofs.Words.{length-store, length-stored, bytes-are, read-fits, within, isStopped, all-both, either, by-match, clash}
+use Rattle.theorems.proofs.Words.{implied, not-false, by-test, whichever}
+use Rattle.theorems.proofs.Services.{Serves, Releases, Before, longer, event-serves}
+use Rattle.theorems.proofs.{Lawful.finally, DriveKept.on-ways, DriveKept.emptied-same, DriveKept.rule-same, NmtKept.ArgumentsFit}
+use Rattle.theorems.proofs.{Runs.run-holds, Runs.ended-bytes, Runs.Decides, Runs.decides, Demands.ready-at, Settled.register-in}
+use Rattle.rules_dictionary.specs.{Numbers.all, Numbers.areBytes, Numbers.isByte, Numbers.padded, Numbers.bytes, Numbers.filter, Numbers.part}
+use Rattle.rules_dictionary.specs.{Table.Row, Table.sizeOf, Table.mostMoves, Table.identifier, Table.dictionaryLength, Table.controlWord, Table.mode}
+use Rattle.rules_dictionary.specs.{Table.heartbeatTime, Table.errorRegister, Table.eachWay, Table.placeOf, Plans.mapped, Plans.pdoData, Plans.joined}
+use Rattle.rules_dictionary.specs.{Plans.readyOf, Plans.readyFor, Values.Write, Values.field, Values.read, Values.store, Values.stored}
+use Rattle.drive.specs.DriveStates.{isFault, command, next, resets}
+use Rattle.drive.specs.SetPoints.{enters, emptied, withState, modeWritten, controlWritten, withMode, modeOf}
+use Rattle.rules_services.specs.Effects.{Frame, frame, Effect, andThen, withDrive, withHeld}
+use Rattle.rules_services.specs.Written.{wrote, countRestarted, modeActed, faultReset, controlActed, applied}
+use Rattle.rules_services.specs.Nmt.{commanded, powerUp, freshState, left, voltageDisabled, stateByte, heartbeatBase}
+use Rattle.rules_services.specs.{Emergency.emergency, Emergency.faultGone, Emergency.emergencyBase, Sdo.dataSize, Sdo.reply, Sdo.downloaded}
+use Rattle.rules_services.specs.{Sdo.replyBase, PdoTraffic.noData, PdoTraffic.transmitted, Events.happens, Events.isInPlace, Events.faulted}
+use Rattle.rules.specs.Outcome.{ended, settled, paceFor, transmissions, transmitters, mostData, encoded, sentInto, frameSize}
+use Rattle.rules.specs.Calls.{Call, Decision, refuses, does as performs, refused, accepted, answered, answer}
 use Rattle.rules_dictionary.proofs.Defaults.{length-bytes}
-use Rattle.rules_dictionary.proofs.Rows.{bytes-are, part-bytes, read-fits}
-use Rattle.rules_services.specs.Effects.{Frame, frame, isStopped}
-use Rattle.rules_services.specs.Emergency.{emergency, emergencyBase}
-use Rattle.rules_services.specs.Sdo.{replyBase, reply}
-use Rattle.rules_services.specs.Nmt.{heartbeatBase}
-use Rattle.theorems.specs.Promises.{isOn, ElevenBytes, laid}
-use Rattle.rules.specs.Outcome.{encoded, sentInto, frameSize, mostData}
-use Rattle.theorems.proofs.Writes.{register-in}
+use Rattle.theorems.specs.Promises.{octets, reached, Ordered, laid, FramesOf, AtMostSixInOrder, OutputOfBytes, isOn, ElevenBytes, Stand}
 
 -- ---- eleven bytes
 
@@ -40,43 +41,37 @@ pub laid-out : (fs : List Frame) (o : List ℕ) → sentInto o fs ≡ laid fs ++
 unfolding sentInto laid
 laid-out [] o = refl
 laid-out (f ∷ fs) o =
-    let k : frameSize + frameSize * length fs ≡ frameSize * suc (length fs) = omega arith in
-    ap (λ (l : List ℕ). encoded f ++ l) (laid-out fs (drop frameSize o) ∙ ap (λ (l : List ℕ). laid fs ++ l) (drop-drop (frameSize * length fs) frameSize o))
-    ∙ sym (append-assoc (encoded f) (laid fs) (drop (frameSize + frameSize * length fs) o))
-    ∙ ap (λ (j : ℕ). encoded f ++ laid fs ++ drop j o) k
+    let k : frameSize * suc (length fs) ≡ frameSize + frameSize * length fs = omega arith in
+    rw (laid-out fs (drop frameSize o), drop-drop, append-assoc, k)
 
 -- ---- frames of bytes
 
 abbrev pub ofBytes : Frame → Bool
 ofBytes f = areBytes (f .content) && leb (length (f .content)) mostData
 
-pub all-append : {A : Type 0} (f : A → Bool) (xs ys : List A) → all f xs ≡ true → all f ys ≡ true → all f (xs ++ ys) ≡ true
-all-append f [] ys h k = k
-all-append f (x ∷ xs) ys h k = and-both (f x) (all f (xs ++ ys)) (and-left (f x) (all f xs) h) (all-append f xs ys (and-right (f x) (all f xs) h) k)
+all-append : {A : Type 0} (f : A → Bool) (xs ys : List A) → all f xs ≡ true → all f ys ≡ true → all f (xs ++ ys) ≡ true
+all-append f xs ys h k = rw (all-both f xs ys, h, k)
 
 pub padded-bytes : (k : ℕ) (xs : List ℕ) → areBytes xs ≡ true → areBytes (padded 0 k xs) ≡ true
 padded-bytes zero xs h = refl
 padded-bytes (suc k) [] h = padded-bytes k [] refl
-padded-bytes (suc k) (x ∷ xs) h = and-both (isByte x) _ (and-left (isByte x) (areBytes xs) h) (padded-bytes k xs (and-right (isByte x) (areBytes xs) h))
+padded-bytes (suc k) (x ∷ xs) h =
+    and-both (isByte x) _ (and-left (isByte x) (areBytes xs) h) (padded-bytes k xs (and-right (isByte x) (areBytes xs) h))
 
 encoded-bytes : (f : Frame) → ofBytes f ≡ true → areBytes (encoded f) ≡ true
 unfolding encoded
 encoded-bytes f h =
-    let l : length (f .content) ≤ mostData = leb-true _ _ (and-right (areBytes (f .content)) _ h) in
+    let k = simp and-eq-true-iff at h in
+    let l : length (f .content) ≤ mostData = leb-true _ _ (k .1) in
     all-append isByte (bytes 2 (f .identifier)) (length (f .content) ∷ padded 0 mostData (f .content)) (bytes-are 2 (f .identifier))
-    (and-both (isByte (length (f .content))) _ (lt-ltb (length (f .content)) 256 (omega arith)) (padded-bytes mostData (f .content) (and-left (areBytes (f .content)) _ h)))
-
-all-drop′ : (n : ℕ) (d : List ℕ) → areBytes d ≡ true → areBytes (drop n d) ≡ true
-all-drop′ zero d h = h
-all-drop′ (suc n) [] h = refl
-all-drop′ (suc n) (b ∷ bs) h = all-drop′ n bs (and-right (isByte b) (areBytes bs) h)
+    (rw (lt-ltb (length (f .content)) 256 (omega arith)) (padded-bytes mostData (f .content) (k .0)))
 
 pub sent-bytes : (fs : List Frame) (o : List ℕ) → all ofBytes fs ≡ true → areBytes o ≡ true → areBytes (sentInto o fs) ≡ true
 unfolding sentInto
 sent-bytes [] o h b = b
 sent-bytes (f ∷ fs) o h b =
     all-append isByte (encoded f) (sentInto (drop frameSize o) fs) (encoded-bytes f (and-left (ofBytes f) (all ofBytes fs) h))
-    (sent-bytes fs (drop frameSize o) (and-right (ofBytes f) (all ofBytes fs) h) (all-drop′ frameSize o b))
+    (sent-bytes fs (drop frameSize o) (and-right (ofBytes f) (all ofBytes fs) h) (all-drop frameSize o b))
 
 -- ---- the three kinds of frames that a service sends itself
 
@@ -92,79 +87,333 @@ pub record Spoken (n : ℕ) (fs : List Frame) : Type 0 where
   pub few : length replies + (length emergencies + length beats) ≤ 2
   pub octet : all ofBytes fs ≡ true
 
-pub silent : (n : ℕ) → Spoken n []
-silent n = record { replies = []; emergencies = []; beats = []; whole = refl; onReply = refl; onEmergency = refl; onBeat = refl; few = omega arith; octet = refl }
+-- so many frames at the most, all on one identifier
+record On (i most : ℕ) (fs : List Frame) : Type 0 where
+  on : all (isOn i) fs ≡ true
+  few : length fs ≤ most
+  octet : all ofBytes fs ≡ true
 
--- emergencies alone, two at the most
-pub record Alarms (n most : ℕ) (fs : List Frame) : Type 0 where
-  pub onEmergency : all (isOn (emergencyBase + n)) fs ≡ true
-  pub few : length fs ≤ most
-  pub octet : all ofBytes fs ≡ true
+none-on : (i most : ℕ) → On i most []
+none-on i most = record { on = refl; few = omega arith; octet = refl }
 
-pub no-alarm : (n most : ℕ) → Alarms n most []
-no-alarm n most = record { onEmergency = refl; few = omega arith; octet = refl }
+one-on : (i : ℕ) (content : List ℕ) → areBytes content ≡ true → length content ≤ mostData → On i 1 (frame i content ∷ [])
+one-on i content b l = record { on = rw (eq-eqb i i refl); few = omega arith; octet = rw (b, le-leb (length content) mostData l) }
 
-pub alarms-spoken : (n : ℕ) (fs : List Frame) → Alarms n 2 fs → Spoken n fs
-alarms-spoken n fs a =
-    record { replies = []; emergencies = fs; beats = []; whole = sym (append-nil fs); onReply = refl; onEmergency = a .onEmergency; onBeat = refl; few = omega (arith, a .few); octet = a .octet }
+both-on : (i k m : ℕ) (fs gs : List Frame) → On i k fs → On i m gs → On i (k + m) (fs ++ gs)
+both-on i k m fs gs a b =
+    record {
+      on = all-append (isOn i) fs gs (a .on) (b .on);
+      few = rw length-append (omega (arith, a .few, b .few));
+      octet = all-append ofBytes fs gs (a .octet) (b .octet);
+    }
 
-pub alarms-append : (n k m : ℕ) (fs gs : List Frame) → Alarms n k fs → Alarms n m gs → Alarms n (k + m) (fs ++ gs)
-alarms-append n k m fs gs a b =
-    record { onEmergency = all-append (isOn (emergencyBase + n)) fs gs (a .onEmergency) (b .onEmergency); few = rw length-append (omega (arith, a .few, b .few)); octet = all-append ofBytes fs gs (a .octet) (b .octet) }
-
-pub alarms-more : (n k m : ℕ) (fs : List Frame) → k ≤ m → Alarms n k fs → Alarms n m fs
-alarms-more n k m fs h a = record { onEmergency = a .onEmergency; few = omega (arith, a .few); octet = a .octet }
-
-pub emergency-alarm : (code : ℕ) (s : State) (d : List ℕ) → areBytes d ≡ true → length d ≡ dictionaryLength → Alarms (s .node .id) 1 (emergency code s d)
+emergency-on : (code : ℕ) (s : State) (d : List ℕ) → areBytes d ≡ true → length d ≡ dictionaryLength →
+    On (emergencyBase + s .node .id) 1 (emergency code s d)
 unfolding emergency bytes
-emergency-alarm code s d b l = go (isStopped (s .node .nmt))
-  where
-    register : read d errorRegister < 256
-    register = read-fits errorRegister d b (omega (arith, within register-in))
+emergency-on code s d b l =
+    let register : read d errorRegister < 256 = read-fits errorRegister d b (omega (arith, within register-in)) in
+    whichever (On (emergencyBase + s .node .id) 1) (isStopped (s .node .nmt)) (none-on (emergencyBase + s .node .id) 1)
+    (one-on (emergencyBase + s .node .id) _
+    (rw (lt-ltb (code % 256) 256 (omega arith), lt-ltb (code / 256 % 256) 256 (omega arith), lt-ltb (read d errorRegister) 256 register))
+    (omega arith))
 
-    go : (x : Bool) → Alarms (s .node .id) 1 (cond x [] (frame (emergencyBase + s .node .id) (code % 256 ∷ code / 256 % 256 ∷ read d errorRegister ∷ 0 ∷ 0 ∷ 0 ∷ 0 ∷ 0 ∷ []) ∷ []))
-    go true = no-alarm (s .node .id) 1
-    go false =
-        record {
-          onEmergency = rw (eq-eqb (emergencyBase + s .node .id) (emergencyBase + s .node .id) refl);
-          few = omega arith;
-          octet = rw (lt-ltb (code % 256) 256 (omega arith), lt-ltb (code / 256 % 256) 256 (omega arith), lt-ltb (read d errorRegister) 256 register);
-        }
-
-pub reply-frame : (c : ℕ) (rq : List ℕ) (s : State) (v : ℕ) → c < 256 → areBytes rq ≡ true →
-    (all (isOn (replyBase + s .node .id)) (reply c rq s (bytes 4 v)) ≡ true) × (length (reply c rq s (bytes 4 v)) ≡ 1) × (all ofBytes (reply c rq s (bytes 4 v)) ≡ true)
+reply-on : (c : ℕ) (rq : List ℕ) (s : State) (v : ℕ) → c < 256 → areBytes rq ≡ true → On (replyBase + s .node .id) 1 (reply c rq s (bytes dataSize v))
 unfolding reply
-reply-frame c rq s v small b =
-    let content = c ∷ part 1 3 rq ++ bytes 4 v in
-    let octets : areBytes content ≡ true = all-append isByte (c ∷ part 1 3 rq) (bytes 4 v) (and-both (isByte c) _ (lt-ltb c 256 small) (part-bytes 1 3 rq b)) (bytes-are 4 v) in
-    let short : length content ≤ 8 = rw (length-append, length-take, length-bytes 4 v) (omega arith) in
-    (rw (eq-eqb (replyBase + s .node .id) (replyBase + s .node .id) refl), refl, rw (octets, le-leb (length content) 8 short))
+reply-on c rq s v small b =
+    one-on (replyBase + s .node .id) (c ∷ part 1 3 rq ++ bytes dataSize v)
+    (all-append isByte (c ∷ part 1 3 rq) (bytes dataSize v) (rw (lt-ltb c 256 small) (part-bytes 1 3 rq b)) (bytes-are dataSize v))
+    (rw (length-append, length-take, length-bytes dataSize v) (omega arith))
 
--- a reply, and emergencies behind it
-pub reply-spoken : (n : ℕ) (rs fs : List Frame) → (all (isOn (replyBase + n)) rs ≡ true) × (length rs ≡ 1) × (all ofBytes rs ≡ true) → Alarms n 1 fs → Spoken n (rs ++ fs)
-reply-spoken n rs fs r a =
+spoken : (n a b c : ℕ) (rs es bs : List Frame) → On (replyBase + n) a rs → On (emergencyBase + n) b es → On (heartbeatBase + n) c bs →
+    a + (b + c) ≤ 2 → Spoken n (rs ++ (es ++ bs))
+spoken n a b c rs es bs r e h most =
     record {
       replies = rs;
-      emergencies = fs;
-      beats = [];
-      whole = ap (λ (l : List Frame). rs ++ l) (sym (append-nil fs));
-      onReply = r .0;
-      onEmergency = a .onEmergency;
-      onBeat = refl;
-      few = omega (arith, r .1, a .few);
-      octet = all-append ofBytes rs fs (r .2) (a .octet);
+      emergencies = es;
+      beats = bs;
+      whole = refl;
+      onReply = r .on;
+      onEmergency = e .on;
+      onBeat = h .on;
+      few = omega (arith, r .few, e .few, h .few);
+      octet = all-append ofBytes rs (es ++ bs) (r .octet) (all-append ofBytes es bs (e .octet) (h .octet));
     }
 
-pub beat-spoken : (n c : ℕ) → c < 256 → Spoken n (frame (heartbeatBase + n) (c ∷ []) ∷ [])
+-- a reply, and an emergency behind it
+replied-spoken : (n : ℕ) (rs fs : List Frame) → On (replyBase + n) 1 rs → On (emergencyBase + n) 1 fs → Spoken n (rs ++ fs)
+replied-spoken n rs fs r a = rw append-nil at (spoken n 1 1 0 rs fs [] r a (none-on (heartbeatBase + n) 0) (omega arith))
+
+alarmed-spoken : (n : ℕ) (fs : List Frame) → On (emergencyBase + n) 2 fs → Spoken n fs
+alarmed-spoken n fs a = rw append-nil at (spoken n 0 2 0 [] fs [] (none-on (replyBase + n) 0) a (none-on (heartbeatBase + n) 0) (omega arith))
+
+silent : (n : ℕ) → Spoken n []
+silent n = alarmed-spoken n [] (none-on (emergencyBase + n) 2)
+
+beat-spoken : (n c : ℕ) → c < 256 → Spoken n (frame (heartbeatBase + n) (c ∷ []) ∷ [])
 beat-spoken n c h =
+    spoken n 0 0 1 [] [] _ (none-on (replyBase + n) 0) (none-on (emergencyBase + n) 0)
+    (one-on (heartbeatBase + n) (c ∷ []) (rw (lt-ltb c 256 h)) (omega arith)) (omega arith)
+
+-- ---- one fault reset at the most: after it, and outside Fault, there is none
+
+not-fault-next : (cause : Bool) (s : DriveState) (c : Command) → isFault s ≡ false → isFault (next cause s c) ≡ false
+unfolding next
+not-fault-next cause s c h =
+    not-false _ (implied (not (isFault s)) _ (on-ways (λ b s c. not (not (isFault s)) || not (isFault (next b s c))) refl cause s c) (rw h))
+
+-- a reset leaves Fault, and there is none outside
+reset-leaves : (cause : Bool) (s : DriveState) (c : Command) → resets cause s c ≡ true → isFault (next cause s c) ≡ false
+unfolding resets next
+reset-leaves cause s c h =
+    not-false _ (implied (resets cause s c) _ (on-ways (λ b s c. not (resets b s c) || not (isFault (next b s c))) refl cause s c) h)
+
+control-state : (d : List ℕ) (old : ℕ) (v : Drive) →
+    controlWritten d old v .drive .state ≡ next (v .cause) (v .state) (command old (read d controlWord))
+unfolding controlWritten enters
+control-state d old v =
+    let word = read d controlWord in
+    let w = withState (next (v .cause) (v .state) (command old word)) v in
+    rule-same d old word (emptied w) .state ∙ emptied-same w .state
+
+-- of frames sent from s on, and the state behind them: an emergency at the most, and then, or outside Fault, no more
+record Calm (s : State) (fs : List Frame) (t : State) : Type 0 where
+  alarms : On (emergencyBase + s .node .id) 1 fs
+  id : t .node .id ≡ s .node .id
+  quiet : isFault (s .axis .drive .state) ≡ false → (fs ≡ []) × (isFault (t .axis .drive .state) ≡ false)
+  once : (fs ≡ []) ⊎ (isFault (t .axis .drive .state) ≡ false)
+
+calm-silent : (s t : State) → t .node .id ≡ s .node .id → (isFault (s .axis .drive .state) ≡ false → isFault (t .axis .drive .state) ≡ false) →
+    Calm s [] t
+calm-silent s t i h = record { alarms = none-on (emergencyBase + s .node .id) 1; id = i; quiet = λ q. (refl, h q); once = inl refl }
+
+-- the state that the control word finds
+found-by : (ws : List Write) (s : State) (d : List ℕ) →
+    let t = modeActed ws (countRestarted ws s) d in (t .node .id ≡ s .node .id) × (t .axis .drive .state ≡ s .axis .drive .state)
+unfolding modeActed countRestarted modeWritten
+found-by ws s d =
+    let F : State → Type 0 = λ t. (t .node .id ≡ s .node .id) × (t .axis .drive .state ≡ s .axis .drive .state) in
+    let t = countRestarted ws s in
+    let beat : F t = whichever F (wrote heartbeatTime ws) (refl, refl) (refl, refl) in
+    whichever F (wrote mode ws) (beat .0, emptied-same (withMode (modeOf (read d mode)) (t .axis .drive)) .state ∙ beat .1) beat
+
+applied-calm : (ws : List Write) (s : State) (d : List ℕ) → areBytes d ≡ true → length d ≡ dictionaryLength →
+    Calm s (applied ws s d .sent) (applied ws s d .state)
+unfolding applied controlActed faultReset controlWritten resets
+applied-calm ws s d b l =
+    let d1 = stored ws d in
+    let t = modeActed ws (countRestarted ws s) d1 in
+    let f = found-by ws s d1 in
+    let v = t .axis .drive in
+    let k = command (read d controlWord) (read d1 controlWord) in
+    let u = withDrive (controlWritten d1 (read d controlWord) v .drive) t in
+    let moved = control-state d1 (read d controlWord) v in
+    by-test (λ (e : Effect). Calm s (e .sent) (e .state)) (wrote controlWord ws)
+    (λ w. by-test (λ (e : Effect). Calm s (e .sent) (e .state)) (resets (v .cause) (v .state) k)
+    (λ e. record {
+      alarms = subst (λ (i : ℕ). On (emergencyBase + i) 1 (emergency faultGone u (store errorRegister 0 d1) ++ [])) (f .0)
+          (rw append-nil
+          (emergency-on faultGone u (store errorRegister 0 d1) (store-bytes errorRegister 0 d1 (stored-bytes ws d b))
+          (length-store errorRegister 0 d1 ∙ length-stored ws d ∙ l)));
+      id = f .0;
+      quiet = λ h. clash (resets (v .cause) (v .state) k) e (rw (ap isFault (f .1) ∙ h));
+      once = inr (ap isFault moved ∙ reset-leaves (v .cause) (v .state) k e);
+    })
+    (λ e. calm-silent s u (f .0) (λ h. ap isFault moved ∙ not-fault-next (v .cause) (v .state) k (ap isFault (f .1) ∙ h))))
+    (λ w. calm-silent s t (f .0) (λ h. ap isFault (f .1) ∙ h))
+
+-- one after another: one emergency at the most
+calm-then : (s t u : State) (fs gs : List Frame) → Calm s fs t → Calm t gs u → Calm s (fs ++ gs) u
+calm-then s t u fs gs a b =
     record {
-      replies = [];
-      emergencies = [];
-      beats = frame (heartbeatBase + n) (c ∷ []) ∷ [];
-      whole = refl;
-      onReply = refl;
-      onEmergency = refl;
-      onBeat = rw (eq-eqb (heartbeatBase + n) (heartbeatBase + n) refl);
-      few = omega arith;
-      octet = rw (lt-ltb c 256 h);
+      alarms = elim (a .once) [
+        | inl q ↦ rw q (subst (λ (i : ℕ). On (emergencyBase + i) 1 gs) (a .id) (b .alarms))
+        | inr q ↦ rw (b .quiet q .0, append-nil fs) (a .alarms)
+      ];
+      id = b .id ∙ a .id;
+      quiet = λ h. (ap₂ _++_ (a .quiet h .0) (b .quiet (a .quiet h .1) .0), b .quiet (a .quiet h .1) .1);
+      once = elim (a .once) [ inl q ↦ elim (b .once) [ inl r ↦ inl (ap₂ _++_ q r) | inr r ↦ inr r ] | inr q ↦ inr (b .quiet q .1) ];
     }
+
+releases-calm : {xs : List Row} {s : State} {d : List ℕ} {e : Effect} → Releases xs s d e → areBytes d ≡ true → length d ≡ dictionaryLength →
+    Calm s (e .sent) (e .state)
+unfolding andThen
+releases-calm {s = s} Releases.none b l = calm-silent s s refl (λ h. h)
+releases-calm (Releases.skips rest) b l = releases-calm rest b l
+releases-calm {s = s} {d = d} (Releases.next h ws {e} cleared may inside rest) b l =
+    let a = applied ws (withHeld h s) d in
+    let c = applied-calm ws (withHeld h s) d b l in
+    calm-then s (a .state) (e .state) (a .sent) (e .sent) (record { alarms = c .alarms; id = c .id; quiet = c .quiet; once = c .once })
+    (releases-calm rest (stored-bytes (a .writes) d b) (length-stored (a .writes) d ∙ l))
+
+-- ---- what each service says
+
+-- as the node that it leaves
+abbrev pub SpeaksAs : ℕ → Effect → Type 0
+SpeaksAs n e = (e .state .node .id ≡ n) × Spoken n (e .sent)
+
+byte-small : (m : NmtState) → stateByte m < 256
+byte-small m = elim m [ PreOperational ↦ omega arith | Operational ↦ omega arith | Stopped ↦ omega arith ]
+
+module _ {K : Type 0} {s : State} {d : List ℕ} (k : K) (b : areBytes d ≡ true) (l : length d ≡ dictionaryLength) where
+  -- emergencies behind what goes before them
+  behind : {fs : List Frame} → Before K s d fs → (gs : List Frame) → On (emergencyBase + s .node .id) 1 gs → Spoken (s .node .id) (fs ++ gs)
+  behind (Before.replied rq octet) gs a =
+      replied-spoken (s .node .id) (reply downloaded rq s (bytes dataSize 0)) gs (reply-on downloaded rq s 0 (omega arith) (octet k)) a
+  behind (Before.warned w) gs a =
+      let i = emergencyBase + s .node .id in
+      alarmed-spoken (s .node .id) (longer w s d ++ gs)
+      (both-on i 1 1 (longer w s d) gs (whichever (On i 1) w (emergency-on _ s d b l) (none-on i 1)) a)
+
+  pub speaks : {xs : List Row} {e : Effect} → Serves K s d xs e → SpeaksAs (s .node .id) e
+  unfolding commanded powerUp freshState voltageDisabled left faulted
+  speaks Serves.nothing = (refl, silent (s .node .id))
+  speaks (Serves.replies c v rq small octet) = (
+    refl,
+    replied-spoken (s .node .id) (reply c rq s (bytes dataSize v)) [] (reply-on c rq s v small (octet k))
+        (none-on (emergencyBase + s .node .id) 1),
+  )
+  speaks (Serves.alarms w code) = (refl, behind (Before.warned w) (emergency code s d ++ []) (rw append-nil (emergency-on code s d b l)))
+  speaks (Serves.applies ws before may inside) =
+      let c = applied-calm ws s d b l in
+      (c .id, behind before (applied ws s d .sent) (c .alarms))
+  speaks (Serves.holds bs w i on synchronous long legal) = (refl, behind (Before.warned w) [] (none-on (emergencyBase + s .node .id) 1))
+  speaks (Serves.releases {e} r) =
+      let c = releases-calm r b l in
+      (c .id, behind (Before.warned false) (e .sent) (c .alarms))
+  speaks (Serves.starts h idle) = (refl, silent (s .node .id))
+  speaks Serves.leaves = (refl, silent (s .node .id))
+  speaks Serves.stops = (refl, silent (s .node .id))
+  speaks (Serves.resets inside) = (refl, beat-spoken (s .node .id) 0 (omega arith))
+  speaks (Serves.begins inside) = (refl, beat-spoken (s .node .id) 0 (omega arith))
+  speaks (Serves.moves q h) = (refl, silent (s .node .id))
+  speaks (Serves.reaches h) = (refl, silent (s .node .id))
+  speaks Serves.recovers = (refl, silent (s .node .id))
+  speaks (Serves.faults code register fits inside) =
+      let i = emergencyBase + s .node .id in
+      let alarm = emergency-on code _ (stored _ d) (stored-bytes _ d b) (length-stored _ d ∙ l) in
+      (refl, alarmed-spoken (s .node .id) _ (rw append-nil (both-on i 1 1 [] _ (none-on i 1) alarm)))
+  speaks (Serves.feeds at speed fits inside) = (refl, silent (s .node .id))
+  speaks (Serves.powers v) = (refl, silent (s .node .id))
+  speaks Serves.rests = (refl, silent (s .node .id))
+  speaks (Serves.counts e) = (refl, silent (s .node .id))
+  speaks Serves.beats = (refl, beat-spoken (s .node .id) (stateByte (s .node .nmt)) (byte-small (s .node .nmt)))
+
+pub event-speaks : (e : Event) (s : State) (d : List ℕ) → areBytes d ≡ true → length d ≡ dictionaryLength → isInPlace e s ≡ true → ArgumentsFit e →
+    SpeaksAs (s .node .id) (happens e s d)
+event-speaks e s d b l placed fits = speaks tt b l (event-serves Unit s d e (λ k. placed) (λ k. fits))
+
+-- ---- what a decision says
+
+abbrev Said : Decision → Type 0
+Said (refuses r) = Unit
+Said (performs e) = Spoken (e .state .node .id) (e .sent)
+
+said : {c : Call} {x : Decision} {s : State} {d : List ℕ} → Decides s d c x → octets c ≡ true → areBytes d ≡ true → Said x
+unfolding powerUp freshState
+said (Decides.refuses r q) o b = tt
+said (Decides.begins n q legal long) o b = beat-spoken n 0 (omega arith)
+said (Decides.serves {e} xs q law v) o b =
+    let w = speaks o b (law .long) v in
+    subst (λ (k : ℕ). Spoken k (e .sent)) (sym (w .0)) (w .1)
+
+-- ---- the transmit PDOs behind it
+
+module _ (d : List ℕ) (ready : List PdoData) (paces : ℕ → Paced) where
+  abbrev pdoFrame : ℕ → Frame
+  pdoFrame t = transmitted d (eachWay + t) (getD ready t noData)
+
+  rising : (ts : List ℕ) → transmissions d ready paces ts ≡ map pdoFrame (filter (λ t. paces t .send) ts)
+  unfolding transmissions
+  rising [] = refl
+  rising (t ∷ ts) =
+      rw (rising ts) (elim (either (paces t .send)) [ inl e ↦ rw e | inr e ↦ rw e ])
+
+few-of : (f : ℕ → Bool) (g : ℕ → Frame) (ts : List ℕ) → length (map g (filter f ts)) ≤ length ts
+few-of f g [] = omega arith
+few-of f g (t ∷ ts) =
+    by-match (λ us. length (map g us) ≤ suc (length ts)) (f t) (λ e. omega (arith, few-of f g ts)) (λ e. omega (arith, few-of f g ts))
+
+-- what is spoken, and the transmit PDOs behind it, are in the paper's order
+ordered : (a : Stand) (fs pdo : List Frame) (send : ℕ → Bool) → Spoken (a .state .node .id) fs →
+    pdo ≡ map (λ t. transmitted (a .dictionary) (eachWay + t) (getD (a .state .axis .ready) t noData)) (filter send transmitters) →
+    Ordered a (fs ++ pdo)
+ordered a fs pdo send w e =
+    record {
+      replies = w .replies;
+      emergencies = w .emergencies;
+      beats = w .beats;
+      sending = send;
+      whole = rw (e, w .whole) (simp append-assoc);
+      onReply = w .onReply;
+      onEmergency = w .onEmergency;
+      onBeat = w .onBeat;
+      few = w .few;
+    }
+
+frames-of : (x : Decision) (s : State) (d o : List ℕ) → Said x → FramesOf (answered x s d o) o
+unfolding answered refused accepted ended laid
+frames-of (refuses r) s d o h =
+    let none = ordered (record { state = s; dictionary = d }) [] [] (λ t. false) (silent (s .node .id)) refl in
+    record { sent = []; counted = refl; most = omega arith; inOrder = none; output = refl }
+frames-of (performs e) s d o w =
+    let d′ = settled (finally d e) (stored (e .writes) d) in
+    let paces = paceFor s (finally d e) (e .occasion) d′ (readyOf d′) in
+    let pdo = transmissions d′ (readyOf d′) paces transmitters in
+    let risen = rising d′ (readyOf d′) paces transmitters in
+    let four : length pdo ≤ 4 = rw risen (few-of (λ t. paces t .send) (pdoFrame d′ (readyOf d′) paces) transmitters) in
+    let two : length (e .sent) ≤ 2 = rw (w .whole, length-append, length-append) (w .few) in
+    record {
+      sent = e .sent ++ pdo;
+      counted = refl;
+      most = rw length-append (omega arith);
+      inOrder = ordered _ (e .sent) pdo (λ t. paces t .send) w risen;
+      output = laid-out (e .sent ++ pdo) o;
+    }
+
+pub at-most-six-in-order : AtMostSixInOrder
+unfolding answer
+at-most-six-in-order r k o =
+    let a = reached r in
+    frames-of _ (a .state) (a .dictionary) (k .output) (said (decides (a .state) (a .dictionary) (k .call) (k .output)) o (run-holds r .at .bytes))
+
+-- ---- bytes out
+
+joined-bytes : (d : List ℕ) (xs : List Row) → areBytes d ≡ true → areBytes (joined d xs) ≡ true
+unfolding joined
+joined-bytes d [] h = refl
+joined-bytes d (x ∷ xs) h = all-append isByte (field d x) (joined d xs) (part-bytes (placeOf x) (sizeOf x) d h) (joined-bytes d xs h)
+
+pdo-octet : (d : List ℕ) {t : ℕ} → areBytes d ≡ true → In t transmitters → ofBytes (transmitted d (eachWay + t) (getD (readyOf d) t noData)) ≡ true
+unfolding transmitted readyFor pdoData
+pdo-octet d {t} h i =
+    let l = joined d (mapped d (eachWay + t)) in
+    let content = take (length l) (padded 0 mostMoves l) in
+    let short : length content ≤ mostData = rw (length-take, length-padded mostMoves l) (omega arith) in
+    rw (ready-at d i) (and-both (areBytes content) _
+    (all-take (length l) (padded 0 mostMoves l) (padded-bytes mostMoves l (joined-bytes d (mapped d (eachWay + t)) h)))
+    (le-leb (length content) mostData short))
+
+pdo-octets : (d : List ℕ) (paces : ℕ → Paced) (ts : List ℕ) → areBytes d ≡ true → ((t : ℕ) → In t ts → In t transmitters) →
+    all ofBytes (transmissions d (readyOf d) paces ts) ≡ true
+unfolding transmissions
+pdo-octets d paces [] h sub = refl
+pdo-octets d paces (t ∷ ts) h sub =
+    let rest = pdo-octets d paces ts h (λ u i. sub u (there i)) in
+    whichever (λ fs. all ofBytes (fs ++ transmissions d (readyOf d) paces ts) ≡ true) (paces t .send) (rw (pdo-octet d h (sub t here)) rest) rest
+
+answered-bytes : (x : Decision) (s : State) (d o : List ℕ) → Said x → areBytes d ≡ true → areBytes o ≡ true →
+    areBytes (answered x s d o .output) ≡ true
+unfolding answered refused accepted ended
+answered-bytes (refuses r) s d o h b c = c
+answered-bytes (performs e) s d o h b c =
+    let d′ = settled (finally d e) (stored (e .writes) d) in
+    let paces = paceFor s (finally d e) (e .occasion) d′ (readyOf d′) in
+    let pdo = transmissions d′ (readyOf d′) paces transmitters in
+    sent-bytes (e .sent ++ pdo) o (all-append ofBytes (e .sent) pdo (h .octet) (pdo-octets d′ paces transmitters (ended-bytes s d e b) (λ t i. i))) c
+
+pub output-of-bytes : OutputOfBytes
+unfolding answer
+output-of-bytes r k o b =
+    let a = reached r in
+    let h = run-holds r .at .bytes in
+    answered-bytes _ (a .state) (a .dictionary) (k .output) (said (decides (a .state) (a .dictionary) (k .call) (k .output)) o h) h b

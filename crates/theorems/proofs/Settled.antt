@@ -1,36 +1,18 @@
 -- Making 6041h and 6061h leaves all else as it was, and the status word does not read itself.
 -- Assumes nothing.
-use Prim.Native.Nat.{ℕ, _-_, _^_, _<_, _≤_}
-use native.Mathlib.Omega.{arith}
-use mathlib.Core.Path.{_≡_, refl, _∙_, ap}
-use mathlib.Core.Logic.{_⊎_, inl, inr}
-use mathlib.Core.Bool.{Bool, true, false, cond}
-use mathlib.Core.List.{List}
-use borrow.Author.Tests.{le-ltb}
-use lib.ListN.{length}
-use Rattle.rules_dictionary.specs.declared.Mode.{Mode}
-use Rattle.rules_dictionary.specs.declared.Mode.the-variants.{NoMode, ProfilePosition, ProfileVelocity}
-use Rattle.drive.specs.declared.DriveState.{DriveState}
-use Rattle.drive.specs.declared.DriveState.the-variants.{NotReady, SwitchOnDisabled, ReadyToSwitchOn, SwitchedOn, OperationEnabled, QuickStopActive, FaultReactionActive, Fault}
-use Rattle.drive.specs.declared.Store.{Store}
-use Rattle.drive.specs.declared.Store.the-variants.{Empty, Rested, Moving, Queued}
-use Rattle.drive.specs.declared.Drive.{Drive}
-use Rattle.state.specs.declared.State.{State}
-use Rattle.rules_dictionary.specs.declared.Role.the-variants.{Plain}
-use Rattle.rules_dictionary.specs.Table.{Row, table, sizeOf, dictionaryLength, statusWord, modeDisplay, mode, controlWord, position, positionWindow, velocity, velocityWindow, velocityThreshold, targetVelocity, isConstant, whole, size, open-table}
-use Rattle.rules_dictionary.specs.Values.{read, store}
-use Rattle.rules_dictionary.specs.Legal.{modeNumber}
-use Rattle.rules_dictionary.specs.Members.{In}
-use Rattle.rules_dictionary.proofs.LookUp.{found-in}
-use Rattle.rules_dictionary.proofs.Packing.{apart, same-or-apart, within}
-use Rattle.rules_dictionary.proofs.Rows.{read-apart, read-same, length-store}
+use Rattle.theorems.proofs.Words.{ℕ, _-_, _^_, _<_, _≤_, arith, _≡_, refl, _∙_, ap, inl, inr, Bool, true, false, cond, List, le-ltb, leb-true}
+use Rattle.theorems.proofs.Words.{leb, length, Mode, NoMode, ProfilePosition, ProfileVelocity, Store, Empty, Rested, Moving, Queued, Drive}
+use Rattle.theorems.proofs.Words.{State, Plain, In, apart, same-or-apart, found-in, within, read-apart, read-same, length-store, clash}
+use Rattle.theorems.proofs.Words.{whichever}
+use Rattle.theorems.proofs.{DriveKept.on-states, Dictionary.MayHold, Dictionary.isPdo}
+use Rattle.rules_dictionary.specs.Table.{errorRegister, heartbeatTime, Row, table, sizeOf, dictionaryLength, statusWord, modeDisplay, mode}
+use Rattle.rules_dictionary.specs.Table.{controlWord, position, positionWindow, velocity, velocityWindow, velocityThreshold, targetVelocity}
+use Rattle.rules_dictionary.specs.Table.{isConstant, whole, size, open-table}
+use Rattle.rules_dictionary.specs.{Values.read, Values.store, Legal.modeNumber}
 use Rattle.drive.specs.DriveStates.{stateWord, isEnabled}
 use Rattle.drive.specs.StatusWord.{status, enabledBits, ackInMode, reachedInMode, positionReached, velocityReached, standsStill, flag, slow, near}
-use Rattle.rules.specs.Outcome.{settled, statusOf}
-use Rattle.rules.specs.Sound.{inRange}
-use Rattle.theorems.proofs.Booleans.{clash}
-use Rattle.theorems.proofs.Dictionary.{DictionaryOk, MayHold, store-ok}
-use Rattle.theorems.proofs.Alike.{isPdo}
+use Rattle.rules.specs.{Outcome.settled, Outcome.statusOf, Sound.inRange}
+use Rattle.rules.proofs.AtEnd.{SameRules}
 
 -- ---- the status word fits its row
 
@@ -38,27 +20,13 @@ flag-le : (k : ℕ) (b : Bool) → flag k b ≤ 2 ^ k
 flag-le k true = omega arith
 flag-le k false = omega arith
 
-word-le : (s : DriveState) → stateWord s ≤ 0x40
-word-le NotReady = omega arith
-word-le SwitchOnDisabled = omega arith
-word-le ReadyToSwitchOn = omega arith
-word-le SwitchedOn = omega arith
-word-le OperationEnabled = omega arith
-word-le QuickStopActive = omega arith
-word-le FaultReactionActive = omega arith
-word-le Fault = omega arith
-
-cond-le : (b : Bool) (x y k : ℕ) → x ≤ k → y ≤ k → cond b x y ≤ k
-cond-le true x y k p q = p
-cond-le false x y k p q = q
-
 pub status-fits : (remote voltage : Bool) (v : Drive) (d : List ℕ) → status remote voltage v d < 256 ^ 2
 unfolding status enabledBits
 status-fits remote voltage v d =
-    let h : cond (isEnabled (v .state)) (enabledBits v d) 0 ≤ 0x1C00 =
-    cond-le (isEnabled (v .state)) (enabledBits v d) 0 0x1C00
-    (omega (arith, flag-le 12 (ackInMode (v .mode) v d), flag-le 11 (v .limit), flag-le 10 (reachedInMode (v .mode) v d))) (omega arith) in
-    omega (arith, word-le (v .state), flag-le 4 voltage, flag-le 9 remote)
+    let bits : enabledBits v d ≤ 0x1C00 =
+    omega (arith, flag-le 12 (ackInMode (v .mode) v d), flag-le 11 (v .limit), flag-le 10 (reachedInMode (v .mode) v d)) in
+    let h : cond (isEnabled (v .state)) (enabledBits v d) 0 ≤ 0x1C00 = whichever (λ k. k ≤ 0x1C00) (isEnabled (v .state)) bits (omega arith) in
+    omega (arith, leb-true (stateWord (v .state)) 0x40 (on-states (λ s. leb (stateWord s) 0x40) refl (v .state)), flag-le 4 voltage, flag-le 9 remote)
 
 -- ---- what the status word reads
 
@@ -71,12 +39,13 @@ pub record SameMotion (d d′ : List ℕ) : Type 0 where
   pub threshold : read d′ velocityThreshold ≡ read d velocityThreshold
   pub goal : read d′ targetVelocity ≡ read d targetVelocity
 
-module _ (d d′ : List ℕ) (h : SameMotion d d′) where
-  ack-same : (m : Mode) (v : Drive) → ackInMode m v d′ ≡ ackInMode m v d
+-- the same word: of a drive with the same parts
+module _ (d d′ : List ℕ) (v v′ : Drive) (h : SameMotion d d′) (k : SameRules v v′) where
+  ack-same : (m : Mode) → ackInMode m v′ d′ ≡ ackInMode m v d
   unfolding ackInMode slow
-  ack-same NoMode v = refl
-  ack-same ProfilePosition v = refl
-  ack-same ProfileVelocity v = rw (h .speed, h .threshold)
+  ack-same NoMode = refl
+  ack-same ProfilePosition = rw (k .taken, k .store)
+  ack-same ProfileVelocity = rw (h .speed, h .threshold)
 
   position-same : (s : Store) → positionReached s d′ ≡ positionReached s d
   unfolding positionReached near
@@ -85,17 +54,17 @@ module _ (d d′ : List ℕ) (h : SameMotion d d′) where
   position-same (Moving a) = rw (h .window, h .place)
   position-same (Queued a b) = rw (h .window, h .place)
 
-  reached-same : (m : Mode) (v : Drive) → reachedInMode m v d′ ≡ reachedInMode m v d
+  reached-same : (m : Mode) → reachedInMode m v′ d′ ≡ reachedInMode m v d
   unfolding reachedInMode standsStill velocityReached
-  reached-same NoMode v = refl
-  reached-same ProfilePosition v = rw (h .control, h .speed, position-same (v .store))
-  reached-same ProfileVelocity v = rw (h .control, h .speed, h .speedWindow, h .goal)
+  reached-same NoMode = refl
+  reached-same ProfilePosition = rw (h .control, h .speed, k .store, position-same (v .store))
+  reached-same ProfileVelocity = rw (h .control, h .speed, h .speedWindow, h .goal)
 
-  pub status-same : (remote voltage : Bool) (v : Drive) → status remote voltage v d′ ≡ status remote voltage v d
+  pub status-same : (remote voltage : Bool) → status remote voltage v′ d′ ≡ status remote voltage v d
   unfolding status enabledBits
-  status-same remote voltage v = rw (ack-same (v .mode) v, reached-same (v .mode) v)
+  status-same remote voltage = rw (ack-same (v′ .mode), reached-same (v′ .mode), k .mode, k .state, k .limit)
 
--- ---- 6041h and 6061h made
+-- ---- rows of the table
 
 pub status-in : In statusWord table
 unfolding open-table
@@ -105,10 +74,26 @@ pub display-in : In modeDisplay table
 unfolding open-table
 display-in = found-in 0x6061 0 refl
 
-mode-fits : (m : Mode) → modeNumber m < 256 ^ 1
-mode-fits NoMode = omega arith
-mode-fits ProfilePosition = omega arith
-mode-fits ProfileVelocity = omega arith
+pub mode-in : In mode table
+unfolding open-table
+mode-in = found-in 0x6060 0 refl
+
+pub control-in : In controlWord table
+unfolding open-table
+control-in = found-in 0x6040 0 refl
+
+pub time-in : In heartbeatTime table
+unfolding open-table
+time-in = found-in 0x1017 0 refl
+
+pub register-in : In errorRegister table
+unfolding open-table
+register-in = found-in 0x1001 0 refl
+
+-- ---- 6041h and 6061h made
+
+pub mode-fits : (m : Mode) → modeNumber m < 256 ^ 1
+mode-fits m = elim m [ NoMode ↦ omega arith | ProfilePosition ↦ omega arith | ProfileVelocity ↦ omega arith ]
 
 pub settled-apart : (s : State) (d : List ℕ) (y : Row) → apart statusWord y ≡ true → apart modeDisplay y ≡ true → read (settled s d) y ≡ read d y
 unfolding settled
@@ -132,14 +117,10 @@ settled-motion s d =
     }
 
 pub settled-pdo : (s : State) (d : List ℕ) (y : Row) → In y table → isPdo (y .role) ≡ true → read (settled s d) y ≡ read d y
-settled-pdo s d y i h = settled-apart s d y (other statusWord status-in refl) (other modeDisplay display-in refl)
-  where
-    other : (x : Row) → In x table → isPdo (x .role) ≡ false → apart x y ≡ true
-    other x j q = go (same-or-apart j i)
-      where
-        go : (x ≡ y) ⊎ (apart x y ≡ true) → apart x y ≡ true
-        go (inl e) = clash (isPdo (x .role)) (ap (λ (z : Row). isPdo (z .role)) e ∙ h) q
-        go (inr a) = a
+settled-pdo s d y i h =
+    let other : (x : Row) → In x table → isPdo (x .role) ≡ false → apart x y ≡ true =
+    λ x j q. elim (same-or-apart j i) [ inl e ↦ clash (isPdo (x .role)) (rw e h) q | inr a ↦ a ] in
+    settled-apart s d y (other statusWord status-in refl) (other modeDisplay display-in refl)
 
 module _ (s : State) (d : List ℕ) (long : length d ≡ dictionaryLength) where
   pub settled-status : read (settled s d) statusWord ≡ statusOf s d
@@ -154,10 +135,11 @@ module _ (s : State) (d : List ℕ) (long : length d ≡ dictionaryLength) where
       read-same modeDisplay (modeNumber (s .axis .drive .mode)) (store statusWord (statusOf s d) d)
       (omega (arith, within display-in, length-store statusWord (statusOf s d) d)) (mode-fits (s .axis .drive .mode))
 
--- ---- and the dictionary stays sound
+-- ---- what a row of no PDO may hold
 
 -- a row of no PDO may hold what is in its range and fits it
-pub drive-may : (n : ℕ) (d : List ℕ) (x : Row) (v : ℕ) → isPdo (x .role) ≡ false → isConstant (x .access) ≡ false → v < 256 ^ sizeOf x → inRange x v ≡ true → MayHold n d x v
+pub drive-may : (n : ℕ) (d : List ℕ) (x : Row) (v : ℕ) → isPdo (x .role) ≡ false → isConstant (x .access) ≡ false → v < 256 ^ sizeOf x →
+    inRange x v ≡ true → MayHold n d x v
 drive-may n d x v r c f g =
     record {
       fits = f;
@@ -173,14 +155,3 @@ pub whole-range : (x : Row) (v : ℕ) → x .range ≡ whole (x .type) → x .ro
 unfolding inRange
 whole-range x v e r h =
     rw (e, r, le-ltb v 0 (omega arith), le-ltb (256 ^ size (x .type) - 1) v (omega arith))
-
-pub settled-ok : (n : ℕ) (s : State) (d : List ℕ) → length d ≡ dictionaryLength → DictionaryOk n d → DictionaryOk n (settled s d)
-unfolding settled statusOf
-settled-ok n s d l ok =
-    let word = statusOf s d in
-    let fits : word < 256 ^ 2 = status-fits _ _ _ d in
-    let shown = modeNumber (s .axis .drive .mode) in
-    let fits′ : shown < 256 ^ 1 = mode-fits (s .axis .drive .mode) in
-    store-ok n (store statusWord word d) modeDisplay shown display-in (length-store statusWord word d ∙ l)
-    (store-ok n d statusWord word status-in l ok (drive-may n d statusWord word refl refl fits (whole-range statusWord word refl refl fits)))
-    (drive-may n (store statusWord word d) modeDisplay shown refl refl fits′ (whole-range modeDisplay shown refl refl fits′))

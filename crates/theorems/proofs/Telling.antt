@@ -1,152 +1,133 @@
 -- For each promise a telling run of node 5, computed: the promise's premises are met there, and what it promises is seen. Each is a run on which
 -- a wrong rule of docs/PROMISES.md shows.
 -- Assumes nothing.
-use Prim.Native.Nat.{ℕ, zero, suc, _+_, _*_}
-use mathlib.Core.Path.{_≡_, refl}
-use mathlib.Core.Bool.{Bool, true, not, _&&_, _||_}
-use mathlib.Core.List.{List, [], _∷_, _++_, map}
-use lib.Dec.{eqb, ltb}
-use lib.ListN.{length, getD}
-use Rattle.rules_dictionary.specs.declared.PdoData.{PdoData}
-use Rattle.rules_dictionary.specs.Numbers.{all, any, areBytes}
-use Rattle.rules_dictionary.specs.Table.{statusWord, eachWay, dictionaryLength}
-use Rattle.rules_dictionary.specs.Values.{read}
+use Rattle.theorems.proofs.Words.{ℕ, zero, suc, _+_, _*_, _≡_, refl, Bool, true, not, _&&_, _||_, List, [], _∷_, _++_, map, eqb, ltb, length}
+use Rattle.theorems.proofs.Words.{getD, PdoData}
 use Rattle.rules_dictionary.specs.Plans.{mapped, plansOf, joined, pdoData}
-use Rattle.rules_services.specs.Effects.{frame}
-use Rattle.rules_services.specs.PdoTraffic.{listens, mappedLength, noData}
+use Rattle.rules_dictionary.specs.{Numbers.all, Numbers.any, Numbers.areBytes, Table.statusWord, Table.eachWay, Table.dictionaryLength, Values.read}
+use Rattle.rules_services.specs.{Effects.frame, PdoTraffic.listens, PdoTraffic.mappedLength, PdoTraffic.noData}
 use Rattle.rules.specs.Outcome.{statusOf, sameBy, samePlan, sameData, encoded, frameSize}
-use Rattle.rules.specs.Sound.{sound}
 use Rattle.rules.specs.Calls.{Call, powerUpCall, frameCall, eventCall, Outcome, refusalNumber}
-use Rattle.rules.specs.Scripts.{blank, nothing, zeros, open-rules}
-use Rattle.rules.specs.Examples.{request, nmt}
+use Rattle.rules.specs.{Sound.sound, Scripts.blank, Scripts.nothing, Scripts.zeros, Scripts.open-rules, Examples.request, Examples.nmt}
 use Rattle.theorems.specs.Promises.{Step, Stand, does, after, mayChange, covers, points, open-promises}
 
 -- ---- the calls of the runs
 
-step : Call → Step
+abbrev step : Call → Step
 step c = record { call = c; output = blank }
 
 -- a run of node 5 from an empty dictionary
-ran : List Call → Stand
-unfolding step
+abbrev ran : List Call → Stand
 ran cs = after (map step (powerUpCall 5 ∷ cs)) (record { state = nothing; dictionary = zeros })
 
 -- the call at the end of such a run
-answers : Call → List Call → Outcome
-unfolding step
+abbrev answers : Call → List Call → Outcome
 answers c cs = does (step c) (ran cs)
 
-started : Call
+abbrev started : Call
 started = eventCall 1 []
 
 -- 6040h by SDO
-control : ℕ → Call
+abbrev control : ℕ → Call
 control w = request (0x2B ∷ 0x40 ∷ 0x60 ∷ 0x00 ∷ w ∷ 0x00 ∷ 0x00 ∷ 0x00 ∷ [])
 
 -- an entry of one byte by SDO
-write1 : ℕ → ℕ → ℕ → ℕ → Call
+abbrev write1 : ℕ → ℕ → ℕ → ℕ → Call
 write1 low high subindex b = request (0x2F ∷ low ∷ high ∷ subindex ∷ b ∷ 0x00 ∷ 0x00 ∷ 0x00 ∷ [])
 
-operational : Call
+abbrev operational : Call
 operational = nmt 0x01
 
-stopped : Call
-stopped = nmt 0x02
-
 -- Operation enabled in mode 1
-enabled : List Call
-unfolding started control write1
+abbrev enabled : List Call
 enabled = started ∷ control 0x06 ∷ control 0x0F ∷ write1 0x60 0x60 0x00 0x01 ∷ []
 
 -- ---- SoundAlways: a frame is held for SYNC when the node is stopped
-isSound : Stand → Bool
-isSound a = sound (a .state) (a .dictionary)
-
-sound-after-stop : isSound (ran (write1 0x00 0x14 0x02 0x01 ∷ operational ∷ frameCall 0x205 (0x06 ∷ 0x00 ∷ []) ∷ stopped ∷ [])) ≡ true
-unfolding open-rules open-promises isSound ran step write1 operational stopped
+sound-after-stop :
+    let a =
+    ran (write1 0x00 0x14 0x02 0x01 ∷ operational ∷ frameCall 0x205 (0x06 ∷ 0x00 ∷ []) ∷ nmt 0x02 ∷ []) in sound (a .state) (a .dictionary) ≡ true
+unfolding open-rules open-promises
 sound-after-stop = refl
 
 -- ---- NeverUnsound: the heartbeat's count at its end
-served-after-tick : eqb (refusalNumber (answers (eventCall 7 []) (request (0x2B ∷ 0x17 ∷ 0x10 ∷ 0x00 ∷ 0x01 ∷ 0x00 ∷ 0x00 ∷ 0x00 ∷ []) ∷ eventCall 7 [] ∷ []) .refusal)) 0 ≡ true
-unfolding open-rules open-promises answers ran step
+served-after-tick :
+    refusalNumber (answers (eventCall 7 []) (request (0x2B ∷ 0x17 ∷ 0x10 ∷ 0x00 ∷ 0x01 ∷ 0x00 ∷ 0x00 ∷ 0x00 ∷ []) ∷ eventCall 7 [] ∷ []) .refusal) ≡ 0
+unfolding open-rules open-promises
 served-after-tick = refl
 
 -- ---- OutputOfBytes: boot-up on 705h
 bytes-of-boot-up : areBytes (answers (nmt 0x81) [] .output) ≡ true
-unfolding open-rules open-promises answers ran step
+unfolding open-rules open-promises
 bytes-of-boot-up = refl
 
 -- ---- NothingStale: 6041h after the drive has started
-isFresh : Stand → Bool
-isFresh a = eqb (read (a .dictionary) statusWord) (statusOf (a .state) (a .dictionary)) && sameBy samePlan (a .state .axis .plans) (plansOf (a .dictionary))
+abbrev isFresh : Stand → Bool
+isFresh a =
+    eqb (read (a .dictionary) statusWord) (statusOf (a .state) (a .dictionary)) && sameBy samePlan (a .state .axis .plans) (plansOf (a .dictionary))
 
 fresh-when-started : isFresh (ran (started ∷ [])) ≡ true
-unfolding open-rules open-promises isFresh ran step started
+unfolding open-rules open-promises
 fresh-when-started = refl
 
 -- ---- ChangesNoOther: a fault reset, byte for byte
-upTo : ℕ → List ℕ
+abbrev upTo : ℕ → List ℕ
 upTo zero = []
 upTo (suc n) = n ∷ upTo n
 
-keepsOthers : Call → Stand → Bool
-unfolding step upTo
+abbrev keepsOthers : Call → Stand → Bool
 keepsOthers c a =
     let rows = mayChange c (a .state) (a .dictionary) in
     let d = does (step c) a .dictionary in
     all (λ i. any (covers i) rows || eqb (getD d i 0) (getD (a .dictionary) i 0)) (upTo dictionaryLength)
 
-faulted : List Call
-unfolding started
-faulted = started ∷ eventCall 3 (0x10 ∷ 0x23 ∷ 0x02 ∷ []) ∷ eventCall 4 [] ∷ eventCall 8 [] ∷ []
-
-reset-keeps-others : keepsOthers (control 0x80) (ran faulted) ≡ true
-unfolding open-rules open-promises keepsOthers upTo ran step control faulted started
+reset-keeps-others :
+    keepsOthers (control 0x80) (ran (started ∷ eventCall 3 (0x10 ∷ 0x23 ∷ 0x02 ∷ []) ∷ eventCall 4 [] ∷ eventCall 8 [] ∷ [])) ≡ true
+unfolding open-rules open-promises
 reset-keeps-others = refl
 
 -- voltage on, which writes no row: 6041h alone follows
 voltage-keeps-others : keepsOthers (eventCall 9 (0x01 ∷ [])) (ran (started ∷ [])) ≡ true
-unfolding open-rules open-promises keepsOthers upTo ran step started
+unfolding open-rules open-promises
 voltage-keeps-others = refl
 
 -- ---- ReadyFrameStays: feedback, and transmit PDO 1 that maps 6041h alone
-readyAt : ℕ → Stand → PdoData
+abbrev readyAt : ℕ → Stand → PdoData
 readyAt t a = getD (a .state .axis .ready) t noData
 
-unmapped-stays : sameData (readyAt 0 (ran (eventCall 5 (0x01 ∷ 0x02 ∷ 0x03 ∷ 0x04 ∷ 0x05 ∷ 0x06 ∷ 0x07 ∷ 0x08 ∷ []) ∷ []))) (readyAt 0 (ran [])) ≡ true
-unfolding open-rules open-promises readyAt ran step
+unmapped-stays :
+    sameData (readyAt 0 (ran (eventCall 5 (0x01 ∷ 0x02 ∷ 0x03 ∷ 0x04 ∷ 0x05 ∷ 0x06 ∷ 0x07 ∷ 0x08 ∷ []) ∷ []))) (readyAt 0 (ran [])) ≡ true
+unfolding open-rules open-promises
 unmapped-stays = refl
 
 -- ---- RefusedMeansNothing: an event that is not known
-isRefused : Outcome → Bool
+abbrev isRefused : Outcome → Bool
 isRefused u = not (eqb (refusalNumber (u .refusal)) 0) && eqb (u .frames) 0 && sameBy eqb (u .output) blank
 
 refused-keeps-output : isRefused (answers (eventCall 10 []) []) ≡ true
-unfolding open-rules open-promises isRefused answers ran step
+unfolding open-rules open-promises
 refused-keeps-output = refl
 
 -- ---- RefusedWriteChangesNothing: a write of the constant 1000h
-keepsAll : Call → Stand → Bool
-unfolding step
+abbrev keepsAll : Call → Stand → Bool
 keepsAll c a = sameBy eqb (does (step c) a .dictionary) (a .dictionary)
 
 refused-write-stores-nothing : keepsAll (request (0x23 ∷ 0x00 ∷ 0x10 ∷ 0x00 ∷ 0x01 ∷ 0x00 ∷ 0x00 ∷ 0x00 ∷ [])) (ran []) ≡ true
-unfolding open-rules open-promises keepsAll ran step
+unfolding open-rules open-promises
 refused-write-stores-nothing = refl
 
 -- ---- DroppedFrameChangesNothing: receive PDO 2 with mode 7, which 6060h does not take
 bad-value-dropped : keepsAll (frameCall 0x305 (0x06 ∷ 0x00 ∷ 0x07 ∷ [])) (ran (started ∷ operational ∷ [])) ≡ true
-unfolding open-rules open-promises keepsAll ran step started operational
+unfolding open-rules open-promises
 bad-value-dropped = refl
 
 -- ---- AtMostSixInOrder: an SDO write that changes 6041h: the reply on 585h, and behind it the four transmit PDOs
-identifiersIn : ℕ → List ℕ → List ℕ
+abbrev identifiersIn : ℕ → List ℕ → List ℕ
 identifiersIn n o = map (λ k. getD o (frameSize * k) 0 + 256 * getD o (suc (frameSize * k)) 0) (upTo n)
 
 reply-comes-first :
     (answers (control 0x06) (started ∷ operational ∷ []) .frames ≡ 5)
     × (identifiersIn 5 (answers (control 0x06) (started ∷ operational ∷ []) .output) ≡ 0x485 ∷ 0x385 ∷ 0x285 ∷ 0x185 ∷ 0x585 ∷ [])
-unfolding open-rules open-promises identifiersIn upTo answers ran step control started operational
+unfolding open-rules open-promises
 reply-comes-first = (refl, refl)
 
 -- ---- ElevenBytes: a heartbeat, which has one data byte
@@ -155,41 +136,36 @@ unfolding open-rules
 one-data-byte = refl
 
 -- ---- ShortFrameChangesNothing: receive PDO 3 with five bytes of six
-isShort : Stand → Bool
-isShort a = listens 0x405 (a .state .node .nmt) (a .dictionary) 2 && ltb 5 (mappedLength (mapped (a .dictionary) 2))
-
 short-dropped :
-    (isShort (ran (started ∷ operational ∷ [])) ≡ true)
-    × (keepsAll (frameCall 0x405 (0x06 ∷ 0x00 ∷ 0x39 ∷ 0x05 ∷ 0x00 ∷ [])) (ran (started ∷ operational ∷ [])) ≡ true)
-unfolding open-rules open-promises isShort keepsAll ran step started operational
-short-dropped = (refl, refl)
+    let a = ran (started ∷ operational ∷ []) in
+    (listens 0x405 (a .state .node .nmt) (a .dictionary) 2 ≡ true)
+    × (ltb 5 (mappedLength (mapped (a .dictionary) 2)) ≡ true)
+    × (keepsAll (frameCall 0x405 (0x06 ∷ 0x00 ∷ 0x39 ∷ 0x05 ∷ 0x00 ∷ [])) a ≡ true)
+unfolding open-rules open-promises
+short-dropped = (refl, refl, refl)
 
 -- ---- NoOldMapping: receive PDO 1 made invalid, and its mapping emptied
-newMapping : List Call
-unfolding write1
+abbrev newMapping : List Call
 newMapping = request (0x23 ∷ 0x00 ∷ 0x14 ∷ 0x01 ∷ 0x05 ∷ 0x02 ∷ 0x00 ∷ 0x80 ∷ []) ∷ write1 0x00 0x16 0x00 0x00 ∷ []
 
 no-old-plan : (isFresh (ran newMapping) ≡ true) × (mapped (ran newMapping .dictionary) 0 ≡ [])
-unfolding open-rules open-promises isFresh ran step newMapping write1
+unfolding open-rules open-promises
 no-old-plan = (refl, refl)
 
 -- ---- SameStatusWord: the ready frame of transmit PDO 1 after a control word
-carriesStatus : Stand → Bool
-unfolding readyAt
-carriesStatus a = sameData (readyAt 0 a) (pdoData (joined (a .dictionary) (mapped (a .dictionary) eachWay)))
-
-same-word : carriesStatus (ran (started ∷ control 0x06 ∷ [])) ≡ true
-unfolding open-rules open-promises carriesStatus readyAt ran step started control
+same-word :
+    let a = ran (started ∷ control 0x06 ∷ []) in sameData (readyAt 0 a) (pdoData (joined (a .dictionary) (mapped (a .dictionary) eachWay))) ≡ true
+unfolding open-rules open-promises
 same-word = refl
 
 -- ---- HeldBitTakesNothing: 1Fh written again; OneEdgeTakesOne: 1Fh written once
-taken : List Call → ℕ
+abbrev taken : List Call → ℕ
 taken cs = length (points (ran (enabled ++ cs) .state .axis .drive .store))
 
 edge-takes-one : taken (control 0x1F ∷ []) ≡ 1
-unfolding open-rules open-promises taken ran step enabled control write1 started
+unfolding open-rules open-promises
 edge-takes-one = refl
 
 held-takes-none : taken (control 0x1F ∷ control 0x1F ∷ []) ≡ 1
-unfolding open-rules open-promises taken ran step enabled control write1 started
+unfolding open-rules open-promises
 held-takes-none = refl

@@ -22,12 +22,19 @@ use Rattle.rules_dictionary.specs.Plans.{mapped, planFor, readyFor, plansOf, re
 use Rattle.rules_dictionary.specs.Members.{In}
 use Rattle.drive.specs.SetPoints.{newSetPointBit, controlWritten}
 use Rattle.drive.specs.declared.Drive.{Drive}
-use Rattle.rules_services.specs.Effects.{Frame, frame, isStopped}
+use Rattle.rules_services.specs.Effects.{Frame, frame}
+use Rattle.state.specs.NmtStates.{isStopped}
 use Rattle.rules_services.specs.Emergency.{emergency, emergencyBase, pdoTooShort}
-use Rattle.rules_services.specs.Sdo.{Command, download, upload, clientAbort, unknown, commandOf, commandByte, askedIndex, askedSubindex, downloadVerdict, requestBase, replyBase}
+use Rattle.rules_services.specs.declared.SdoCommand.{SdoCommand as Command}
+use Rattle.rules_services.specs.declared.SdoCommand.the-variants.{Download as download, Upload as upload, ClientAbort as clientAbort, Unknown as unknown}
+use Rattle.rules_services.specs.Sdo.{commandOf, commandByte, askedIndex, askedSubindex, downloadVerdict, requestBase, replyBase}
 use Rattle.rules_services.specs.PdoTraffic.{listens, mappedLength, areLegal, transmitted, noData, syncBase}
-use Rattle.rules_services.specs.Nmt.{nmtIdentifier, heartbeatBase, commandOf as nmtCommandOf, Command as NmtCommand, start, stop, enterPreOperational, resetNode, resetCommunication, unknown as unknownNmt}
-use Rattle.rules_services.specs.Events.{Told, event, badEvent, eventOf, Event, started, quickStopDone, reactionDone, setPointReached, tick, causeGone, fault, feedback, voltage}
+use Rattle.rules_services.specs.Nmt.{nmtIdentifier, heartbeatBase, commandOf as nmtCommandOf, NmtCommand, start, stop, enterPreOperational, resetNode, resetCommunication, unknown as unknownNmt}
+use Rattle.rules_services.specs.declared.Told.{Told}
+use Rattle.rules_services.specs.declared.Told.the-variants.{Happened as event, Bad as badEvent}
+use Rattle.rules_services.specs.Events.{eventOf}
+use Rattle.rules_services.specs.declared.Event.{Event}
+use Rattle.rules_services.specs.declared.Event.the-variants.{Started as started, QuickStopDone as quickStopDone, ReactionDone as reactionDone, SetPointReached as setPointReached, Tick as tick, CauseGone as causeGone, Fault as fault, Feedback as feedback, Voltage as voltage}
 use Rattle.rules.specs.Outcome.{statusOf, encoded, sentInto, frameSize, transmitters}
 use Rattle.rules.specs.Sound.{sound}
 use Rattle.rules.specs.Calls.{Call, powerUpCall, frameCall, eventCall, Decision, refuses, does as performs, decided, Outcome, answer, outputLength}

@@ -3,7 +3,7 @@ use mathlib.Core.Path.{refl, sym, _∙_}
 use borrow.Author.Tests.{not-true, not-false}
 use Rattle.rules_dictionary.specs.Table.{table, dictionaryLength}
 use Rattle.rules.specs.Calls.{eventCall}
-use Rattle.cendurak.proofs.Laws.{short-dictionary, short-output, no-state, made-brief, other-length, no-form, a-form}
+use Rattle.cendurak.proofs.Ways.{short-dictionary, short-output, no-state, made-brief, other-length, no-form, a-form}
 use borrow.Author.Needs.{needs}
 use Rattle.cendurak.proofs.cendurak_event.Statement.{statement}
 use Rattle.cendurak.proofs.cendurak_event.Tie as tie

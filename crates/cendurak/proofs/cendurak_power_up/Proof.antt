@@ -6,7 +6,7 @@ use Rattle.state.specs.declared.State.{State}
 use Rattle.rules.specs.Calls.{powerUpCall, answer}
 use Rattle.form.specs.Form.{stateOf, stateLength}
 use Rattle.calls.proofs.Refusals.{decides-not, too-low, too-high}
-use Rattle.cendurak.proofs.Laws.{short-dictionary, short-output, no-state, bad-node, made, node-low, node-high, a-node-id}
+use Rattle.cendurak.proofs.Ways.{short-dictionary, short-output, no-state, bad-node, made, node-low, node-high, a-node-id, well}
 use borrow.Author.Needs.{needs}
 use Rattle.cendurak.proofs.cendurak_power_up.Statement.{statement}
 use Rattle.cendurak.proofs.cendurak_power_up.Tie as tie
@@ -24,14 +24,14 @@ unfolding dictionaryLength table
 returns-3 c =
     let a = c .before .before .before .before .before .before .args in
     bad-node (powerUpCall (a .n)) (a .state .now) (a .dict .now) (a .out .now) (c .before .before .if1 .left) (c .before .if2 .left) (node-low (a .n) (c .if3 .taken))
-    (decides-not (powerUpCall (a .n)) (stateOf (a .state .now)) (a .dict .now) (a .out .now) (c .before .before .if1 .left) (c .before .if2 .left) _ (too-low (a .n) (stateOf (a .state .now)) (a .dict .now) (c .if3 .taken)))
+    (decides-not (powerUpCall (a .n)) (stateOf (a .state .now)) (a .dict .now) (a .out .now) (well (a .dict .now) (a .out .now) (c .before .before .if1 .left) (c .before .if2 .left)) _ (too-low (a .n) (stateOf (a .state .now)) (a .dict .now) (c .if3 .taken)))
 
 returns-4 : tie.Need-returns-4
 unfolding dictionaryLength table
 returns-4 c =
     let a = c .before .before .before .before .before .before .before .args in
     bad-node (powerUpCall (a .n)) (a .state .now) (a .dict .now) (a .out .now) (c .before .before .before .if1 .left) (c .before .before .if2 .left) (node-high (a .n) (c .if4 .taken))
-    (decides-not (powerUpCall (a .n)) (stateOf (a .state .now)) (a .dict .now) (a .out .now) (c .before .before .before .if1 .left) (c .before .before .if2 .left) _ (too-high (a .n) (stateOf (a .state .now)) (a .dict .now) (c .if4 .taken)))
+    (decides-not (powerUpCall (a .n)) (stateOf (a .state .now)) (a .dict .now) (a .out .now) (well (a .dict .now) (a .out .now) (c .before .before .before .if1 .left) (c .before .before .if2 .left)) _ (too-high (a .n) (stateOf (a .state .now)) (a .dict .now) (c .if4 .taken)))
 
 returns-5 : tie.Need-returns-5
 unfolding dictionaryLength table

@@ -5,9 +5,12 @@ use Rattle.form.proofs.read_state.Tie as tie
 
 returns : tie.Need-returns
 unfolding stateOf
-returns c = cc
+returns c =
+    let m = c .before .before .before in
+    rw (c .read-plans .ensures, c .before .read-paces .ensures, c .before .before .read-frames2 .ensures)
+    (rw (m .read-frames .ensures, m .before .read-drive .ensures, m .before .before .read-node .ensures))
 
 pub read-state-spec : {M : Type 1} → statement M
 read-state-spec =
     tie.close (tie.spec (λ c κs. search needs) (λ c κs. search needs) (λ c κs. search needs) (λ c κs. search needs) (λ c κs. search needs)
-    (λ c κs. search needs) (λ c κs. search needs) returns)
+    (λ c κs. search needs) returns)

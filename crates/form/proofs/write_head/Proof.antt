@@ -16,17 +16,19 @@ returns c =
     let n = v .before .before .before .before in
     let start = n .before .before .before in
     let a = start .args in
-    let s = withPlans [] (a .node) (a .drive) (a .ready) (a .held) (a .counts) (a .due) in
+    let s = withPlans [] (a .node) (a .drive) (a .ready) (a .held) (a .paces) in
     let typed : HeadTyped s =
     record {
       heartbeat = n .write-node .ensures .1;
       store = v .write-drive .ensures .1;
       ready = r .write-frames .ensures .1;
       held = h .write-frames2 .ensures .1;
-      counts = w .write-counts .ensures .1 .0;
-      due = w .write-counts .ensures .1 .1;
-    } in
-    (cc (head-written (now (a .bytes)) s (start .pre) typed), typed)
+      paces = w .write-paces .ensures .1;
+    } in (
+      rw (w .write-paces .ensures .0, h .write-frames2 .ensures .0, r .write-frames .ensures .0)
+          (rw (v .write-drive .ensures .0, n .write-node .ensures .0) (head-written (now (a .bytes)) s (start .pre) typed)),
+      typed,
+    )
 
 pub write-head-spec : {M : Type 1} → statement M
 write-head-spec =

@@ -10,13 +10,13 @@ returns : tie.Need-returns
 returns c =
     let h = c .before .before .write-head .ensures in
     let p = c .before .before .before .before .before .before .write-plans .ensures in
-    let start = c .before .before .before .before .before .before .before .before .before .before .before .before .before .before .before .before .before in
+    let start = c .before .before .before .before .before .before .before .before .before .before .before .before .before .before .before .before in
     let s = start .args .s in
     let x = s .axis in
     let held : HoldsPlans (c .before .before .before .before .before .before .write-plans .last .0) (x .plans) =
     rw (p .0) (plans-written (now (start .args .bytes)) (x .plans) (start .pre) (p .1)) in (
-      h .0 ∙ head-over _ (x .plans) (s .node) (x .drive) (x .ready) (x .held) (x .counts) (x .due) held,
-      typed-whole (x .plans) (s .node) (x .drive) (x .ready) (x .held) (x .counts) (x .due) (h .1) (p .1),
+      h .0 ∙ head-over _ (x .plans) (s .node) (x .drive) (x .ready) (x .held) (x .paces) held,
+      typed-whole (x .plans) (s .node) (x .drive) (x .ready) (x .held) (x .paces) (h .1) (p .1),
     )
 
 pub write-state-spec : {M : Type 1} → statement M

@@ -14,7 +14,8 @@ returns c = rw (sym (c .before .are-plans-kept .ensures) ∙ not-true _ (c .if1 
 
 are-frames-kept-requires : tie.Need-are-frames-kept-requires
 are-frames-kept-requires c κs =
-    (c .before .before .before .before .before .before .before .pre, sym (c .before .before .are-plans-kept .ensures) ∙ not-false _ (c .before .if1 .left))
+    let b = c .before in
+    (b .before .before .before .before .before .before .pre, sym (b .before .are-plans-kept .ensures) ∙ not-false _ (b .if1 .left))
 
 returns-2 : tie.Need-returns-2
 unfolding pdoClauses
@@ -24,13 +25,13 @@ returns-2 c =
 
 is-waiting-sound-requires : tie.Need-is-waiting-sound-requires
 is-waiting-sound-requires c κs =
-    let b = c .before .before .before .before .before .before in
+    let b = c .before .before .before .before .before in
     (b .before .before .before .before .before .before .pre, sym (b .before .are-plans-kept .ensures) ∙ not-false _ (b .if1 .left))
 
 returns-3 : tie.Need-returns-3
 unfolding pdoClauses waitingSound waitSound
 returns-3 c =
-    let f = c .before .before .before .before in
+    let f = c .before .before .before in
     let b = f .before .before .before in
     rw (sym (b .before .are-plans-kept .ensures) ∙ not-false _ (b .if1 .left), sym (f .before .are-frames-kept .ensures) ∙ not-false _ (f .if2 .left))
     (c .is-waiting-sound .ensures)

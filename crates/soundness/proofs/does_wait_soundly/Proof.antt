@@ -11,7 +11,7 @@ returns : tie.Need-returns
 unfolding waitingSound waitSound
 returns c =
     let w = c .before .does-nothing-wait .ensures in
-    none-waits _ _ _ _ _ (w .1 .0) (w .1 .1 .0) (w .1 .1 .1) (sym (w .0) ∙ c .if1 .taken)
+    none-waits _ _ _ _ (w .1 .0) (w .1 .1) (sym (w .0) ∙ c .if1 .taken)
 
 returns-2 : tie.Need-returns-2
 unfolding waitingSound waitSound

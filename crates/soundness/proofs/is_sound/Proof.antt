@@ -16,7 +16,8 @@ returns-2 : tie.Need-returns-2
 returns-2 c =
     let i = c .before .before in
     let a = i .before .before .before .before .args in
-    sym (sound-parts (a .s) (a .d .now) ∙ rw (sym (i .before .is-node-id .ensures) ∙ not-false _ (i .if1 .left), sym (c .before .dictionary-legal .ensures) ∙ not-true _ (c .if2 .taken)))
+    sym (sound-parts (a .s) (a .d .now) ∙ rw (sym (i .before .is-node-id .ensures) ∙ not-false _ (i .if1 .left))
+    (rw (sym (c .before .dictionary-legal .ensures) ∙ not-true _ (c .if2 .taken))))
 
 returns-3 : tie.Need-returns-3
 returns-3 c =
@@ -24,7 +25,8 @@ returns-3 c =
     let i = l .before .before in
     let a = i .before .before .before .before .args in
     sym (sound-parts (a .s) (a .d .now)
-    ∙ rw (sym (i .before .is-node-id .ensures) ∙ not-false _ (i .if1 .left), sym (l .before .dictionary-legal .ensures) ∙ not-false _ (l .if2 .left), sym (c .before .is-drive-clear .ensures) ∙ not-true _ (c .if3 .taken)))
+    ∙ rw (sym (i .before .is-node-id .ensures) ∙ not-false _ (i .if1 .left), sym (l .before .dictionary-legal .ensures) ∙ not-false _ (l .if2 .left))
+    (rw (sym (c .before .is-drive-clear .ensures) ∙ not-true _ (c .if3 .taken))))
 
 returns-4 : tie.Need-returns-4
 returns-4 c =
@@ -32,7 +34,8 @@ returns-4 c =
     let l = v .before .before in
     let i = l .before .before in
     let a = i .before .before .before .before .args in
-    by-pdos (a .s) (a .d .now) (sym (i .before .is-node-id .ensures) ∙ not-false _ (i .if1 .left)) (sym (l .before .dictionary-legal .ensures) ∙ not-false _ (l .if2 .left))
+    by-pdos (a .s) (a .d .now) (sym (i .before .is-node-id .ensures) ∙ not-false _ (i .if1 .left))
+    (sym (l .before .dictionary-legal .ensures) ∙ not-false _ (l .if2 .left))
     (sym (v .before .is-drive-clear .ensures) ∙ not-false _ (v .if3 .left)) (c .are-pdos-clear .ensures)
 
 has-usual-frames-requires : tie.Need-has-usual-frames-requires
@@ -46,7 +49,8 @@ returns-5 c =
     let l = v .before .before in
     let i = l .before .before in
     let a = i .before .before .before .before .args in
-    by-pdos (a .s) (a .d .now) (sym (i .before .is-node-id .ensures) ∙ not-false _ (i .if1 .left)) (sym (l .before .dictionary-legal .ensures) ∙ not-false _ (l .if2 .left))
+    by-pdos (a .s) (a .d .now) (sym (i .before .is-node-id .ensures) ∙ not-false _ (i .if1 .left))
+    (sym (l .before .dictionary-legal .ensures) ∙ not-false _ (l .if2 .left))
     (sym (v .before .is-drive-clear .ensures) ∙ not-false _ (v .if3 .left)) (c .are-pdos-clear2 .ensures)
 
 does-wait-soundly-requires : tie.Need-does-wait-soundly-requires
@@ -63,10 +67,12 @@ returns-6 c =
     let l = v .before .before in
     let i = l .before .before in
     let a = i .before .before .before .before .args in
-    by-pdos (a .s) (a .d .now) (sym (i .before .is-node-id .ensures) ∙ not-false _ (i .if1 .left)) (sym (l .before .dictionary-legal .ensures) ∙ not-false _ (l .if2 .left))
+    by-pdos (a .s) (a .d .now) (sym (i .before .is-node-id .ensures) ∙ not-false _ (i .if1 .left))
+    (sym (l .before .dictionary-legal .ensures) ∙ not-false _ (l .if2 .left))
     (sym (v .before .is-drive-clear .ensures) ∙ not-false _ (v .if3 .left))
     (c .does-wait-soundly .ensures
-    ∙ usual-clauses (a .s) (a .d .now) (p .before .has-usual-plans .ensures (not-false _ (p .if4 .left))) (f .before .has-usual-frames .ensures (not-false _ (f .if5 .left))))
+    ∙ usual-clauses (a .s) (a .d .now) (p .before .has-usual-plans .ensures (not-false _ (p .if4 .left)))
+    (f .before .has-usual-frames .ensures (not-false _ (f .if5 .left))))
 
 pub is-sound-spec : {M : Type 1} → statement M
 is-sound-spec =

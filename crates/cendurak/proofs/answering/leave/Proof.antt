@@ -2,7 +2,7 @@
 use Prim.Native.Nat.{ℕ, _+_, _*_}
 use mathlib.Core.Path.{sym, _∙_, ap}
 use Rattle.form.specs.Form.{form}
-use Rattle.cendurak.proofs.Laws.{writes-state, leaves-state}
+use Rattle.cendurak.proofs.Ways.{writes-state, leaves-state}
 use borrow.Author.Needs.{needs}
 use Rattle.cendurak.proofs.answering.leave.Statement.{statement}
 use Rattle.cendurak.proofs.answering.leave.Tie as tie

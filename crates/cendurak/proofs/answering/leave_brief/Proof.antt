@@ -1,10 +1,10 @@
 -- `cendurak::answering::leave_brief` meets its contract. Assumes nothing.
 use Prim.Native.Nat.{ℕ, _+_, _*_}
 use mathlib.Core.Path.{sym, _∙_, ap}
-use Rattle.answers.specs.Briefs.{whole}
+use Rattle.calls.specs.Briefs.{whole}
 use Rattle.form.specs.Form.{stateOf, form}
 use Rattle.form.proofs.Rows.{head-over}
-use Rattle.cendurak.proofs.Laws.{writes-state, leaves-state}
+use Rattle.cendurak.proofs.Ways.{writes-state, leaves-state}
 use borrow.Author.Needs.{needs}
 use Rattle.cendurak.proofs.answering.leave_brief.Statement.{statement}
 use Rattle.cendurak.proofs.answering.leave_brief.Tie as tie
@@ -13,13 +13,13 @@ returns : tie.Need-returns
 returns c =
     let h = c .before .before .before in
     let p = h .before .before .before .before in
-    let i = p .before .before .before .before .before .before .before .before .before in
+    let i = p .before .before .before .before .before .before .before .before in
     let r = i .before in
     let a = r .before .before .before .args in
     let x = whole (stateOf (a .state .now)) (a .d .now) (a .b) .state in (
       c .number-of .ensures ∙ ap (λ (k : ℕ). 256 * k + a .b .frames) (r .refusal-number .ensures .0),
       h .write-head .ensures .0
-          ∙ head-over _ (x .axis .plans) (x .node) (x .axis .drive) (x .axis .ready) (x .axis .held) (x .axis .counts) (x .axis .due) (p .write-new-plans .ensures)
+          ∙ head-over _ (x .axis .plans) (x .node) (x .axis .drive) (x .axis .ready) (x .axis .held) (x .axis .paces) (p .write-new-plans .ensures)
           ∙ writes-state (a .b .refusal) (form x) (a .state .now) (sym (r .refusal-number .ensures .0) ∙ i .if1 .taken),
     )
 

@@ -1,5 +1,5 @@
 -- `cendurak::answering::write_new_plans` meets its contract. Assumes nothing.
-use Rattle.cendurak.proofs.Laws.{new-plans, old-plans}
+use Rattle.cendurak.proofs.Ways.{new-plans, old-plans}
 use borrow.Author.Needs.{needs}
 use Rattle.cendurak.proofs.answering.write_new_plans.Statement.{statement}
 use Rattle.cendurak.proofs.answering.write_new_plans.Tie as tie

@@ -1,16 +1,21 @@
 -- `events::acts::fed_back` meets its contract. Assumes nothing.
-use Rattle.events.proofs.Laws.{fed, fed-parts}
+use mathlib.Core.Path.{refl, _∙_, ap}
+use Rattle.rules_dictionary.specs.Table.{velocity}
+use Rattle.rules_dictionary.specs.Values.{store, stored}
+use Rattle.rules_services.specs.Events.{happens}
+use Rattle.rules.specs.Outcome.{sentInto}
 use borrow.Author.Needs.{needs}
 use Rattle.events.proofs.acts.fed_back.Statement.{statement}
 use Rattle.events.proofs.acts.fed_back.Tie as tie
 
 returns : tie.Need-returns
+unfolding happens stored sentInto
 returns c =
     let second = c .before .before .before in
     let first = second .before .before .before .before in
-    let a = first .before .before .before .args in
-    (fed-parts (a .s) _ (c .parts-of .ensures), fed (a .at) (a .speed) (a .d .now) _ _ (first .set-position .ensures) (second .set-velocity .ensures))
+    let w = second .set-velocity .ensures ∙ ap (store velocity _) (first .set-position .ensures) in
+    let p = c .parts-of .ensures in
+    (λ o. record { parts = p; frames = refl; touched = refl; remapped = refl; occasion = refl; dictionary = w; output = refl }, refl)
 
 pub fed-back-spec : {M : Type 1} → statement M
-fed-back-spec =
-    tie.close (tie.spec (λ c κs. search needs) (λ c κs. search needs) (λ c κs. search needs) (λ c. search needs) returns)
+fed-back-spec = tie.close (tie.spec (λ c κs. search needs) (λ c κs. search needs) (λ c κs. search needs) (λ c. search needs) returns)

@@ -1,18 +1,15 @@
 -- `events::places::is_in_place` meets its contract. Assumes nothing.
-use Rattle.events.proofs.Laws.{placed}
+use Rattle.rules_services.specs.Events.{isInPlace}
 use borrow.Author.Needs.{needs}
 use Rattle.events.proofs.places.is_in_place.Statement.{statement}
 use Rattle.events.proofs.places.is_in_place.Tie as tie
 
-returns : tie.Need-returns
-returns c =
-    let moving = c .before in
-    let reaction = moving .before in
-    let stop = reaction .before in
-    let ready = stop .before in
-    let a = ready .before .before .before .args in
-    placed (a .e) (a .s) _ _ _ _ _ (ready .is-not-ready .ensures) (stop .is-quick-stop .ensures) (reaction .is-reaction .ensures) (moving .is-moving .ensures) (c .is-in-place-by .ensures)
-
 pub is-in-place-spec : {M : Type 1} → statement M
+unfolding isInPlace
 is-in-place-spec =
-    tie.close (tie.spec (λ c κs. search needs) (λ c κs. search needs) (λ c κs. search needs) (λ c κs. search needs) (λ c κs. search needs) returns)
+    tie.close (tie.spec (λ c. search needs) (λ c κs. search needs) (λ c. search needs) (λ c κs. search needs) (λ c. search needs) (λ c. search needs)
+    (λ c κs. search needs) (λ c. search needs) (λ c. search needs) (λ c κs. search needs) (λ c. search needs) (λ c. search needs) (λ c. search needs)
+    (λ c. rw (c .before .enum-told .given .1) (c .is-not-ready .ensures)) (λ c. rw (c .before .enum-told2 .given .1) (c .is-quick-stop .ensures))
+    (λ c. rw (c .enum-told3 .given .1)) (λ c. rw (c .before .enum-told4 .given .1) (c .is-reaction .ensures)) (λ c. rw (c .enum-told5 .given .1))
+    (λ c. rw (c .before .enum-told6 .given .1) (c .is-moving .ensures)) (λ c. rw (c .enum-told7 .given .1)) (λ c. rw (c .enum-told8 .given .1))
+    (λ c. rw (c .enum-told9 .given .1)))

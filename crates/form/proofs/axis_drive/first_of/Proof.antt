@@ -2,13 +2,7 @@ use borrow.Author.Needs.{needs}
 use Rattle.form.proofs.axis_drive.first_of.Statement.{statement}
 use Rattle.form.proofs.axis_drive.first_of.Tie as tie
 
-returns : tie.Need-returns
-returns c = cc
-
-returns-2 : tie.Need-returns-2
-returns-2 c = cc
-
 pub first-of-spec : {M : Type 1} → statement M
 first-of-spec =
-    tie.close (tie.spec (λ c. search needs) (λ c. search needs) (λ c. search needs) (λ c. search needs) returns returns-2 (λ c. search needs)
-    (λ c. search needs))
+    tie.close (tie.spec (λ c. search needs) (λ c κs. search needs) (λ c. search needs) (λ c κs. search needs) (λ c. search needs) (λ c. search needs)
+    (λ c. cc) (λ c. cc) (λ c. search needs) (λ c. search needs))

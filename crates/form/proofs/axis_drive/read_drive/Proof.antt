@@ -5,7 +5,10 @@ use Rattle.form.proofs.axis_drive.read_drive.Tie as tie
 
 returns : tie.Need-returns
 unfolding driveAt
-returns c = cc
+returns c =
+    let s = c .before .before .before .before .before .before in
+    rw (c .flag-of3 .ensures, c .before .before .flag-of2 .ensures, c .before .before .before .before .flag-of .ensures)
+    (rw (s .read-store .ensures, s .before .mode-of .ensures, s .before .before .before .drive-state-of .ensures))
 
 pub read-drive-spec : {M : Type 1} → statement M
 read-drive-spec =

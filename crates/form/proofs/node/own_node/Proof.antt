@@ -5,7 +5,9 @@ use Rattle.form.proofs.node.own_node.Tie as tie
 
 returns : tie.Need-returns
 unfolding nodeOwn
-returns c = cc
+returns c =
+    let n = c .before .before .before .before in
+    rw (c .both .ensures, c .before .own-flag .ensures, n .nmt-number .ensures, n .before .nmt-of .ensures)
 
 pub own-node-spec : {M : Type 1} → statement M
 own-node-spec =

@@ -5,7 +5,7 @@ use Rattle.form.proofs.node.read_node.Tie as tie
 
 returns : tie.Need-returns
 unfolding nodeAt
-returns c = cc
+returns c = rw (c .read2 .ensures, c .before .flag-of .ensures, c .before .before .before .before .nmt-of .ensures)
 
 pub read-node-spec : {M : Type 1} → statement M
 read-node-spec =

@@ -5,7 +5,12 @@ use Rattle.form.proofs.pdos.read_plan.Tie as tie
 
 returns : tie.Need-returns
 unfolding planAt
-returns c = cc
+returns c =
+    let d = c .before .before in
+    let m = d .before .before in
+    let f = m .before .before in
+    rw (c .read-move8 .ensures, c .before .read-move7 .ensures, d .read-move6 .ensures, d .before .read-move5 .ensures)
+    (rw (m .read-move4 .ensures, m .before .read-move3 .ensures, f .read-move2 .ensures, f .before .read-move .ensures))
 
 pub read-plan-spec : {M : Type 1} → statement M
 read-plan-spec =

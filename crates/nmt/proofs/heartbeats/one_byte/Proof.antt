@@ -4,9 +4,6 @@ use Rattle.rules_dictionary.specs.Plans.{pdoData}
 use Rattle.nmt.proofs.heartbeats.one_byte.Statement.{statement}
 use Rattle.nmt.proofs.heartbeats.one_byte.Tie as tie
 
-returns : tie.Need-returns
-unfolding pdoData
-returns c = refl
-
 pub one-byte-spec : {M : Type 1} → statement M
-one-byte-spec = tie.close (tie.spec returns)
+unfolding pdoData
+one-byte-spec = tie.close (tie.spec (λ c. refl))

@@ -1,33 +1,44 @@
 -- `nmt::heartbeats::tick` meets its contract. Assumes nothing.
-use Rattle.nmt.proofs.Laws.{no-heartbeat, counts-on, beats}
+use Prim.Native.Nat.{suc}
+use native.Mathlib.Numerals.{add-one}
+use native.Mathlib.Omega.{arith}
+use mathlib.Core.List.{[]}
+use borrow.Author.Tests.{ne-eqb, lt-ltb, le-ltb}
+use Rattle.rules_services.specs.Nmt.{heartbeat, tick}
+use Rattle.rules.specs.Outcome.{sentInto}
+use Rattle.nmt.proofs.Commanding.{counted}
 use borrow.Author.Needs.{needs}
 use Rattle.nmt.proofs.heartbeats.tick.Statement.{statement}
 use Rattle.nmt.proofs.heartbeats.tick.Tie as tie
 
 returns : tie.Need-returns
+unfolding tick sentInto
 returns c =
-    let period = c .before .before .before in
-    let a = period .before .before .before .args in
-    no-heartbeat (a .s) (a .d .now) (a .output .now) _ (period .heartbeat-time .ensures) _ (c .before .if1 .taken) (c .parts-of .ensures)
+    let test = c .before .before in
+    rw (c .ticked .ensures, c .before .parts-of .ensures, ← test .before .before .heartbeat-time .ensures, test .if1 .taken) (counted _ _ [] _ _)
 
 returns-2 : tie.Need-returns-2
+unfolding tick sentInto
 returns-2 c =
-    let b = c .before .before in
-    let p = b .before .before in
-    let period = p .before .before in
-    let a = period .before .before .before .args in
-    counts-on (a .s) (a .d .now) (a .output .now) _ (period .heartbeat-time .ensures) _ (p .if1 .left) (b .if2 .taken) (c .counted .ensures)
+    let none = c .before .before .before .before .before in
+    let period = none .before .before in
+    let more = lt-ltb (suc (period .before .before .before .args .s .node .heartbeat)) (period .heartbeat-time .result) (omega arith) in
+    rw (c .ticked2 .ensures, c .before .counted .ensures, add-one, ← period .heartbeat-time .ensures, ne-eqb _ _ (none .if1 .left), more)
+    (counted _ _ [] _ _)
 
 returns-3 : tie.Need-returns-3
+unfolding tick
 returns-3 c =
-    let sent = c .before .before .before in
-    let b = sent .before .before .before in
-    let p = b .before .before in
-    let period = p .before .before in
-    let a = period .before .before .before .args in
-    beats (a .s) (a .d .now) (a .output .now) _ (period .heartbeat-time .ensures) _ _ _ _ (p .if1 .left) (b .if2 .left) (sent .before .state-byte .ensures) (sent .send-byte .ensures) (c .counted2 .ensures)
+    let sent = c .before .before .before .before in
+    let none = sent .before .before .before .before .before in
+    let period = none .before .before in
+    let s = period .before .before .before .args .s in
+    let full = le-ltb (suc (s .node .heartbeat)) (period .heartbeat-time .result) (omega arith) in
+    rw (c .ticked3 .ensures, c .before .counted2 .ensures, sent .send-byte .ensures, sent .before .state-byte .ensures)
+    (rw (← period .heartbeat-time .ensures, ne-eqb _ _ (none .if1 .left), full) (counted _ _ (heartbeat s) _ _))
 
 pub tick-spec : {M : Type 1} → statement M
 tick-spec =
-    tie.close (tie.spec (λ c κs. search needs) (λ c κs. search needs) returns (λ c. search needs) (λ c. search needs) (λ c κs. search needs) returns-2
-    (λ c κs. search needs) (λ c κs. search needs) (λ c κs. search needs) (λ c. search needs) returns-3)
+    tie.close (tie.spec (λ c κs. search needs) (λ c κs. search needs) (λ c κs. search needs) returns (λ c. search needs) (λ c. search needs)
+    (λ c κs. search needs) (λ c κs. search needs) returns-2 (λ c κs. search needs) (λ c κs. search needs) (λ c κs. search needs)
+    (λ c κs. search needs) (λ c. search needs) returns-3)

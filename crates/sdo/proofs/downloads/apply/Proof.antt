@@ -1,43 +1,43 @@
--- `sdo::downloads::apply` meets its contract. Assumes nothing.
-use native.Mathlib.Omega.{arith}
-use mathlib.Core.Path.{refl}
-use Rattle.effects.specs.Leaves.{bare}
-use Rattle.sdo.proofs.Testing.{four-at-most}
-use Rattle.sdo.proofs.Asking.{remap-served, act-served}
+-- The reply, then the value stored, then acted on in the output behind the reply. Assumes nothing.
 use borrow.Author.Needs.{needs}
+use native.Mathlib.Omega.{arith}
+use mathlib.Core.Path.{_∙_}
+use lib.Dec.{eqb}
+use lib.ListN.{length-take, length-drop}
+use Rattle.rules_dictionary.specs.Table.{placeOf, heartbeatTime, open-table}
+use Rattle.sdo.proofs.Downloading.{restarted-id, acts-fit, apply-left}
 use Rattle.sdo.proofs.downloads.apply.Statement.{statement}
 use Rattle.sdo.proofs.downloads.apply.Tie as tie
 
-read-requires : tie.Need-read-requires
-read-requires c κs =
-    let s = c .before .before .before .before in
-    (omega (arith, four-at-most (s .args .e .size) (s .pre .1 .0 .sized), s .good .0 .1 .0 .1), s .pre .1 .0 .sized)
+acted-requires : tie.Need-acted-requires
+acted-requires c κs =
+    let n = c .before .before in
+    let s = n .before .before .before .before .before .before .before .before .before .before .before .before .before .before in
+    let b = eqb (s .args .e .place) (placeOf heartbeatTime) in
+    (search needs, (simp (length-take, length-drop) (omega arith), restarted-id b (s .args .parts) _ (n .restarted .ensures) (s .pre .0 .id)))
+
+same-length-2 : tie.Need-same-length-2
+same-length-2 c =
+    let k = c .before .before .before .before in
+    let y = k .before .before .before .before .before .before .before .before .before .before .before .before .before in
+    k .output2 .given .1 ∙ y .reply .kept .1 .1 .1 .1 .0
 
 returns : tie.Need-returns
+unfolding open-table
 returns c =
-    let m = c .before in
-    let w = m .before .before .before in
+    let k = c .before .before .before .before .before .before .before in
+    let n = k .before .before .before in
+    let w = n .before .before .before in
     let y = w .before .before .before .before in
     let q = y .before .before in
-    let v = q .before .before in
-    let s = v .before .before .before .before .before in
+    let s = q .before .before .before .before .before in
     let a = s .args in
-    remap-served (a .t1) (bare (a .parts)) (a .d .now) (a .output .now) (a .e) (s .pre .1 .0) (s .pre .1 .1) _ (v .read .ensures) _ _ (w .write .ensures) (y .reply .ensures .1) _ (m .is-mapping .ensures) (c .if1 .taken) _ (rw (y .reply .ensures .0) refl)
-
-returns-2 : tie.Need-returns-2
-returns-2 c =
-    let k = c .before .before .before .before in
-    let i = k .before .before .before in
-    let m = i .before in
-    let w = m .before .before .before in
-    let y = w .before .before .before .before in
-    let q = y .before .before in
-    let v = q .before .before in
-    let s = v .before .before .before .before .before in
-    let a = s .args in
-    act-served (a .t1) (bare (a .parts)) (a .d .now) (a .output .now) (a .e) (s .pre .1 .0) (s .pre .1 .1) _ (v .read .ensures) _ _ (w .write .ensures) (y .reply .ensures .1) _ (m .is-mapping .ensures) (i .if1 .left) _ (q .control-word .ensures) _ _ _ (k .act .ensures)
+    λ st. apply-left (a .request) (a .parts) (a .d .now) (a .output .now) st (a .v) (s .pre .1 .1) (c .before .is-mapping .ensures)
+    (w .write .ensures) (y .reply .ensures) (q .control-word .ensures) (n .restarted .ensures) (k .acted .ensures .0)
 
 pub apply-spec : {M : Type 1} → statement M
 apply-spec =
-    tie.close (tie.spec (λ c. search needs) (λ c. search needs) read-requires (λ c κs. search needs) (λ c κs. search needs) (λ c κs. search needs)
-    (λ c κs. search needs) (λ c. search needs) (λ c. search needs) returns (λ c κs. search needs) (λ c. search needs) (λ c. search needs) returns-2)
+    tie.close (tie.spec (λ c. search needs) (λ c κs. search needs) (λ c κs. search needs) (λ c κs. search needs) (λ c κs. search needs)
+    (λ c. search needs) (λ c. search needs) (λ c. search needs) acted-requires
+    (λ c. record { fits = acts-fit _ _ _ _ _ _ (c .before .before .before .before .before .acted .ensures .0 .frames) }) (λ c κs. search needs)
+    (λ c. search needs) same-length-2 returns)

@@ -1,32 +1,29 @@
--- `sdo::downloads::download` meets its contract. Assumes nothing.
-use Rattle.sdo.proofs.Asking.{refused-served, passed, pdo-fits}
-use Rattle.effects.specs.Leaves.{bare}
-use Rattle.sdo.specs.Requests.{downloadVerdictOf}
+-- Refused, or applied. Assumes nothing.
 use borrow.Author.Needs.{needs}
+use Rattle.sdo.proofs.Verdicts.{pdo-fits}
+use Rattle.sdo.proofs.Downloading.{download-refused, download-writable, download-applied}
 use Rattle.sdo.proofs.downloads.download.Statement.{statement}
 use Rattle.sdo.proofs.downloads.download.Tie as tie
 
-download-verdict-requires : tie.Need-download-verdict-requires
-download-verdict-requires c κs =
-    let s = c .before .before .before .before in
-    (search needs, (s .pre .1 .sized, pdo-fits (s .args .e) (s .pre .1)))
-
-returns : tie.Need-returns
-returns c =
-    let k = c .before .before in
-    let i = k .before .before in
-    let s = i .before .before .before .before .before .before in
-    let a = s .args in
-    refused-served (a .request) (bare (a .parts)) (a .d .now) (a .output .now) (a .e) (s .pre .1) _ (i .before .download-verdict .ensures) (i .if1 .taken) _ _ (k .answer .ensures)
-
-apply-requires : tie.Need-apply-requires
-apply-requires c κs =
-    let i = c .before .before in
-    let s = i .before .before .before .before .before .before in
-    let a = s .args in
-    (s .pre .0, (s .pre .1, passed (downloadVerdictOf (a .request) (a .parts .node .nmt) (a .d .now) (a .e)) _ (i .before .download-verdict .ensures) (i .if1 .left)))
-
 pub download-spec : {M : Type 1} → statement M
 download-spec =
-    tie.close (tie.spec download-verdict-requires (λ c κs. search needs) (λ c. search needs) (λ c. search needs) returns apply-requires
-    (λ c. search needs) (λ c. search needs) (λ c. search needs))
+    tie.close (tie.spec (λ c κs. search needs)
+    (λ c κs. let s = c .before .before .before .before .before in (search needs, pdo-fits (s .args .e) (s .pre .1))) (λ c κs. search needs)
+    (λ c. search needs) (λ c. search needs)
+    (λ c. let k = c .before .before in let w = k .before .before .before in let x = w .before .before .before in let s = x .before .before .before in
+    let a = s .args in
+    download-refused (a .request) (a .parts) (a .d .now) (s .pre .1) (x .expedited .ensures) (w .offer-verdict .ensures)
+    (k .before .before .if1 .taken) (k .answer .ensures))
+    (λ c κs. let w = c .before .before .before in let x = w .before .before .before in let s = x .before .before .before in let a = s .args in (
+      s .pre .0,
+      (
+        s .pre .1,
+        download-writable (a .request) (a .parts) (a .d .now) (s .pre .1) (x .expedited .ensures) (w .offer-verdict .ensures)
+            (c .before .before .if1 .left),
+      ),
+    ))
+    (λ c. search needs) (λ c. search needs)
+    (λ c. let k = c .before .before .before .before in let w = k .before .before .before .before in let x = w .before .before .before in
+    let s = x .before .before .before in let a = s .args in
+    download-applied (a .request) (a .parts) (a .d .now) (s .pre .1) (x .expedited .ensures) (w .offer-verdict .ensures)
+    (k .before .before .before .if1 .left) (k .apply .ensures)))

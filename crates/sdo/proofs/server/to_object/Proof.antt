@@ -1,44 +1,34 @@
--- `sdo::server::to_object` meets its contract. Assumes nothing.
-use mathlib.Core.Path.{subst}
-use Rattle.rules_dictionary.specs.Aborts.{noObject, noSubindex}
-use Rattle.rules_services.specs.Sdo.{askedIndex, askedSubindex}
-use Rattle.dictionary.specs.Entries.{IsFound}
-use Rattle.effects.specs.Leaves.{bare}
-use Rattle.sdo.proofs.Asking.{aborted-by, no-object-asked, no-subindex-asked}
+-- By what the look-up found. Assumes nothing.
 use borrow.Author.Needs.{needs}
+use Prim.Native.Nat.{ℕ}
+use mathlib.Core.Path.{_≡_, subst}
+use mathlib.Core.List.{List}
+use Rattle.rules_services.specs.Sdo.{askedIndex, askedSubindex, toObject, abort}
+use Rattle.dictionary.specs.declared.Found.{Found}
+use Rattle.dictionary.specs.Entries.{IsFound}
 use Rattle.sdo.proofs.server.to_object.Statement.{statement}
 use Rattle.sdo.proofs.server.to_object.Tie as tie
 
-to-entry-requires : tie.Need-to-entry-requires
-to-entry-requires c κs =
-    let g = c .before .before .before in
-    let f = g .before .before in
-    let s = f .before .before .before .before .before in
-    let a = s .args in
-    (s .pre, subst (IsFound (askedIndex (a .t2)) (askedSubindex (a .t2))) (g .found .given .1) (rw (f .before .read2 .ensures) at (f .find .ensures)))
-
-returns-2 : tie.Need-returns-2
-returns-2 c =
-    let k = c .before .before in
-    let g = k .before .before in
-    let f = g .before .before in
-    let s = f .before .before .before .before .before in
-    let a = s .args in
-    let none = subst (IsFound (askedIndex (a .t2)) (askedSubindex (a .t2))) (g .enum-told .given .1) (rw (f .before .read2 .ensures) at (f .find .ensures)) in
-    aborted-by (a .t2) (bare (a .parts)) (a .d .now) (a .output .now) _ _ noObject _ (no-object-asked (a .t2) (bare (a .parts)) (a .d .now) (a .writing) none) (k .answer .ensures)
-
-returns-3 : tie.Need-returns-3
-returns-3 c =
-    let k = c .before .before in
-    let g = k .before .before in
-    let f = g .before .before in
-    let s = f .before .before .before .before .before in
-    let a = s .args in
-    let none = subst (IsFound (askedIndex (a .t2)) (askedSubindex (a .t2))) (g .enum-told2 .given .1) (rw (f .before .read2 .ensures) at (f .find .ensures)) in
-    aborted-by (a .t2) (bare (a .parts)) (a .d .now) (a .output .now) _ _ noSubindex _ (no-subindex-asked (a .t2) (bare (a .parts)) (a .d .now) (a .writing) none) (k .answer2 .ensures)
+found : (rq : List ℕ) {i : ℕ} {f g : Found} →
+    i ≡ askedIndex rq → IsFound i (askedSubindex rq) f → f ≡ g → IsFound (askedIndex rq) (askedSubindex rq) g
+found rq e h q = subst (IsFound (askedIndex rq) (askedSubindex rq)) q (rw e at h)
 
 pub to-object-spec : {M : Type 1} → statement M
+unfolding toObject abort
 to-object-spec =
-    tie.close (tie.spec (λ c. search needs) (λ c κs. search needs) (λ c. search needs) (λ c κs. search needs) (λ c. search needs) to-entry-requires
+    tie.close (tie.spec (λ c. search needs) (λ c κs. search needs) (λ c. search needs) (λ c κs. search needs) (λ c. search needs)
+    (λ c κs. let g = c .before .before .before .before in let f = g .before .before in let s = f .before .before .before .before .before in
+    (s .pre, found (s .args .t2) (f .before .read2 .ensures) (f .find .ensures) (g .found .given .1)))
+    (λ c. search needs) (λ c. search needs)
+    (λ c. let k = c .before .before .before .before in rw (k .before .before .before .if1 .taken) (k .download .ensures))
+    (λ c κs. let g = c .before .before .before .before in let f = g .before .before in let s = f .before .before .before .before .before in
+    (s .pre, found (s .args .t2) (f .before .read2 .ensures) (f .find .ensures) (g .found .given .1)))
     (λ c. search needs) (λ c κs. search needs) (λ c. search needs) (λ c κs. search needs) (λ c. search needs) (λ c. search needs)
-    (λ c. search needs) (λ c. search needs) returns-2 (λ c. search needs) returns-3)
+    (λ c. let k = c .before .before in rw (k .before .before .before .if1 .left) (k .upload .ensures)) (λ c. search needs)
+    (λ c. let k = c .before .before in let g = k .before .before in let f = g .before .before in
+    let a = f .before .before .before .before .before .args in
+    λ s. rw (found (a .t2) (f .before .read2 .ensures) (f .find .ensures) (g .enum-told .given .1)) (k .answer .ensures (a .d .now) s))
+    (λ c. search needs)
+    (λ c. let k = c .before .before in let g = k .before .before in let f = g .before .before in
+    let a = f .before .before .before .before .before .args in
+    λ s. rw (found (a .t2) (f .before .read2 .ensures) (f .find .ensures) (g .enum-told2 .given .1)) (k .answer2 .ensures (a .d .now) s)))

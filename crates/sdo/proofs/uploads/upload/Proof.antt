@@ -1,18 +1,15 @@
--- `sdo::uploads::upload` meets its contract. Assumes nothing.
-use Rattle.effects.specs.Leaves.{bare}
-use Rattle.sdo.proofs.Asking.{upload-served}
+-- The value of the row that the entry is of. Assumes nothing.
 use borrow.Author.Needs.{needs}
+use Rattle.rules_services.specs.Sdo.{toObject, toRow}
+use Rattle.sdo.proofs.Answering.{uploaded-by}
 use Rattle.sdo.proofs.uploads.upload.Statement.{statement}
 use Rattle.sdo.proofs.uploads.upload.Tie as tie
 
-returns : tie.Need-returns
-returns c =
-    let k = c .before .before in
-    let u = k .before .before in
-    let s = u .before .before .before .before .before in
-    let a = s .args in
-    upload-served (a .request) (bare (a .parts)) (a .d .now) (a .output .now) _ _ (a .e) (s .pre .1) _ _ (u .before .read .ensures) (u .uploaded .ensures) (k .answer .ensures)
-
 pub upload-spec : {M : Type 1} → statement M
+unfolding toObject toRow
 upload-spec =
-    tie.close (tie.spec (λ c. search needs) (λ c κs. search needs) (λ c κs. search needs) (λ c κs. search needs) (λ c. search needs) returns)
+    tie.close (tie.spec (λ c. search needs) (λ c κs. search needs) (λ c κs. search needs) (λ c κs. search needs) (λ c. search needs)
+    (λ c. let k = c .before .before in let u = k .before .before in let s = u .before .before .before .before .before in
+    let st = s .pre .1 in let d = s .args .d .now in
+    λ t. rw (st .finds, ← uploaded-by (s .args .e) (st .row) (st .is-entry), ← u .uploaded .ensures, ← st .reads d, ← u .before .read .ensures)
+    (k .answer .ensures d t)))

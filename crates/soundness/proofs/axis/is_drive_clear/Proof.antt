@@ -10,7 +10,8 @@ returns : tie.Need-returns
 unfolding driveClauses statusAsMade statusOf modeAsMade
 returns c =
     let b = c .before .before .before in
-    rw (b .is-status-made .ensures, b .before .is-remote .ensures, c .before .before .is-mode-made .ensures, c .before .is-drive-sound .ensures, c .is-heartbeat-sound .ensures)
+    rw (b .is-status-made .ensures, b .before .is-stopped .ensures, c .before .before .is-mode-made .ensures)
+    (rw (c .before .is-drive-sound .ensures, c .is-heartbeat-sound .ensures))
 
 pub is-drive-clear-spec : {M : Type 1} → statement M
 is-drive-clear-spec =

@@ -8,7 +8,7 @@ use Rattle.rules_dictionary.specs.Table.{transmitPdos}
 use Rattle.rules.specs.Outcome.{sameData}
 use Rattle.soundness.specs.Kept.{frameKept, readyKept}
 use Rattle.soundness.proofs.Pairs.{Left, fails, passes, ends, transmit-at}
-use Rattle.soundness.proofs.Laws.{tested-at}
+use Rattle.soundness.proofs.Fresh.{tested-at}
 use Rattle.soundness.proofs.kept.are_frames_kept.Statement.{statement}
 use Rattle.soundness.proofs.kept.are_frames_kept.Tie as tie
 
@@ -38,7 +38,8 @@ returns c =
     let s = b .before .before .before in
     let d = s .args .d .now in
     let e = c .before .before .ready-of .ensures ∙ tested-at d (s .args .t2) _ (l .t + 4) (omega arith) (s .pre .1) .ready in
-    fails (frameKept d) transmitPdos (s .args .t3) (l .t) (l .inv .0) _ (b .loop-test .taken) (search needs) (transmit-at (l .t) (b .loop-test .taken))
+    fails (frameKept d) transmitPdos (s .args .t3) (l .t) (l .inv .0) _ (b .loop-test .taken) (search needs)
+    (transmit-at (l .t) (b .loop-test .taken))
     (c .before .same-data .ensures ∙ ap (sameData (getD (s .args .t3) (l .t) _)) e) (c .if1 .taken)
 
 loop-again : tie.Need-loop-again Inv-loop μ-loop
@@ -48,7 +49,8 @@ loop-again c =
     let s = b .before .before .before in
     let d = s .args .d .now in
     let e = c .before .before .ready-of .ensures ∙ tested-at d (s .args .t2) _ (l .t + 4) (omega arith) (s .pre .1) .ready in (
-      passes (frameKept d) transmitPdos (s .args .t3) (l .t) (l .inv .0) _ (b .loop-test .taken) (search needs) (transmit-at (l .t) (b .loop-test .taken))
+      passes (frameKept d) transmitPdos (s .args .t3) (l .t) (l .inv .0) _ (b .loop-test .taken) (search needs)
+          (transmit-at (l .t) (b .loop-test .taken))
           (c .before .same-data .ensures ∙ ap (sameData (getD (s .args .t3) (l .t) _)) e) (c .if1 .left),
       search needs,
     )

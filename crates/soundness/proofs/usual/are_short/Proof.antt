@@ -1,7 +1,7 @@
 -- `soundness::usual::are_short` meets its contract. Assumes nothing.
 use mathlib.Core.Path.{_≡_}
 use lib.ListN.{length}
-use Rattle.plans.specs.Usual.{isShort}
+use Rattle.mapping.specs.Usual.{isShort}
 use Rattle.soundness.proofs.Elements.{eight-pairs}
 use borrow.Author.Needs.{needs}
 use Rattle.soundness.proofs.usual.are_short.Statement.{statement}

@@ -13,12 +13,14 @@ returns c = rw (c .if1 .taken) (sym (no-count _ _ _))
 returns-2 : tie.Need-returns-2
 returns-2 c =
     let a = c .before .before .before .before .args in
-    sym (unworking-count (a .m) (a .d .now) (a .p) (a .count) (c .before .before .if1 .left) (sym (c .before .works .ensures) ∙ not-true _ (c .if2 .taken)))
+    sym (unworking-count (a .m) (a .d .now) (a .p) (a .count) (c .before .before .if1 .left)
+    (sym (c .before .works .ensures) ∙ not-true _ (c .if2 .taken)))
 
 returns-3 : tie.Need-returns-3
 returns-3 c =
     let a = c .before .before .before .before .before .before .args in
-    sym (event-count (a .m) (a .d .now) (a .p) (a .count) (c .before .before .before .before .if1 .left) (rw (← c .before .type-of .ensures) (c .if3 .taken)))
+    sym (event-count (a .m) (a .d .now) (a .p) (a .count) (c .before .before .before .before .if1 .left)
+    (rw (← c .before .type-of .ensures) (c .if3 .taken)))
 
 returns-4 : tie.Need-returns-4
 returns-4 c =
@@ -26,7 +28,8 @@ returns-4 c =
     let a = b .before .before .before .before .args in
     let e = c .before .type-of .ensures in
     rw e
-    (sym (working-count (a .m) (a .d .now) (a .p) (a .count) (b .before .before .if1 .left) (sym (b .before .works .ensures) ∙ not-false _ (b .if2 .left)) (rw (← e) (omega arith))))
+    (sym (working-count (a .m) (a .d .now) (a .p) (a .count) (b .before .before .if1 .left)
+    (sym (b .before .works .ensures) ∙ not-false _ (b .if2 .left)) (rw (← e) (omega arith))))
 
 pub is-count-sound-spec : {M : Type 1} → statement M
 is-count-sound-spec =

@@ -16,7 +16,8 @@ returns-2 : tie.Need-returns-2
 returns-2 c =
     let s = c .before .before .before .before .before in
     let n = c .before .before .before .length-of .ensures in
-    sym (full (s .args .frame) _ (c .is-zero-from .ensures .1) (s .pre .room) ∙ rw (← n, eq-eqb _ _ (c .before .if1 .left), ← c .is-zero-from .ensures .0))
+    sym (full (s .args .frame) _ (c .is-zero-from .ensures .1) (s .pre .room)
+    ∙ rw (← n, eq-eqb _ _ (c .before .if1 .left), ← c .is-zero-from .ensures .0))
 
 pub is-full-spec : {M : Type 1} → statement M
 is-full-spec = tie.close (tie.spec (λ c κs. search needs) returns (λ c κs. search needs) returns-2)

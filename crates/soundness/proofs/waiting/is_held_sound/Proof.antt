@@ -5,7 +5,7 @@ use mathlib.Core.Path.{sym, _∙_}
 use borrow.Author.Tests.{not-true, not-false, lt-leb}
 use Rattle.rules_dictionary.specs.Legal.{lastSynchronous}
 use Rattle.rules_services.specs.PdoTraffic.{typeOf}
-use Rattle.transfer.proofs.Laws.{legal-is}
+use Rattle.mapping.proofs.Unpacked.{legal-is}
 use Rattle.soundness.proofs.Holding.{receives, held-none, held-some, held-by}
 use borrow.Author.Needs.{needs}
 use Rattle.soundness.proofs.waiting.is_held_sound.Statement.{statement}
@@ -19,14 +19,16 @@ returns c =
 returns-2 : tie.Need-returns-2
 returns-2 c =
     let a = c .before .before .before .before .before .before .args in
-    sym (held-some (a .m) (a .d .now) (a .p) (a .frame) (c .before .before .if1 .left) ∙ rw (sym (c .before .works .ensures) ∙ not-true _ (c .if2 .taken)))
+    sym (held-some (a .m) (a .d .now) (a .p) (a .frame) (c .before .before .if1 .left)
+    ∙ rw (sym (c .before .works .ensures) ∙ not-true _ (c .if2 .taken)))
 
 returns-3 : tie.Need-returns-3
 returns-3 c =
     let b = c .before .before in
     let a = b .before .before .before .before .before .before .args in
     sym (held-some (a .m) (a .d .now) (a .p) (a .frame) (b .before .before .if1 .left)
-    ∙ rw (sym (b .before .works .ensures) ∙ not-false _ (b .if2 .left), lt-leb (typeOf (a .d .now) (a .p)) lastSynchronous (rw (← c .before .type-of .ensures) (c .if3 .taken))))
+    ∙ rw (sym (b .before .works .ensures) ∙ not-false _ (b .if2 .left))
+    (rw (lt-leb (typeOf (a .d .now) (a .p)) lastSynchronous (rw (← c .before .type-of .ensures) (c .if3 .taken)))))
 
 is-full-requires : tie.Need-is-full-requires
 is-full-requires c κs =
@@ -41,7 +43,8 @@ returns-4 c =
     let a = s .args in
     let r = receives (a .d .now) (a .p) (a .plan) (s .pre .1 .0) (s .pre .1 .1) in
     let k : typeOf (a .d .now) (a .p) ≤ lastSynchronous = rw (← t .before .type-of .ensures) (omega arith) in
-    sym (held-by (a .m) (a .d .now) (a .p) (a .frame) (a .plan) (b .before .before .if1 .left) (sym (b .before .works .ensures) ∙ not-false _ (b .if2 .left)) k r
+    sym (held-by (a .m) (a .d .now) (a .p) (a .frame) (a .plan) (b .before .before .if1 .left)
+    (sym (b .before .works .ensures) ∙ not-false _ (b .if2 .left)) k r
     ∙ rw (sym (c .before .is-full .ensures) ∙ not-true _ (c .if4 .taken)))
 
 are-legal-requires : tie.Need-are-legal-requires
@@ -58,8 +61,10 @@ returns-5 c =
     let r = receives (a .d .now) (a .p) (a .plan) (s .pre .1 .0) (s .pre .1 .1) in
     let k : typeOf (a .d .now) (a .p) ≤ lastSynchronous = rw (← t .before .type-of .ensures) (omega arith) in
     let e = c .are-legal .ensures in
-    sym (held-by (a .m) (a .d .now) (a .p) (a .frame) (a .plan) (b .before .before .if1 .left) (sym (b .before .works .ensures) ∙ not-false _ (b .if2 .left)) k r
-    ∙ rw (sym (c .before .before .is-full .ensures) ∙ not-false _ (c .before .if4 .left), ← legal-is r (a .d .now) (a .frame .bytes) (e .1)) (sym (e .0)))
+    sym (held-by (a .m) (a .d .now) (a .p) (a .frame) (a .plan) (b .before .before .if1 .left)
+    (sym (b .before .works .ensures) ∙ not-false _ (b .if2 .left)) k r
+    ∙ rw (sym (c .before .before .is-full .ensures) ∙ not-false _ (c .before .if4 .left), ← legal-is r (a .d .now) (a .frame .bytes) (e .1))
+    (sym (e .0)))
 
 pub is-held-sound-spec : {M : Type 1} → statement M
 is-held-sound-spec =

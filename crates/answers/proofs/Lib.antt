@@ -1,4 +1,0 @@
-pub mod Legal
-pub mod Calm
-pub mod Concluding
-pub mod Ends

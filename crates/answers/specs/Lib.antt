@@ -1,2 +1,0 @@
-pub mod Briefs
-pub mod Leaving

@@ -1,0 +1,114 @@
+-- A frame, by its identifier: what each service needs of a sound state, and which effect it serves.
+-- Assumes nothing.
+use Prim.Native.Nat.{ℕ, _+_, _≤_}
+use native.Mathlib.Omega.{arith}
+use mathlib.Core.Path.{_≡_, refl, sym, _∙_, ap}
+use mathlib.Core.Bool.{Bool, true, false, cond, and-false}
+use mathlib.Core.List.{List, []}
+use borrow.Author.Tests.{leb-true, eq-eqb, ne-eqb}
+use lib.Dec.{eqb, leb}
+use lib.ListN.{length}
+use lib.Seq.{take-all}
+use Rattle.rules_dictionary.specs.declared.PdoData.{PdoData}
+use Rattle.rules_dictionary.specs.TheNode.{firstNode, lastNode}
+use Rattle.rules_dictionary.specs.Table.{receivePdos}
+use Rattle.rules_dictionary.proofs.Tests.{and-left, and-right}
+use Rattle.state.specs.declared.State.{State}
+use Rattle.state.specs.NmtStates.{isStopped}
+use Rattle.rules_services.specs.Effects.{Effect, becomes}
+use Rattle.rules_services.specs.Sdo.{sdo, requestBase, requestLength}
+use Rattle.rules_services.specs.PdoTraffic.{sync, syncBase, receivedBy}
+use Rattle.rules_services.specs.Nmt.{nmt, nmtIdentifier}
+use Rattle.rules.specs.Outcome.{mostData}
+use Rattle.rules.specs.Calls.{framed}
+use Rattle.theorems.proofs.Lawful.{Lawful, clauses, sound-lawful}
+use Rattle.theorems.proofs.Sent.{length-padded}
+use Rattle.soundness.proofs.Fresh.{plans-are}
+use Rattle.output.specs.declared.Done.{Done}
+use Rattle.output.specs.Laying.{OnBus, dataOf}
+use Rattle.output.proofs.Frames.{length-data}
+use Rattle.output.proofs.Left.{as-effect, left-as, calm-said}
+use Rattle.output.specs.Leaves.{partsOf, became, Leaves, Rests}
+use Rattle.sdo.specs.Serving.{Servable}
+use Rattle.nmt.specs.Commanding.{MayReset}
+use Rattle.rpdo.specs.Kept.{Kept}
+use Rattle.rpdo.specs.Traffic.{syncOf}
+use Rattle.rpdo.proofs.Callable.{lawful-kept, sync-by-length}
+use Rattle.calls.specs.Ending.{Stands}
+use Rattle.calls.specs.Frames.{requested, serviced, ServedBy}
+
+-- ---- of a sound state and dictionary
+
+module _ {s : State} {d o : List ℕ} (h : Stands s d o) where
+  law : Lawful s d
+  law = sound-lawful s d (h .long) (h .sound)
+
+  pub last-node : s .node .id ≤ lastNode
+  last-node = leb-true _ _ (and-right (leb firstNode (s .node .id)) _ (law .id))
+
+  pub servable : Servable (s .node) d o
+  servable = record { long = h .long; room = h .room; id = last-node }
+
+  pub may-reset : MayReset (s .node .id) d o
+  may-reset =
+      record {
+        long = h .long;
+        room = omega (arith, h .room);
+        first = leb-true _ _ (and-left (leb firstNode (s .node .id)) _ (law .id));
+        last = last-node;
+      }
+
+  pub kept : Kept s d o
+  kept = lawful-kept law (plans-are s d (clauses s d (h .sound) .plans)) (h .room)
+
+-- ---- another name for the effect
+
+pub as-served : {s : State} {e e′ : Effect} {d o : List ℕ} {r : Done} {d′ o′ : List ℕ} → e′ ≡ e → ServedBy s e d o r d′ o′ → ServedBy s e′ d o r d′ o′
+as-served is h = rw is h
+
+module _ (bs : List ℕ) (s : State) (d : List ℕ) where
+  pub framed-nmt : (i : ℕ) → i ≡ nmtIdentifier → framed i bs s d ≡ nmt bs s
+  unfolding framed
+  framed-nmt i e = rw (eq-eqb i nmtIdentifier e)
+
+  pub framed-serviced : (i : ℕ) → (i ≡ nmtIdentifier → ⊥) → framed i bs s d ≡ serviced i bs s d
+  unfolding framed
+  framed-serviced i n = rw (ne-eqb i nmtIdentifier n)
+
+  pub serviced-sync : (i : ℕ) → i ≡ syncBase → serviced i bs s d ≡ sync bs s d
+  serviced-sync i e = rw (eq-eqb i syncBase e)
+
+  pub serviced-request : (i : ℕ) → (i ≡ syncBase → ⊥) → i ≡ requestBase + s .node .id → serviced i bs s d ≡ requested bs s d
+  serviced-request i n e = rw (ne-eqb i syncBase n, eq-eqb i (requestBase + s .node .id) e)
+
+  pub serviced-received : (i : ℕ) → (i ≡ syncBase → ⊥) → (i ≡ requestBase + s .node .id → ⊥) → serviced i bs s d ≡ receivedBy receivePdos i bs s d
+  serviced-received i n k = rw (ne-eqb i syncBase n, ne-eqb i (requestBase + s .node .id) k)
+
+-- ---- a frame as data
+
+module _ (content : PdoData) (c : OnBus content) (s : State) (d : List ℕ) where
+  pub sync-is : sync (dataOf content) s d ≡ syncOf (content .length) s d
+  sync-is = sync-by-length (dataOf content) s d ∙ ap (λ (n : ℕ). syncOf n s d) (length-data content (c .shape))
+
+  whole-data : content .length ≡ requestLength → dataOf content ≡ content .bytes
+  whole-data e =
+      let l : length (content .bytes) ≡ mostData = ap length (c .shape .zeros) ∙ length-padded mostData (dataOf content) in
+      take-all (content .length) (content .bytes) (omega (arith, l, e))
+
+  pub request-served : isStopped (s .node .nmt) ≡ false → content .length ≡ requestLength → requested (dataOf content) s d ≡ sdo (content .bytes) s d
+  request-served on e =
+      let bs = dataOf content in
+      let long : eqb (length bs) requestLength ≡ true = eq-eqb (length bs) requestLength (length-data content (c .shape) ∙ e) in
+      rw (long, on) (ap (λ (x : List ℕ). sdo x s d) (whole-data e))
+
+  -- a request that is not served
+  pub request-stopped : isStopped (s .node .nmt) ≡ true → requested (dataOf content) s d ≡ becomes s
+  request-stopped on = rw on (ap (λ (x : Bool). cond x (sdo (dataOf content) s d) (becomes s)) (and-false (eqb (length (dataOf content)) requestLength)))
+
+  pub request-short : (content .length ≡ requestLength → ⊥) → requested (dataOf content) s d ≡ becomes s
+  request-short n =
+      let other : eqb (length (dataOf content)) requestLength ≡ false = ne-eqb _ _ (λ e. n (sym (length-data content (c .shape)) ∙ e)) in
+      rw other
+
+pub idle-served : {s : State} {e : Effect} {d o : List ℕ} {r : Done} → e ≡ becomes s → r ≡ became (partsOf s) true → ServedBy s e d o r d o
+idle-served {s} {e} {d} {o} {r} is e′ = rw (is, e′) (left-as s (partsOf s) true d o refl, λ q. calm-said s [])

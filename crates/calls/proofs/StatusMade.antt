@@ -1,0 +1,75 @@
+-- 6041h and 6061h made, or standing already; and what they leave of the PDOs.
+-- Assumes nothing.
+use Prim.Native.Nat.{ℕ}
+use native.Mathlib.Omega.{arith}
+use mathlib.Core.Path.{_≡_, refl, sym, _∙_, ap, ap₂}
+use mathlib.Core.Bool.{true}
+use mathlib.Core.List.{List}
+use lib.ListN.{length}
+use Rattle.drive.specs.declared.Drive.{Drive}
+use Rattle.state.specs.declared.Node.{Node}
+use Rattle.rules_dictionary.specs.Numbers.{areBytes, all}
+use Rattle.rules_dictionary.specs.Members.{In}
+use Rattle.rules_dictionary.specs.Table.{Row, table, dictionaryLength, statusWord, modeDisplay, pdos, mapCount}
+use Rattle.rules_dictionary.specs.Values.{read, store}
+use Rattle.rules_dictionary.specs.Aborts.{isGood}
+use Rattle.rules_dictionary.specs.Legal.{modeNumber, entryVerdict, countVerdict}
+use Rattle.rules_dictionary.specs.Plans.{mapped, planFor, plansOf}
+use Rattle.rules_dictionary.proofs.Packing.{within}
+use Rattle.rules_dictionary.proofs.Members.{pdo-in}
+use Rattle.rules.specs.Outcome.{settled, statusOf}
+use Rattle.rules.specs.Sound.{mappingLegal}
+use Rattle.theorems.proofs.Dictionary.{isPdo, mapped-alike, words-alike, count-alike, map-same}
+use Rattle.theorems.proofs.Demands.{store-self}
+use Rattle.theorems.proofs.Settled.{status-in, display-in, settled-length, settled-pdo}
+use Rattle.mapping.specs.Afresh.{GivesPlans}
+use Rattle.output.specs.declared.Parts.{Parts}
+use Rattle.output.specs.Leaves.{bare}
+use Rattle.calls.specs.Ending.{statusBy, settledBy}
+
+module _ (node : Node) (drive : Drive) (d : List ℕ) (word shown : ℕ) (w : word ≡ statusBy node drive d) (m : shown ≡ modeNumber (drive .mode)) where
+  -- written, they are made
+  pub both-written : store modeDisplay shown (store statusWord word d) ≡ settledBy node drive d
+  unfolding settledBy
+  both-written = rw (w, m)
+
+  -- where both stand there already, nothing is to be made
+  pub both-stand : areBytes d ≡ true → length d ≡ dictionaryLength → read d statusWord ≡ word → read d modeDisplay ≡ shown → d ≡ settledBy node drive d
+  unfolding settledBy
+  both-stand b l p q =
+      let first : store statusWord (statusBy node drive d) d ≡ d =
+      ap (λ (v : ℕ). store statusWord v d) (sym (p ∙ w)) ∙ store-self statusWord d b (omega (arith, within status-in)) in
+      let second : store modeDisplay (modeNumber (drive .mode)) d ≡ d =
+      ap (λ (v : ℕ). store modeDisplay v d) (sym (q ∙ m)) ∙ store-self modeDisplay d b (omega (arith, within display-in)) in
+      sym (ap (store modeDisplay (modeNumber (drive .mode))) first ∙ second)
+
+-- ---- dictionaries that are alike in the rows of the PDOs
+
+abbrev pub AlikeInPdos : List ℕ → List ℕ → Type 0
+AlikeInPdos d d′ = (y : Row) → In y table → isPdo (y .role) ≡ true → read d′ y ≡ read d y
+
+module _ (d d′ : List ℕ) (alike : AlikeInPdos d d′) where
+  pub plans-alike : plansOf d′ ≡ plansOf d
+  unfolding plansOf
+  plans-alike = map-same (λ p. planFor (mapped d′ p)) (λ p. planFor (mapped d p)) pdos (λ p i. ap planFor (mapped-alike d d′ alike i))
+
+  pub plannable-alike : length d′ ≡ length d → GivesPlans d → GivesPlans d′
+  unfolding mappingLegal
+  plannable-alike l g = (
+    l ∙ g .0,
+    λ p h.
+        let i = pdo-in p h in
+        rw (count-alike d d′ alike i, words-alike d d′ alike i) (g .1 p h),
+  )
+
+-- ---- 6041h and 6061h are no rows of a PDO
+
+settled-by : (p : Parts) (d : List ℕ) → settled (bare p) d ≡ settledBy (p .node) (p .drive) d
+unfolding settled statusOf settledBy
+settled-by p d = refl
+
+pub made-long : (p : Parts) (d : List ℕ) → length (settledBy (p .node) (p .drive) d) ≡ length d
+made-long p d = rw (← settled-by) (settled-length (bare p) d)
+
+pub made-alike : (p : Parts) (d : List ℕ) → AlikeInPdos d (settledBy (p .node) (p .drive) d)
+made-alike p d y i h = rw (← settled-by) (settled-pdo (bare p) d y i h)

@@ -1,0 +1,2 @@
+pub mod Emergencies
+pub mod Acts

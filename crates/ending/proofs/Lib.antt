@@ -1,4 +1,0 @@
-pub mod Making
-pub mod OnePdo
-pub mod Rounds
-pub mod Laws

@@ -1,9 +1,0 @@
-use borrow.Author.Needs.{needs}
-use Rattle.form.proofs.node.own_flag.Statement.{statement}
-use Rattle.form.proofs.node.own_flag.Tie as tie
-
-returns : tie.Need-returns
-returns c = cc
-
-pub own-flag-spec : {M : Type 1} → statement M
-own-flag-spec = tie.close (tie.spec (λ c κs. search needs) (λ c κs. search needs) returns)

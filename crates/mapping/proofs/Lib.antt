@@ -1,0 +1,14 @@
+pub mod Naming
+pub mod Slotted
+pub mod Emptied
+pub mod Legality
+pub mod Joining
+pub mod Assembly
+pub mod Worked
+pub mod UsualMapping
+pub mod UsualFrame
+pub mod Filling
+pub mod Renewed
+pub mod Steps
+pub mod ArrayBytes
+pub mod Unpacked

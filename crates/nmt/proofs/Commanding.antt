@@ -1,0 +1,96 @@
+-- Laws of NMT: which frames are commands for this node, what changes nothing but the state, 01h, and the objects that are set back.
+-- Assumes nothing.
+use Prim.Native.Nat.{ℕ, _<_}
+use native.Mathlib.Omega.{arith}
+use mathlib.Core.Path.{_≡_, refl, sym, ap}
+use mathlib.Core.List.{List, [], _++_, append-nil}
+use mathlib.Core.Bool.{Bool, true, false, cond, _&&_, _||_}
+use borrow.Author.Tests.{eqb-true}
+use lib.Dec.{eqb}
+use lib.ListN.{length, getD}
+use lib.Seq.{getD-take}
+use Rattle.state.specs.declared.NmtState.{NmtState}
+use Rattle.state.specs.declared.NmtState.the-variants.{PreOperational, Operational, Stopped}
+use Rattle.state.specs.declared.Occasion.the-variants.{Plain, Ticked}
+use Rattle.state.specs.declared.State.{State}
+use Rattle.state.specs.NmtStates.{isOperational}
+use Rattle.rules_dictionary.specs.declared.PdoData.{PdoData}
+use Rattle.rules_dictionary.specs.Numbers.{filter}
+use Rattle.rules_dictionary.specs.Table.{Row, table, isReset}
+use Rattle.rules_dictionary.specs.Values.{stored, toDefaults}
+use Rattle.rules_services.specs.Effects.{Frame, Effect, becomes, sends, writes, on, withNmt, withHeartbeat}
+use Rattle.rules_services.specs.Nmt.{nmt, nmtLength, everyNode, start, commandOf, commanded, bootUp}
+use Rattle.rules.specs.Outcome.{sentInto}
+use Rattle.output.specs.declared.Parts.{Parts}
+use Rattle.output.specs.Laying.{IsData, dataOf}
+use Rattle.output.specs.Leaves.{touches, remaps, partsOf, became, Leaves, Rests}
+use Rattle.output.proofs.Frames.{length-data}
+use Rattle.output.proofs.Left.{left-as, loud}
+use Rattle.nmt.specs.Commanding.{isForNode, ticked}
+
+-- ---- which frames are commands for this node
+
+module _ (content : PdoData) (is : IsData content) (s : State) where
+  -- by its length, its node and its command
+  by : Bool → ℕ → ℕ → Effect
+  by two node c = cond (two && (eqb node everyNode || eqb node (s .node .id))) (commanded (commandOf c) s) (becomes s)
+
+  pub by-data : nmt (dataOf content) s ≡ cond (isForNode content (s .node .id)) (commanded (commandOf (getD (content .bytes) 0 0)) s) (becomes s)
+  unfolding nmt by
+  by-data = rw (length-data content is) (go (eqb (content .length) nmtLength) refl)
+    where
+      go : (b : Bool) → eqb (content .length) nmtLength ≡ b →
+          by b (getD (dataOf content) 1 0) (getD (dataOf content) 0 0) ≡ by b (getD (content .bytes) 1 0) (getD (content .bytes) 0 0)
+      go true e =
+          let second : 1 < content .length = omega (arith, eqb-true (content .length) nmtLength e) in
+          let first : 0 < content .length = omega arith in
+          simp getD-take
+      go false e = refl
+
+-- ---- a service that changes nothing but the state
+
+pub restated : (s t : State) (d o : List ℕ) → Leaves (becomes t) d o (became (partsOf t) false) d o × Rests s (becomes t) (became (partsOf t) false)
+restated s t d o = (left-as t (partsOf t) false d o refl, loud s (becomes t) (became (partsOf t) false) refl)
+
+-- a tick that counts, with nothing left to do
+pub counted : (s : State) (count : ℕ) (fs : List Frame) (d o : List ℕ) →
+    Leaves (on Ticked (sends fs (becomes (withHeartbeat count s)))) d o (ticked (partsOf (withHeartbeat count s)) (length (fs ++ [])))
+    d (sentInto o (fs ++ []))
+    × Rests s (on Ticked (sends fs (becomes (withHeartbeat count s)))) (ticked (partsOf (withHeartbeat count s)) (length (fs ++ [])))
+unfolding stored
+counted s count fs d o = (
+  record { parts = refl; frames = refl; touched = refl; remapped = refl; occasion = refl; dictionary = refl; output = refl },
+  λ _. record { writes = refl; occasion = refl; nmt = refl; voltage = refl; drive = refl },
+)
+
+-- ---- 01h: in Operational already, nothing changes
+
+pub operational : (s : State) → commanded start s ≡ becomes (withNmt Operational s)
+unfolding commanded
+operational s = go (s .node .nmt) refl
+  where
+    go : (m : NmtState) → s .node .nmt ≡ m → cond (isOperational m) (becomes s) (becomes (withNmt Operational s)) ≡ becomes (withNmt Operational s)
+    go PreOperational e = refl
+    go Operational e = ap (λ (m : NmtState). becomes (withNmt m s)) e
+    go Stopped e = refl
+
+-- ---- 81h, 82h and power-up
+
+-- none of them may be mapped to transmit, and mappings are among them
+pub reset-writes : (n : ℕ) → (touches (toDefaults n (filter isReset table)) ≡ false) × (remaps (toDefaults n (filter isReset table)) ≡ true)
+unfolding table isReset
+reset-writes n = (refl, refl)
+
+-- of all objects there are some of both
+pub all-writes : (n : ℕ) → (touches (toDefaults n table) ≡ true) × (remaps (toDefaults n table) ≡ true)
+unfolding table
+all-writes n = (refl, refl)
+
+-- THE LAW: objects set back on node n, and its boot-up
+pub set-back : (n : ℕ) (rows : List Row) (s : State) (p : Parts) (touched : Bool) (d o d′ o′ : List ℕ) → p ≡ partsOf s →
+    (touches (toDefaults n rows) ≡ touched) × (remaps (toDefaults n rows) ≡ true) → d′ ≡ stored (toDefaults n rows) d → o′ ≡ sentInto o (bootUp n) →
+    Leaves (writes (toDefaults n rows) (sends (bootUp n) (becomes s))) d o
+    (record { parts = p; frames = 1; touched = touched; remapped = true; occasion = Plain; quiet = false }) d′ o′
+set-back n rows s p touched d o d′ o′ e t w b =
+    rw (append-nil (toDefaults n rows))
+    (record { parts = e; frames = refl; touched = sym (t .0); remapped = sym (t .1); occasion = refl; dictionary = w; output = b })

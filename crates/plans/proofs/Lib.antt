@@ -1,9 +1,0 @@
-pub mod Naming
-pub mod Slotted
-pub mod Emptied
-pub mod Legality
-pub mod Joining
-pub mod Assembly
-pub mod Worked
-pub mod UsualMapping
-pub mod UsualFrame

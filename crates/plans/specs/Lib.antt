@@ -1,4 +1,0 @@
-pub mod Words
-pub mod Slots
-pub mod Moves
-pub mod Usual

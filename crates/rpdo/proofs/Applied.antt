@@ -1,0 +1,138 @@
+-- The values of a receive PDO's frame, by its kept plan: stored and acted on as the rules do, and what that leaves alone.
+-- Assumes nothing.
+use Prim.Native.Nat.{ℕ, _≤_}
+use native.Mathlib.Omega.{arith}
+use mathlib.Core.Path.{_≡_, refl, sym, _∙_, ap}
+use mathlib.Core.Logic.{⊎-elim}
+use mathlib.Core.Bool.{Bool, true, false, cond}
+use mathlib.Core.List.{List, [], _∷_, _++_, append-nil}
+use lib.ListN.{length}
+use Rattle.state.specs.declared.Node.{Node}
+use Rattle.state.specs.declared.State.{State}
+use Rattle.state.specs.NmtStates.{isStopped}
+use Rattle.drive.specs.declared.Drive.{Drive}
+use Rattle.drive.specs.SetPoints.{controlWritten}
+use Rattle.rules_dictionary.specs.declared.Plan.{Plan}
+use Rattle.rules_dictionary.specs.declared.Role.{Role}
+use Rattle.rules_dictionary.specs.declared.Role.the-variants.{Plain, ModeOfOperation, PdoIdentifier, PdoType, MappingCount, MappingEntry}
+use Rattle.rules_dictionary.specs.Table.{Row, table, placeOf, controlWord, mode}
+use Rattle.rules_dictionary.specs.Values.{Write, read, stored, unpacked}
+use Rattle.rules_dictionary.specs.Members.{In}
+use Rattle.rules_dictionary.proofs.Tests.{none-in}
+use Rattle.rules_dictionary.proofs.Members.{in-append}
+use Rattle.rules_services.specs.Effects.{Effect, Frame, becomes, writes, withDrive}
+use Rattle.rules_services.specs.Emergency.{faultGone}
+use Rattle.rules_services.specs.Written.{applied, wrote, countRestarted, faultReset}
+use Rattle.rules.specs.Outcome.{sentInto}
+use Rattle.theorems.proofs.Booleans.{any-false-of}
+use Rattle.theorems.proofs.Dictionary.{isPdo}
+use Rattle.theorems.proofs.PdoKept.{unpacked-rows}
+use Rattle.theorems.proofs.Writes.{InTable, NoPdo, one-row}
+use Rattle.theorems.proofs.Settled.{register-in}
+use Rattle.mapping.specs.Received.{movesOf, hasPlace, storedMoves, Receives}
+use Rattle.mapping.proofs.Unpacked.{stored-is, control-is, mode-is, heartbeat-is, quiet-is, no-pdo-row}
+use Rattle.output.specs.Laying.{emitted}
+use Rattle.output.specs.declared.Parts.{Parts}
+use Rattle.output.specs.declared.Done.{Done}
+use Rattle.output.specs.Leaves.{partsOf, bare, isMapping, remaps, Leaves}
+use Rattle.output.proofs.Left.{as-effect, left-alike, loud}
+use Rattle.emergency.specs.Emergencies.{emergencyOf}
+use Rattle.emergency.specs.Acts.{acts, controlActs, modeActs}
+use Rattle.emergency.proofs.Written.{emergency-by, stored-acted, acts-alike}
+use Rattle.rpdo.specs.Traffic.{LeavesBy}
+use Rattle.rpdo.proofs.Leaving.{Behind, left-behind}
+
+-- rows of no PDO are no mapping's
+pub no-mapping : (ws : List Write) → NoPdo ws → remaps ws ≡ false
+no-mapping ws quiet = any-false-of (λ w. isMapping (w .row .role)) ws (λ w i. kind (w .row .role) (quiet w i))
+  where
+    kind : (r : Role) → isPdo r ≡ false → isMapping r ≡ false
+    kind Plain h = refl
+    kind ModeOfOperation h = refl
+    kind (PdoIdentifier p) h = refl
+    kind (PdoType p) h = refl
+    kind (MappingCount p) h = h
+    kind (MappingEntry p) h = h
+
+-- ---- by a plan
+
+module _ {plan : Plan} {xs : List Row} (r : Receives plan xs) (bs : List ℕ) where
+  abbrev ws : List Write
+  ws = unpacked xs bs
+
+  quiet : NoPdo ws
+  quiet w i = no-pdo-row (r .received (w .row) (unpacked-rows xs bs i))
+
+  -- 1017h is not among them
+  acted-on : (s : State) (d : List ℕ) →
+      applied ws s d ≡ writes ws (acts (read d controlWord) (wrote mode ws) (wrote controlWord ws) s (stored ws d))
+  unfolding countRestarted
+  acted-on s d = stored-acted ws s d ∙ rw (heartbeat-is r bs)
+
+  pub applied-by : {parts : Parts} {d o d₁ d′ o′ : List ℕ} {f : Done} (old : ℕ) (m c : Bool) →
+      old ≡ read d controlWord → d₁ ≡ storedMoves (movesOf plan) bs d →
+      m ≡ hasPlace (placeOf mode) (movesOf plan) → c ≡ hasPlace (placeOf controlWord) (movesOf plan) →
+      Leaves (acts old m c (bare parts) d₁) d₁ o f d′ o′ × (f .quiet ≡ false) → LeavesBy parts (applied ws) d o f d′ o′
+  unfolding emitted sentInto
+  applied-by {parts} {d} {o} {d₁} {f = f} old m c e k a b h s is =
+      let at = k ∙ stored-is r bs d in
+      let g = left-alike (acts-alike old m c s d₁) (rw is at (h .0)) in
+      let first : Behind ws [] (acts old m c s d₁ .occasion) f f = record {
+        parts = refl;
+        frames = omega arith;
+        touched = rw (quiet-is r bs);
+        remapped = rw (no-mapping ws quiet);
+        occasion = g .occasion;
+      } in (
+        as-effect (acted-on s d ∙ rw (← at, ← mode-is r bs, ← control-is r bs, ← a, ← b, ← e)) (left-behind ws [] first at (g .output) g),
+        loud s _ f (h .1),
+      )
+
+-- ---- what values that are applied leave alone
+
+-- an emergency is one frame at the most
+pub one-frame : (code : ℕ) (v : Node) (d : List ℕ) → length (emergencyOf code v d) ≤ 1
+unfolding emergencyOf
+one-frame code v d = go (isStopped (v .nmt)) _
+  where
+    go : (b : Bool) (f : Frame) → length (cond b [] (f ∷ [])) ≤ 1
+    go true f = omega arith
+    go false f = omega arith
+
+-- the node-ID, and the rows of the PDOs; and one frame is sent at the most
+pub record Keeps (s : State) (e : Effect) : Type 0 where
+  pub id : e .state .node .id ≡ s .node .id
+  pub few : length (e .sent) ≤ 1
+  pub rows : InTable (e .writes)
+  pub quiet : NoPdo (e .writes)
+
+pub keeps-still : (s : State) → Keeps s (becomes s)
+keeps-still s = record { id = refl; few = omega arith; rows = λ w i. absurd (none-in i); quiet = λ w i. absurd (none-in i) }
+
+keeps-acts : (old : ℕ) (m c : Bool) (s : State) (d : List ℕ) → Keeps s (acts old m c s d)
+unfolding acts controlActs faultReset
+keeps-acts old m false s d = record { id = refl; few = omega arith; rows = λ w i. absurd (none-in i); quiet = λ w i. absurd (none-in i) }
+keeps-acts old m true s d = go (controlWritten d old (modeActs m (s .axis .drive) d) .reset) _
+  where
+    go : (b : Bool) (v : Drive) → Keeps s (cond b (faultReset (withDrive v s) d) (becomes (withDrive v s)))
+    go true v =
+        record {
+          id = refl;
+          few = rw (append-nil, emergency-by) (one-frame faultGone _ _);
+          rows = one-row (λ w. In (w .row) table) register-in;
+          quiet = one-row (λ w. isPdo (w .row .role) ≡ false) refl;
+        }
+    go false v = record { id = refl; few = omega arith; rows = λ w i. absurd (none-in i); quiet = λ w i. absurd (none-in i) }
+
+pub keeps-applied : {plan : Plan} {xs : List Row} (r : Receives plan xs) (bs : List ℕ) (s : State) (d : List ℕ) →
+    ((x : Row) → In x xs → In x table) → Keeps s (applied (unpacked xs bs) s d)
+keeps-applied {xs = xs} r bs s d inside =
+    let ws = unpacked xs bs in
+    let k = keeps-acts (read d controlWord) (wrote mode ws) (wrote controlWord ws) s (stored ws d) in
+    rw (acted-on r bs s d)
+    (record {
+      id = k .id;
+      few = k .few;
+      rows = λ w i. ⊎-elim (λ j. inside (w .row) (unpacked-rows xs bs j)) (k .rows w) (in-append ws i);
+      quiet = λ w i. ⊎-elim (quiet r bs w) (k .quiet w) (in-append ws i);
+    })

@@ -1,0 +1,87 @@
+-- The receive PDOs by number, and which of them a frame on an identifier is for.
+-- Assumes nothing.
+use Prim.Native.Nat.{ℕ, zero, suc, _+_, _/_, _%_, _<_}
+use native.Mathlib.Omega.{arith}
+use mathlib.Core.Path.{_≡_, refl, sym, _∙_, ap, ap₂}
+use mathlib.Core.Bool.{Bool, true, false, _&&_}
+use mathlib.Core.List.{List, [], _∷_}
+use borrow.Author.Tests.{eq-eqb, ne-eqb}
+use lib.Dec.{eqb, ltb}
+use lib.ListN.{drop}
+use Rattle.state.specs.declared.State.{State}
+use Rattle.rules_dictionary.specs.Table.{eachWay, receivePdos, identifier, mapCount}
+use Rattle.rules_dictionary.specs.Values.{read}
+use Rattle.rules_dictionary.specs.Legal.{isValid, frameIdentifier}
+use Rattle.rules_dictionary.specs.Members.{In, here, there}
+use Rattle.rules_services.specs.Effects.{Effect, becomes}
+use Rattle.state.specs.NmtStates.{isOperational}
+use Rattle.rules_services.specs.PdoTraffic.{works, listens, received, receivedBy}
+use Rattle.theorems.proofs.Writes.{idle}
+use Rattle.rpdo.specs.Traffic.{hears}
+
+pub receiver : (p : ℕ) → p < eachWay → In p receivePdos × (drop p receivePdos ≡ p ∷ drop (p + 1) receivePdos)
+receiver zero h = (here, refl)
+receiver (suc zero) h = (there here, refl)
+receiver (suc (suc zero)) h = (there (there here), refl)
+receiver (suc (suc (suc zero))) h = (there (there (there here)), refl)
+receiver (suc (suc (suc (suc p)))) h = absurd (omega arith)
+
+-- ---- whether a PDO listens, by its identifier's word
+
+module _ (d : List ℕ) (p i w : ℕ) (is : w ≡ read d (identifier p)) where
+  low : frameIdentifier (read d (identifier p)) ≡ w % 0x800
+  low = ap frameIdentifier (sym is) ∙ omega arith
+
+  pub for-another : (w % 0x800 ≡ i → ⊥) → hears i d p ≡ false
+  unfolding hears
+  for-another n = rw (low, ne-eqb _ _ n) (go (isValid (read d (identifier p)) && ltb 0 (read d (mapCount p))))
+    where
+      go : (b : Bool) → (b && false) ≡ false
+      go true = refl
+      go false = refl
+
+  pub invalid : w / 0x80000000 % 2 ≡ 1 → hears i d p ≡ false
+  unfolding hears
+  invalid e = rw (← is, eq-eqb _ _ e)
+
+  pub heard : w % 0x800 ≡ i → (w / 0x80000000 % 2 ≡ 1 → ⊥) → (c : ℕ) → c ≡ read d (mapCount p) → ltb 0 c ≡ hears i d p
+  unfolding hears
+  heard e n c k = rw (low, eq-eqb _ _ e, ← is, ne-eqb _ _ n, ← k) (go (ltb 0 c))
+    where
+      go : (b : Bool) → b ≡ (b && true)
+      go true = refl
+      go false = refl
+
+-- ---- the PDO that a frame is for
+
+module _ (i : ℕ) (bs : List ℕ) (s : State) (d : List ℕ) where
+  by : Bool → ℕ → Effect → Effect
+  by b p e = elim b [ true ↦ received p bs s d | false ↦ e ]
+
+  -- outside Operational none listens
+  pub not-served : isOperational (s .node .nmt) ≡ false → (ps : List ℕ) → receivedBy ps i bs s d ≡ becomes s
+  unfolding receivedBy by listens
+  not-served h [] = refl
+  not-served h (p ∷ ps) =
+      ap₂ (λ (b : Bool) (x : Effect). by (b && eqb (frameIdentifier (read d (identifier p))) i) p x) (idle (s .node .nmt) d p h) (not-served h ps)
+
+  -- from PDO p on: it is for p, or for those behind
+  module _ (op : isOperational (s .node .nmt) ≡ true) {p : ℕ} (l : p < eachWay) {b : Bool} (h : b ≡ hears i d p) where
+    onward : receivedBy (drop p receivePdos) i bs s d ≡ by b p (receivedBy (drop (p + 1) receivePdos) i bs s d)
+    unfolding receivedBy by listens works hears
+    onward = rw (receiver p l .1) (ap (λ (c : Bool). by c p (receivedBy (drop (p + 1) receivePdos) i bs s d)) same)
+      where
+        same : listens i (s .node .nmt) d p ≡ b
+        same = rw (op, h)
+
+    pub for-it : b ≡ true → receivedBy (drop p receivePdos) i bs s d ≡ received p bs s d
+    unfolding by
+    for-it t = onward ∙ rw t
+
+    pub for-others : b ≡ false → receivedBy (drop p receivePdos) i bs s d ≡ receivedBy (drop (p + 1) receivePdos) i bs s d
+    unfolding by
+    for-others t = onward ∙ rw t
+
+  pub for-none : receivedBy [] i bs s d ≡ becomes s
+  unfolding receivedBy
+  for-none = refl

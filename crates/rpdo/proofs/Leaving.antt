@@ -1,0 +1,93 @@
+-- What is left behind by one thing done after another.
+-- Assumes nothing.
+use Prim.Native.Nat.{ℕ, _+_}
+use native.Mathlib.Nat.{zero-add}
+use native.Mathlib.Omega.{arith}
+use mathlib.Core.Path.{_≡_, refl, sym, _∙_, ap, ap₂, subst}
+use mathlib.Core.Bool.{Bool, true, false, _||_}
+use mathlib.Core.List.{List, [], _∷_, _++_, append-nil}
+use lib.ListN.{length, length-append}
+use Rattle.state.specs.declared.State.{State}
+use Rattle.state.specs.declared.Occasion.{Occasion}
+use Rattle.state.specs.declared.Occasion.the-variants.{Plain}
+use Rattle.rules_dictionary.specs.Numbers.{any}
+use Rattle.rules_dictionary.specs.Values.{Write, stored}
+use Rattle.rules_services.specs.Effects.{Effect, Frame, becomes}
+use Rattle.rules_services.specs.Emergency.{emergency}
+use Rattle.rules.specs.Outcome.{sentInto}
+use Rattle.theorems.proofs.Writes.{stored-append}
+use Rattle.output.specs.Laying.{emitted}
+use Rattle.output.specs.declared.Parts.{Parts}
+use Rattle.output.specs.declared.Done.{Done}
+use Rattle.output.specs.Leaves.{partsOf, touches, remaps, Leaves, Rests, became}
+use Rattle.output.proofs.Frames.{emitted-then}
+use Rattle.output.proofs.Left.{left-as, calm-said}
+use Rattle.emergency.specs.Emergencies.{emergencyOf}
+use Rattle.emergency.proofs.Written.{emergency-by}
+use Rattle.rpdo.specs.Traffic.{says, LeavesBy}
+
+-- ---- the promise under another name of the effect
+
+pub renamed : {s : State} {e e′ : Effect} {d o : List ℕ} {r : Done} {d′ o′ : List ℕ} → e′ ≡ e → Leaves e d o r d′ o′ × Rests s e r →
+    Leaves e′ d o r d′ o′ × Rests s e′ r
+renamed {s} {d = d} {o} {r} {d′} {o′} q h = subst (λ (x : Effect). Leaves x d o r d′ o′ × Rests s x r) (sym q) h
+
+-- ---- nothing done, and an emergency alone
+
+pub left-still : {s : State} {parts : Parts} {r : Done} {d o : List ℕ} → parts ≡ partsOf s → r ≡ became parts true →
+    Leaves (becomes s) d o r d o × Rests s (becomes s) r
+left-still {s} {parts} {d = d} {o} e is = rw is (left-as s parts true d o e, λ q. calm-said s [])
+
+pub left-said : (code : ℕ) {parts : Parts} {k : ℕ} {d o o′ : List ℕ} →
+    (k ≡ length (emergencyOf code (parts .node) d)) × (o′ ≡ sentInto o (emergencyOf code (parts .node) d)) →
+    LeavesBy parts (says code) d o (record { parts = parts; frames = k; touched = false; remapped = false; occasion = Plain; quiet = true }) d o′
+unfolding stored
+left-said code {d = d} h s e = (
+  record {
+    parts = e;
+    frames = rw (append-nil, emergency-by) (rw e at (h .0));
+    touched = refl;
+    remapped = refl;
+    occasion = refl;
+    dictionary = refl;
+    output = rw (append-nil, emergency-by) (rw e at (h .1));
+  },
+  λ q. calm-said s (emergency code s d),
+)
+
+-- ---- after writes and frames
+
+any-append : {A : Type 0} (f : A → Bool) (xs ys : List A) → any f (xs ++ ys) ≡ (any f xs || any f ys)
+any-append f [] ys = refl
+any-append f (x ∷ xs) ys = ap (λ (b : Bool). f x || b) (any-append f xs ys) ∙ go (f x)
+  where
+    go : (a : Bool) → (a || (any f xs || any f ys)) ≡ (a || any f xs || any f ys)
+    go true = refl
+    go false = refl
+
+-- an effect after those writes and those frames
+abbrev pub behind : List Write → List Frame → Occasion → Effect → Effect
+behind ws fs call e = record { state = e .state; writes = ws ++ e .writes; sent = fs ++ e .sent; occasion = call }
+
+-- q is r with what came first
+pub record Behind (ws : List Write) (fs : List Frame) (call : Occasion) (r q : Done) : Type 0 where
+  pub parts : q .parts ≡ r .parts
+  pub frames : q .frames ≡ length fs + r .frames
+  pub touched : q .touched ≡ (touches ws || r .touched)
+  pub remapped : q .remapped ≡ (remaps ws || r .remapped)
+  pub occasion : q .occasion ≡ call
+
+pub left-behind : (ws : List Write) (fs : List Frame) {call : Occasion} {e : Effect} {d d₁ d₂ o part part′ o₂ : List ℕ} {r q : Done} →
+    Behind ws fs call r q → d₁ ≡ stored ws d → o₂ ≡ emitted (length fs) (e .sent) (sentInto o fs) →
+    Leaves e d₁ part r d₂ part′ → Leaves (behind ws fs call e) d o q d₂ o₂
+unfolding emitted
+left-behind ws fs {e = e} {d} {o = o} b is laid g =
+    record {
+      parts = b .parts ∙ g .parts;
+      frames = rw length-append (b .frames ∙ ap (λ (n : ℕ). length fs + n) (g .frames));
+      touched = b .touched ∙ ap (λ (x : Bool). touches ws || x) (g .touched) ∙ sym (any-append _ ws (e .writes));
+      remapped = b .remapped ∙ ap (λ (x : Bool). remaps ws || x) (g .remapped) ∙ sym (any-append _ ws (e .writes));
+      occasion = b .occasion;
+      dictionary = g .dictionary ∙ ap (stored (e .writes)) is ∙ sym (stored-append ws (e .writes) d);
+      output = laid ∙ rw zero-add at (emitted-then 0 fs (e .sent) o (omega arith));
+    }

@@ -1,0 +1,142 @@
+// A received frame: "too short, dropped with emergency 8210h; too long, 8220h and the leading bytes are used; then any value SDO would
+// refuse drops the whole frame with 8200h, after 8220h if both".
+use crate::applying::apply;
+use crate::dropping::refused;
+use crate::listening::hears;
+use dictionary::records;
+use emergency::emergency;
+use mapping::are_legal;
+use mapping::length_of;
+use output::Done;
+use output::FRAME_LENGTH;
+use output::Parts;
+use output::becomes;
+use output::parts_of;
+use rules_dictionary::PdoData;
+use rules_dictionary::Plan;
+use state::State;
+ghost use mathlib.Core.Path.{_≡_};
+ghost use Prim.Native.Nat.{_≤_};
+ghost use lib.ListN.{length, take};
+ghost use Rattle.rules_dictionary.specs.Numbers.{padded};
+ghost use Rattle.rules_dictionary.specs.Plans.{mapped};
+ghost use Rattle.rules_dictionary.specs.Table.{receivePdos};
+ghost use Rattle.rules_services.specs.PdoTraffic.{mappedLength, received, receivedBy};
+ghost use Rattle.rules.specs.Calls.{outputLength};
+ghost use Rattle.rules.specs.Outcome.{frameSize};
+ghost use Rattle.output.specs.Laying.{IsData, dataOf};
+ghost use Rattle.output.specs.Leaves.{Leaves, Rests};
+ghost use Rattle.rpdo.specs.Kept.{Kept, Serves};
+ghost use Rattle.rpdo.specs.Traffic.{judged, LeavesBy};
+
+// Emergency code: a value that SDO would refuse.
+const VALUE_REFUSED: u16 = 0x8200;
+
+// Emergency code: fewer bytes than are mapped.
+const TOO_SHORT: u16 = 0x8210;
+
+// Emergency code: more bytes than are mapped.
+const TOO_LONG: u16 = 0x8220;
+
+// The last type that waits for SYNC.
+const LAST_SYNCHRONOUS: u8 = 240;
+
+// PDO 0 to 3 receive.
+const RECEIVE_PDOS: usize = 4;
+
+// The leading bytes, and zeros behind them.
+fn leading(content: [u8; 8], n: usize) -> [u8; 8]
+    requires { ⌜ n ≤ 8 ⌝ }
+    ensures { λ r. ⌜ (r ≡ padded 0 8 (take n content)) × (length content ≡ 8) ⌝ }
+{
+    let mut bytes = content;
+    let mut k = n;
+    while k < 8 {
+        bytes[k] = 0;
+        k += 1;
+    }
+    bytes
+}
+
+// As many bytes as receive PDO p maps: dropped if a value is refused. "Types 254, 255 apply at once; others are held, the latest kept, until
+// SYNC." A frame that is dropped or held is quiet.
+fn judge(
+    parts: Parts,
+    plan: Plan,
+    d: &mut [u8],
+    output: &mut [u8],
+    p: usize,
+    content: PdoData,
+) -> Done
+    requires { ⌜ Serves parts plan p (now d) × ((frameSize ≤ length (now output)) × (content .length ≡ mappedLength (mapped (now d) p))) ⌝ }
+    ensures { λ r. ⌜ LeavesBy parts (judged p (dataOf content)) (now (d .entry)) (now (output .entry)) r (now (d .exit)) (now (output .exit)) ⌝ }
+{
+    let bytes = content.bytes;
+    if !are_legal(plan, bytes) {
+        return refused(VALUE_REFUSED, parts, d, output);
+    }
+    if LAST_SYNCHRONOUS < records::transmission_type(d, p) {
+        return apply(parts, plan, d, output, bytes);
+    }
+    let node = parts.node;
+    let drive = parts.drive;
+    let mut held = parts.held;
+    held[p] = PdoData {
+        length: content.length,
+        bytes: leading(bytes, content.length as usize),
+    };
+    becomes(Parts { node, drive, held }, true)
+}
+
+// A frame that receive PDO p listens to.
+fn received(
+    parts: Parts,
+    plan: Plan,
+    d: &mut [u8],
+    output: &mut [u8],
+    p: usize,
+    content: PdoData,
+) -> Done
+    requires { ⌜ Serves parts plan p (now d) × ((outputLength ≤ length (now output)) × IsData content) ⌝ }
+    ensures { λ r. ⌜ LeavesBy parts (received p (dataOf content)) (now (d .entry)) (now (output .entry)) r (now (d .exit)) (now (output .exit)) ⌝ }
+{
+    let bytes = content.bytes;
+    let needed = length_of(plan);
+    if content.length < needed {
+        return refused(TOO_SHORT, parts, d, output);
+    }
+    let used = PdoData {
+        length: needed,
+        bytes,
+    };
+    if needed < content.length {
+        let node = parts.node;
+        let n = emergency(TOO_LONG, node, d, output);
+        let mut done = judge(parts, plan, d, &mut output[FRAME_LENGTH * n..], p, used);
+        done.frames += n;
+        return done;
+    }
+    judge(parts, plan, d, output, p, used)
+}
+
+// A frame on an identifier: for the first receive PDO that listens to it, if any. "A PDO works only in Operational".
+pub fn receive(s: State, d: &mut [u8], output: &mut [u8], identifier: u16, content: PdoData) -> Done
+    requires { ⌜ Kept s (now d) (now output) × IsData content ⌝ }
+    ensures { λ r. ⌜ Leaves (receivedBy receivePdos identifier (dataOf content) s (now (d .entry))) (now (d .entry)) (now (output .entry)) r (now (d .exit)) (now (output .exit)) × Rests s (receivedBy receivePdos identifier (dataOf content) s (now (d .entry))) r ⌝ }
+{
+    let node = s.node;
+    let nmt = node.nmt;
+    if !nmt.is_operational() {
+        return becomes(parts_of(s), true);
+    }
+    let axis = s.axis;
+    let plans = axis.plans;
+    let mut p: usize = 0;
+    while p < RECEIVE_PDOS {
+        if hears(d, p, identifier) {
+            return received(parts_of(s), plans[p], d, output, p, content);
+        }
+        p += 1;
+    }
+    becomes(parts_of(s), true)
+}

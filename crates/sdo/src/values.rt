@@ -1,0 +1,76 @@
+// A value for an entry: its range, then what further rule the entry's role gives.
+use crate::aborts::ABOVE_RANGE;
+use crate::aborts::BAD_VALUE;
+use crate::aborts::BELOW_RANGE;
+use crate::aborts::GOOD;
+use crate::identifiers::bad_identifier;
+use crate::mappings::count_verdict;
+use crate::mappings::entry_verdict;
+use dictionary::Entry;
+use rules_dictionary::Role;
+ghost use mathlib.Core.Path.{_≡_};
+ghost use lib.ListN.{length};
+ghost use Rattle.rules_dictionary.specs.Table.{dictionaryLength};
+ghost use Rattle.rules_dictionary.specs.Legal.{isMode, isType};
+ghost use Rattle.dictionary.specs.Sizes.{IsPdo};
+ghost use Rattle.sdo.specs.Verdicts.{verdictCode, badIf, pdoOf, roleVerdict, valueVerdictOf};
+
+// The transmission types up to this one wait for SYNC.
+const LAST_SYNCHRONOUS: u32 = 240;
+
+// The transmission types from this one on go at once.
+const FIRST_EVENT_DRIVEN: u32 = 254;
+
+// Whether a number is a mode of operation: none, profile position or profile velocity.
+fn is_mode(v: u32) -> bool
+    ensures { λ r. ⌜ r ≡ isMode v ⌝ }
+{
+    (v == 0) | ((v == 1) | (v == 3))
+}
+
+// Whether a number is a transmission type.
+fn is_type(t: u32) -> bool
+    ensures { λ r. ⌜ r ≡ isType t ⌝ }
+{
+    (t <= LAST_SYNCHRONOUS) | (FIRST_EVENT_DRIVEN <= t)
+}
+
+// The verdict on a value that is bad, or not, for another reason than its range.
+fn bad_if(bad: bool) -> u32
+    ensures { λ r. ⌜ r ≡ verdictCode (badIf bad) ⌝ }
+{
+    if bad {
+        return BAD_VALUE;
+    }
+    GOOD
+}
+
+// What the rule of a role gives for a value.
+fn role_verdict(d: &[u8], role: Role, v: u32) -> u32
+    requires { ⌜ (length (now d) ≡ dictionaryLength) × IsPdo (pdoOf role) ⌝ }
+    ensures { λ r. ⌜ r ≡ verdictCode (roleVerdict (now (d .entry)) role v) ⌝ }
+{
+    match role {
+        Role::Plain => GOOD,
+        Role::ModeOfOperation => bad_if(!is_mode(v)),
+        Role::PdoIdentifier(p) => bad_if(bad_identifier(d, p as usize, v)),
+        Role::PdoType(p) => bad_if(!is_type(v)),
+        Role::MappingCount(p) => count_verdict(d, p as usize, v),
+        Role::MappingEntry(p) => entry_verdict(p as usize, v),
+    }
+}
+
+// What an SDO write of that value to the entry gives: 0 or the abort code.
+pub fn value_verdict(d: &[u8], e: Entry, v: u32) -> u32
+    requires { ⌜ (length (now d) ≡ dictionaryLength) × IsPdo (pdoOf (e .role)) ⌝ }
+    ensures { λ r. ⌜ r ≡ verdictCode (valueVerdictOf (now (d .entry)) e v) ⌝ }
+{
+    if v < e.least {
+        return BELOW_RANGE;
+    }
+    if e.greatest < v {
+        return ABOVE_RANGE;
+    }
+    let role = e.role;
+    role_verdict(d, role, v)
+}

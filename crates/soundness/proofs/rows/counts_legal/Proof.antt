@@ -1,0 +1,11 @@
+use borrow.Author.Needs.{needs}
+use Rattle.soundness.proofs.rows.counts_legal.Statement.{statement}
+use Rattle.soundness.proofs.rows.counts_legal.Tie as tie
+
+returns : tie.Need-returns
+returns c = cc
+
+pub counts-legal-spec : {M : Type 1} → statement M
+counts-legal-spec =
+    tie.close (tie.spec (λ c κs. search needs) (λ c. search needs) (λ c κs. search needs) (λ c. search needs) (λ c κs. search needs)
+    (λ c. search needs) (λ c κs. search needs) returns)

@@ -1,0 +1,79 @@
+// The rows of the table: constants as listed, values in range. A row that may hold any value of its type is not read.
+use dictionary::objects;
+use dictionary::places;
+use dictionary::records;
+ghost use mathlib.Core.Path.{_≡_};
+ghost use mathlib.Core.Bool.{_&&_};
+ghost use Prim.Native.Nat.{_≤_};
+ghost use lib.ListN.{length};
+ghost use Rattle.rules_dictionary.specs.Table.{nodeRows, driveRows, eachWay, dictionaryLength};
+ghost use Rattle.dictionary.specs.Sizes.{IsPdo};
+ghost use Rattle.rules.specs.Sound.{constantsAsListed, valuesInRange};
+ghost use Rattle.soundness.specs.Rows.{tests, communicationTest, communicationTests, countTests};
+
+// Whether the node's rows, 1000h to 1018h, are legal.
+fn node_legal(d: &[u8], n: u8) -> bool
+    requires { ⌜ length (now d) ≡ dictionaryLength ⌝ }
+    ensures { λ r. ⌜ r ≡ tests n (now (d .entry)) nodeRows ⌝ }
+{
+    let emergency = 0x80 + (n as u32);
+    (objects::device_type(d) == 0x0002_0192)
+        & ((objects::sync_identifier(d) == 0x80)
+            & ((objects::emergency_identifier(d) == emergency)
+                & ((objects::identity_count(d) == 1) & (objects::vendor(d) == 0))))
+}
+
+// Whether a PDO's communication record has its count, and a legal transmission type.
+fn communication_legal(d: &[u8], p: usize) -> bool
+    requires { ⌜ (length (now d) ≡ dictionaryLength) × IsPdo p ⌝ }
+    ensures { λ r. ⌜ r ≡ communicationTest (now (d .entry)) p ⌝ }
+{
+    let transmission = records::transmission_type(d, p);
+    (records::communication_count(d, p) == 2) & ((transmission <= 240) | (254 <= transmission))
+}
+
+// The same of the four PDOs from PDO p on.
+fn communications_legal(d: &[u8], p: usize) -> bool
+    requires { ⌜ (length (now d) ≡ dictionaryLength) × (p ≤ eachWay) ⌝ }
+    ensures { λ r. ⌜ r ≡ communicationTests (now (d .entry)) p ⌝ }
+{
+    communication_legal(d, p)
+        & (communication_legal(d, p + 1)
+            & (communication_legal(d, p + 2) & communication_legal(d, p + 3)))
+}
+
+// Whether the counts of the mappings of the four PDOs from PDO p on are eight at the most.
+fn counts_legal(d: &[u8], p: usize) -> bool
+    requires { ⌜ (length (now d) ≡ dictionaryLength) × (p ≤ eachWay) ⌝ }
+    ensures { λ r. ⌜ r ≡ countTests (now (d .entry)) p ⌝ }
+{
+    (records::map_count(d, p) <= 8)
+        & ((records::map_count(d, p + 1) <= 8)
+            & ((records::map_count(d, p + 2) <= 8) & (records::map_count(d, p + 3) <= 8)))
+}
+
+// Whether the drive's rows, 603Fh to 6502h, are legal; none of them depends on the node-ID.
+fn drive_legal(d: &[u8], n: u8) -> bool
+    requires { ⌜ length (now d) ≡ dictionaryLength ⌝ }
+    ensures { λ r. ⌜ r ≡ tests n (now (d .entry)) driveRows ⌝ }
+{
+    let mode = objects::mode(d);
+    ((mode == 0) | ((mode == 1) | (mode == 3)))
+        & ((objects::position_window(d) <= 0x7FFF_FFFF)
+            & ((objects::limit_count(d) == 2)
+                & ((1 <= objects::profile_acceleration(d))
+                    & ((1 <= objects::profile_deceleration(d))
+                        & (objects::supported_modes(d) == 5)))))
+}
+
+// Whether every constant is as listed and every value in range, on node n.
+pub fn rows_legal(d: &[u8], n: u8) -> bool
+    requires { ⌜ length (now d) ≡ dictionaryLength ⌝ }
+    ensures { λ r. ⌜ r ≡ (constantsAsListed n (now (d .entry)) && valuesInRange (now (d .entry))) ⌝ }
+{
+    node_legal(d, n)
+        & (communications_legal(d, 0)
+            & (counts_legal(d, 0)
+                & (communications_legal(d, places::EACH_WAY)
+                    & (counts_legal(d, places::EACH_WAY) & drive_legal(d, n)))))
+}

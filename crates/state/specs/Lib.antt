@@ -1,0 +1,2 @@
+pub mod NmtStates
+pub mod Occasions

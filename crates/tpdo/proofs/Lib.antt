@@ -1,0 +1,2 @@
+pub mod OnePdo
+pub mod Rounds
