@@ -2,42 +2,40 @@
 -- Assumes nothing.
 use Prim.Native.Nat.{ℕ, _≤_}
 use native.Mathlib.Omega.{arith}
-use mathlib.Core.Path.{_≡_, refl, sym, _∙_, ap}
-use mathlib.Core.Logic.{⊎-elim}
+use mathlib.Core.Path.{_≡_, refl, _∙_}
 use mathlib.Core.Bool.{Bool, true, false, cond}
-use mathlib.Core.List.{List, [], _∷_, _++_, append-nil}
+use mathlib.Core.List.{List, [], _∷_, append-nil}
 use lib.ListN.{length}
 use Rattle.state.specs.declared.Node.{Node}
 use Rattle.state.specs.declared.State.{State}
 use Rattle.state.specs.NmtStates.{isStopped}
-use Rattle.drive.specs.declared.Drive.{Drive}
 use Rattle.drive.specs.SetPoints.{controlWritten}
 use Rattle.rules_dictionary.specs.declared.Plan.{Plan}
 use Rattle.rules_dictionary.specs.declared.Role.{Role}
 use Rattle.rules_dictionary.specs.declared.Role.the-variants.{Plain, ModeOfOperation, PdoIdentifier, PdoType, MappingCount, MappingEntry}
-use Rattle.rules_dictionary.specs.Table.{Row, table, placeOf, controlWord, mode}
+use Rattle.rules_dictionary.specs.Table.{Row, placeOf, controlWord, mode}
 use Rattle.rules_dictionary.specs.Values.{Write, read, stored, unpacked}
+use Rattle.rules_dictionary.specs.Plans.{mapped}
 use Rattle.rules_dictionary.specs.Members.{In}
-use Rattle.rules_dictionary.proofs.Tests.{none-in}
-use Rattle.rules_dictionary.proofs.Members.{in-append}
-use Rattle.rules_services.specs.Effects.{Effect, Frame, becomes, writes, withDrive}
+use Rattle.rules_services.specs.Effects.{Effect, Frame, writes}
 use Rattle.rules_services.specs.Emergency.{faultGone}
 use Rattle.rules_services.specs.Written.{applied, wrote, countRestarted, faultReset}
 use Rattle.rules.specs.Outcome.{sentInto}
-use Rattle.theorems.proofs.Booleans.{any-false-of}
-use Rattle.theorems.proofs.Dictionary.{isPdo}
-use Rattle.theorems.proofs.PdoKept.{unpacked-rows}
-use Rattle.theorems.proofs.Writes.{InTable, NoPdo, one-row}
+use Rattle.theorems.proofs.Booleans.{any-false-of, whichever}
+use Rattle.theorems.proofs.Dictionary.{isPdo, mapped-in}
+use Rattle.theorems.proofs.PdoKept.{QuietRow, unpacked-rows}
+use Rattle.theorems.proofs.Writes.{NoPdo}
 use Rattle.theorems.proofs.Settled.{register-in}
+use Rattle.theorems.proofs.Services.{applied-all}
 use Rattle.mapping.specs.Received.{movesOf, hasPlace, storedMoves, Receives}
 use Rattle.mapping.proofs.Unpacked.{stored-is, control-is, mode-is, heartbeat-is, quiet-is, no-pdo-row}
 use Rattle.output.specs.Laying.{emitted}
 use Rattle.output.specs.declared.Parts.{Parts}
 use Rattle.output.specs.declared.Done.{Done}
-use Rattle.output.specs.Leaves.{partsOf, bare, isMapping, remaps, Leaves}
+use Rattle.output.specs.Leaves.{bare, isMapping, remaps, Leaves}
 use Rattle.output.proofs.Left.{as-effect, left-alike, loud}
 use Rattle.emergency.specs.Emergencies.{emergencyOf}
-use Rattle.emergency.specs.Acts.{acts, controlActs, modeActs}
+use Rattle.emergency.specs.Acts.{acts, controlActs}
 use Rattle.emergency.proofs.Written.{emergency-by, stored-acted, acts-alike}
 use Rattle.rpdo.specs.Traffic.{LeavesBy}
 use Rattle.rpdo.proofs.Leaving.{Behind, left-behind}
@@ -99,40 +97,24 @@ one-frame code v d = go (isStopped (v .nmt)) _
     go true f = omega arith
     go false f = omega arith
 
--- the node-ID, and the rows of the PDOs; and one frame is sent at the most
-pub record Keeps (s : State) (e : Effect) : Type 0 where
+-- the node-ID, and the rows of the PDOs; and n frames are sent at the most
+pub record Keeps (n : ℕ) (s : State) (e : Effect) : Type 0 where
   pub id : e .state .node .id ≡ s .node .id
-  pub few : length (e .sent) ≤ 1
-  pub rows : InTable (e .writes)
-  pub quiet : NoPdo (e .writes)
+  pub few : length (e .sent) ≤ n
+  pub quiet : (w : Write) → In w (e .writes) → QuietRow (w .row)
 
-pub keeps-still : (s : State) → Keeps s (becomes s)
-keeps-still s = record { id = refl; few = omega arith; rows = λ w i. absurd (none-in i); quiet = λ w i. absurd (none-in i) }
-
-keeps-acts : (old : ℕ) (m c : Bool) (s : State) (d : List ℕ) → Keeps s (acts old m c s d)
+pub keeps-applied : {plan : Plan} (p : ℕ) (bs : List ℕ) (s : State) (d : List ℕ) → Receives plan (mapped d p) →
+    Keeps 1 s (applied (unpacked (mapped d p) bs) s d)
 unfolding acts controlActs faultReset
-keeps-acts old m false s d = record { id = refl; few = omega arith; rows = λ w i. absurd (none-in i); quiet = λ w i. absurd (none-in i) }
-keeps-acts old m true s d = go (controlWritten d old (modeActs m (s .axis .drive) d) .reset) _
-  where
-    go : (b : Bool) (v : Drive) → Keeps s (cond b (faultReset (withDrive v s) d) (becomes (withDrive v s)))
-    go true v =
-        record {
-          id = refl;
-          few = rw (append-nil, emergency-by) (one-frame faultGone _ _);
-          rows = one-row (λ w. In (w .row) table) register-in;
-          quiet = one-row (λ w. isPdo (w .row .role) ≡ false) refl;
-        }
-    go false v = record { id = refl; few = omega arith; rows = λ w i. absurd (none-in i); quiet = λ w i. absurd (none-in i) }
-
-pub keeps-applied : {plan : Plan} {xs : List Row} (r : Receives plan xs) (bs : List ℕ) (s : State) (d : List ℕ) →
-    ((x : Row) → In x xs → In x table) → Keeps s (applied (unpacked xs bs) s d)
-keeps-applied {xs = xs} r bs s d inside =
-    let ws = unpacked xs bs in
-    let k = keeps-acts (read d controlWord) (wrote mode ws) (wrote controlWord ws) s (stored ws d) in
-    rw (acted-on r bs s d)
-    (record {
-      id = k .id;
-      few = k .few;
-      rows = λ w i. ⊎-elim (λ j. inside (w .row) (unpacked-rows xs bs j)) (k .rows w) (in-append ws i);
-      quiet = λ w i. ⊎-elim (quiet r bs w) (k .quiet w) (in-append ws i);
-    })
+keeps-applied p bs s d r =
+    let ws = unpacked (mapped d p) bs in
+    let P : Effect → Type 0 = λ e. (e .state .node .id ≡ s .node .id) × (length (e .sent) ≤ 1) in
+    let acted : P (applied ws s d) = rw (acted-on r bs s d)
+    (whichever P (wrote controlWord ws) (whichever P (controlWritten (stored ws d) (read d controlWord) _ .reset)
+    (refl, rw (append-nil, emergency-by) (one-frame faultGone _ _)) (refl, omega arith)) (refl, omega arith)) in
+    record {
+      id = acted .0;
+      few = acted .1;
+      quiet = applied-all (λ w. QuietRow (w .row)) ws s d (λ w i. (mapped-in d p (unpacked-rows (mapped d p) bs i), quiet r bs w i))
+          (λ e. (register-in, refl));
+    }

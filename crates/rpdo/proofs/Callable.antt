@@ -31,5 +31,6 @@ lawful-kept {s} {d} law fresh room =
       room = room;
       id = leb-true (s .node .id) lastNode (and-right (leb firstNode (s .node .id)) (leb (s .node .id) lastNode) (law .id));
       plans = λ p i.
-          rw (fresh, each-in (λ q. planAt (plansOf d) q ≡ planFor (mapped d q)) i (refl, (refl, (refl, (refl, tt))))) (legal-receives (law .dictionary) i);
+          rw (fresh, each-in (λ q. planAt (plansOf d) q ≡ planFor (mapped d q)) i (refl, (refl, (refl, (refl, tt)))))
+          (legal-receives (law .dictionary) i);
     }

@@ -3,7 +3,7 @@
 use Prim.Native.Nat.{ℕ, zero, suc, _+_, _/_, _%_, _<_}
 use native.Mathlib.Omega.{arith}
 use mathlib.Core.Path.{_≡_, refl, sym, _∙_, ap, ap₂}
-use mathlib.Core.Bool.{Bool, true, false, _&&_}
+use mathlib.Core.Bool.{Bool, true, false, _&&_, and-true}
 use mathlib.Core.List.{List, [], _∷_}
 use borrow.Author.Tests.{eq-eqb, ne-eqb}
 use lib.Dec.{eqb, ltb}
@@ -16,6 +16,7 @@ use Rattle.rules_dictionary.specs.Members.{In, here, there}
 use Rattle.rules_services.specs.Effects.{Effect, becomes}
 use Rattle.state.specs.NmtStates.{isOperational}
 use Rattle.rules_services.specs.PdoTraffic.{works, listens, received, receivedBy}
+use Rattle.theorems.proofs.Booleans.{and-false-if}
 use Rattle.theorems.proofs.Writes.{idle}
 use Rattle.rpdo.specs.Traffic.{hears}
 
@@ -34,11 +35,7 @@ module _ (d : List ℕ) (p i w : ℕ) (is : w ≡ read d (identifier p)) where
 
   pub for-another : (w % 0x800 ≡ i → ⊥) → hears i d p ≡ false
   unfolding hears
-  for-another n = rw (low, ne-eqb _ _ n) (go (isValid (read d (identifier p)) && ltb 0 (read d (mapCount p))))
-    where
-      go : (b : Bool) → (b && false) ≡ false
-      go true = refl
-      go false = refl
+  for-another n = and-false-if (isValid (read d (identifier p)) && ltb 0 (read d (mapCount p))) _ (λ e. rw (low, ne-eqb _ _ n))
 
   pub invalid : w / 0x80000000 % 2 ≡ 1 → hears i d p ≡ false
   unfolding hears
@@ -46,11 +43,7 @@ module _ (d : List ℕ) (p i w : ℕ) (is : w ≡ read d (identifier p)) where
 
   pub heard : w % 0x800 ≡ i → (w / 0x80000000 % 2 ≡ 1 → ⊥) → (c : ℕ) → c ≡ read d (mapCount p) → ltb 0 c ≡ hears i d p
   unfolding hears
-  heard e n c k = rw (low, eq-eqb _ _ e, ← is, ne-eqb _ _ n, ← k) (go (ltb 0 c))
-    where
-      go : (b : Bool) → b ≡ (b && true)
-      go true = refl
-      go false = refl
+  heard e n c k = rw (low, eq-eqb _ _ e, ← is, ne-eqb _ _ n, ← k) (sym (and-true (ltb 0 c)))
 
 -- ---- the PDO that a frame is for
 

@@ -3,8 +3,8 @@
 use Prim.Native.Nat.{ℕ, _+_}
 use native.Mathlib.Nat.{zero-add}
 use native.Mathlib.Omega.{arith}
-use mathlib.Core.Path.{_≡_, refl, sym, _∙_, ap, ap₂, subst}
-use mathlib.Core.Bool.{Bool, true, false, _||_}
+use mathlib.Core.Path.{_≡_, refl, sym, _∙_, ap, subst}
+use mathlib.Core.Bool.{Bool, true, false, _||_, or-assoc}
 use mathlib.Core.List.{List, [], _∷_, _++_, append-nil}
 use lib.ListN.{length, length-append}
 use Rattle.state.specs.declared.State.{State}
@@ -59,11 +59,7 @@ left-said code {d = d} h s e = (
 
 any-append : {A : Type 0} (f : A → Bool) (xs ys : List A) → any f (xs ++ ys) ≡ (any f xs || any f ys)
 any-append f [] ys = refl
-any-append f (x ∷ xs) ys = ap (λ (b : Bool). f x || b) (any-append f xs ys) ∙ go (f x)
-  where
-    go : (a : Bool) → (a || (any f xs || any f ys)) ≡ (a || any f xs || any f ys)
-    go true = refl
-    go false = refl
+any-append f (x ∷ xs) ys = rw (any-append f xs ys, or-assoc)
 
 -- an effect after those writes and those frames
 abbrev pub behind : List Write → List Frame → Occasion → Effect → Effect

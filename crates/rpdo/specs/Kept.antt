@@ -6,6 +6,7 @@ use mathlib.Core.Path.{_≡_}
 use mathlib.Core.List.{List, []}
 use lib.ListN.{length, getD}
 use Rattle.state.specs.declared.State.{State}
+use Rattle.rules_dictionary.specs.declared.PdoData.{PdoData}
 use Rattle.rules_dictionary.specs.declared.Plan.{Plan}
 use Rattle.rules_dictionary.specs.TheNode.{lastNode}
 use Rattle.rules_dictionary.specs.Table.{dictionaryLength, eachWay, receivePdos}
@@ -18,6 +19,10 @@ use Rattle.output.specs.declared.Parts.{Parts}
 -- the kept plan of a PDO; of none, none
 abbrev pub planAt : List Plan → ℕ → Plan
 planAt plans p = getD plans p (record { count = 0; moves = [] })
+
+-- the held frame of a receive PDO; of none, none
+abbrev pub heldAt : Parts → ℕ → PdoData
+heldAt parts p = getD (parts .held) p (record { length = 0; bytes = [] })
 
 -- the kept plans of the receive PDOs are those of their mappings
 abbrev pub PlansKept : List Plan → List ℕ → Type 0

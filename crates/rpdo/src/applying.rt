@@ -22,8 +22,10 @@ ghost use Rattle.rpdo.specs.Traffic.{LeavesBy};
 
 // The values of the rows that a receive PDO's plan is for, taken from those bytes, stored and acted on.
 pub fn apply(parts: Parts, plan: Plan, d: &mut [u8], output: &mut [u8], content: [u8; 8]) -> Done
-    requires { ⌜ (length (now d) ≡ dictionaryLength) × ((frameSize ≤ length (now output)) × ((parts .node .id ≤ lastNode) × MovesFit (plan .moves) (plan .count))) ⌝ }
-    ensures { λ r. ⌜ ((xs : List Row) → Receives plan xs → LeavesBy parts (applied (unpacked xs content)) (now (d .entry)) (now (output .entry)) r (now (d .exit)) (now (output .exit))) ⌝ }
+    requires { ⌜ (length (now d) ≡ dictionaryLength)
+        × ((frameSize ≤ length (now output)) × ((parts .node .id ≤ lastNode) × MovesFit (plan .moves) (plan .count))) ⌝ }
+    ensures { λ r. ⌜ ((xs : List Row) → Receives plan xs → LeavesBy parts (applied (unpacked xs content))
+        (now (d .entry)) (now (output .entry)) r (now (d .exit)) (now (output .exit))) ⌝ }
 {
     let old = objects::control_word(d);
     store_values(d, plan, content);

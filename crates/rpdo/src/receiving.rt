@@ -3,6 +3,7 @@
 use crate::applying::apply;
 use crate::dropping::refused;
 use crate::listening::hears;
+use dictionary::places;
 use dictionary::records;
 use emergency::emergency;
 use mapping::are_legal;
@@ -41,9 +42,6 @@ const TOO_LONG: u16 = 0x8220;
 // The last type that waits for SYNC.
 const LAST_SYNCHRONOUS: u8 = 240;
 
-// PDO 0 to 3 receive.
-const RECEIVE_PDOS: usize = 4;
-
 // The leading bytes, and zeros behind them.
 fn leading(content: [u8; 8], n: usize) -> [u8; 8]
     requires { ⌜ n ≤ 8 ⌝ }
@@ -68,7 +66,8 @@ fn judge(
     p: usize,
     content: PdoData,
 ) -> Done
-    requires { ⌜ Serves parts plan p (now d) × ((frameSize ≤ length (now output)) × (content .length ≡ mappedLength (mapped (now d) p))) ⌝ }
+    requires { ⌜ Serves parts plan p (now d)
+        × ((frameSize ≤ length (now output)) × (IsData content × (content .length ≡ mappedLength (mapped (now d) p)))) ⌝ }
     ensures { λ r. ⌜ LeavesBy parts (judged p (dataOf content)) (now (d .entry)) (now (output .entry)) r (now (d .exit)) (now (output .exit)) ⌝ }
 {
     let bytes = content.bytes;
@@ -81,10 +80,7 @@ fn judge(
     let node = parts.node;
     let drive = parts.drive;
     let mut held = parts.held;
-    held[p] = PdoData {
-        length: content.length,
-        bytes: leading(bytes, content.length as usize),
-    };
+    held[p] = content;
     becomes(Parts { node, drive, held }, true)
 }
 
@@ -100,40 +96,43 @@ fn received(
     requires { ⌜ Serves parts plan p (now d) × ((outputLength ≤ length (now output)) × IsData content) ⌝ }
     ensures { λ r. ⌜ LeavesBy parts (received p (dataOf content)) (now (d .entry)) (now (output .entry)) r (now (d .exit)) (now (output .exit)) ⌝ }
 {
-    let bytes = content.bytes;
     let needed = length_of(plan);
     if content.length < needed {
         return refused(TOO_SHORT, parts, d, output);
     }
-    let used = PdoData {
-        length: needed,
-        bytes,
-    };
     if needed < content.length {
         let node = parts.node;
         let n = emergency(TOO_LONG, node, d, output);
+        let bytes = content.bytes;
+        let used = PdoData {
+            length: needed,
+            bytes: leading(bytes, needed as usize),
+        };
         let mut done = judge(parts, plan, d, &mut output[FRAME_LENGTH * n..], p, used);
         done.frames += n;
         return done;
     }
-    judge(parts, plan, d, output, p, used)
+    judge(parts, plan, d, output, p, content)
 }
 
 // A frame on an identifier: for the first receive PDO that listens to it, if any. "A PDO works only in Operational".
 pub fn receive(s: State, d: &mut [u8], output: &mut [u8], identifier: u16, content: PdoData) -> Done
     requires { ⌜ Kept s (now d) (now output) × IsData content ⌝ }
-    ensures { λ r. ⌜ Leaves (receivedBy receivePdos identifier (dataOf content) s (now (d .entry))) (now (d .entry)) (now (output .entry)) r (now (d .exit)) (now (output .exit)) × Rests s (receivedBy receivePdos identifier (dataOf content) s (now (d .entry))) r ⌝ }
+    ensures { λ r. ⌜ Leaves (receivedBy receivePdos identifier (dataOf content) s (now (d .entry)))
+        (now (d .entry)) (now (output .entry)) r (now (d .exit)) (now (output .exit))
+        × Rests s (receivedBy receivePdos identifier (dataOf content) s (now (d .entry))) r ⌝ }
 {
     let node = s.node;
     let nmt = node.nmt;
     if !nmt.is_operational() {
         return becomes(parts_of(s), true);
     }
-    let axis = s.axis;
-    let plans = axis.plans;
     let mut p: usize = 0;
-    while p < RECEIVE_PDOS {
+    while p < places::EACH_WAY {
         if hears(d, p, identifier) {
+            // Read here and not before the loop: indexed by a variable they are copied whole.
+            let axis = s.axis;
+            let plans = axis.plans;
             return received(parts_of(s), plans[p], d, output, p, content);
         }
         p += 1;

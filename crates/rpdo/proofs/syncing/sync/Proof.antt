@@ -27,7 +27,8 @@ returns-2 c =
     let t = p .before in
     let e = t .before in
     let a = e .before .before .before .before .before .args in
-    rw (sym (e .before .is-stopped .ensures) ∙ e .if1 .left, ne-eqb (a .length) 0 (t .if2 .taken)) (c .before .before .refused .ensures (a .s) (p .parts-of2 .ensures))
+    rw (sym (e .before .is-stopped .ensures) ∙ e .if1 .left, ne-eqb (a .length) 0 (t .if2 .taken))
+    (c .before .before .refused .ensures (a .s) (p .parts-of2 .ensures))
 
 returns-3 : tie.Need-returns-3
 unfolding syncOf
@@ -37,7 +38,8 @@ returns-3 c =
     let l = t .before .before in
     let e = l .before in
     let a = e .before .before .before .before .before .args in
-    rw (sym (e .before .is-stopped .ensures) ∙ e .if1 .left, eq-eqb (a .length) 0 (l .if2 .left), sym (t .before .is-operational .ensures) ∙ t .if3 .taken)
+    let z = sym (e .before .is-stopped .ensures) ∙ e .if1 .left in
+    rw (z, eq-eqb (a .length) 0 (l .if2 .left), sym (t .before .is-operational .ensures) ∙ t .if3 .taken)
     (f .release-all .ensures .0, loud (a .s) _ (f .release-all .result) (f .release-all .ensures .1))
 
 returns-4 : tie.Need-returns-4
@@ -47,7 +49,8 @@ returns-4 c =
     let l = t .before .before in
     let e = l .before in
     let a = e .before .before .before .before .before .args in
-    rw (sym (e .before .is-stopped .ensures) ∙ e .if1 .left, eq-eqb (a .length) 0 (l .if2 .left), sym (t .before .is-operational .ensures) ∙ t .if3 .left)
+    let z = sym (e .before .is-stopped .ensures) ∙ e .if1 .left in
+    rw (z, eq-eqb (a .length) 0 (l .if2 .left), sym (t .before .is-operational .ensures) ∙ t .if3 .left)
     (left-still (c .before .parts-of3 .ensures) (c .becomes2 .ensures))
 
 pub sync-spec : {M : Type 1} → statement M
