@@ -27,7 +27,8 @@ module _ (n : ℕ) {d o : List ℕ} {r : Done} {d′ o′ : List ℕ} (first : f
     (left : Leaves (powerUp n) d o r d′ o′) (remapped : r .remapped ≡ true) where
   gives : GivesPlans d′
   gives =
-      let law : LawfulAfter d (powerUp n) = fresh-lawful n d (and-both (leb firstNode n) (leb n lastNode) (le-leb firstNode n first) (le-leb n lastNode last)) long in
+      let law : LawfulAfter d (powerUp n) = fresh-lawful n d
+      (and-both (leb firstNode n) (leb n lastNode) (le-leb firstNode n first) (le-leb n lastNode last)) long in
       rw (left .dictionary) (plannable (law .long) (law .dictionary))
 
   pub may-start : MayRenew r d′

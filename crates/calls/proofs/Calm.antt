@@ -45,7 +45,8 @@ idles m d p k occasion off h =
     let counted = cond (works m d p && isCyclic (typeOf d p)) (ltb (k .count) (typeOf d p)) (eqb (k .count) 0) in
     let marked = not (k .due) || (works m d p && eqb (typeOf d p) 0) in
     rw (off, or-false (k .due))
-    (go (works m d p) (isCyclic (typeOf d p)) (eqb (typeOf d p) 0) (k .due) (apart (typeOf d p)) (and-left counted marked h) (and-right counted marked h))
+    (go (works m d p) (isCyclic (typeOf d p)) (eqb (typeOf d p) 0) (k .due) (apart (typeOf d p)) (and-left counted marked h)
+    (and-right counted marked h))
   where
     go : (w c z u : Bool) → (c && z) ≡ false → cond (w && c) (ltb (k .count) (typeOf d p)) (eqb (k .count) 0) ≡ true → (not u || (w && z)) ≡ true →
         cond w (cond c (paced false (k .count) false) (cond z (paced false 0 u) (paced false 0 false))) (paced false 0 false)
@@ -110,6 +111,7 @@ module _ (s : State) (parts : Parts) (occasion : Occasion) (d : List ℕ) (long 
   unfolding endWith waitingSound
   end-still =
       let m = s .node .nmt in
-      let w = and-left (pairwise (paceSound m d) transmitPdos (s .axis .paces)) (pairwise (heldSound m d) receivePdos (s .axis .held)) (clauses s d good .waiting) in
+      let w = and-left (pairwise (paceSound m d) transmitPdos (s .axis .paces)) (pairwise (heldSound m d) receivePdos (s .axis .held))
+      (clauses s d good .waiting) in
       let each = at-each (paceSound m d) (s .axis .paces) w (turnsOf s parts occasion d) turn-still d (readyOf d) in
       rw made-still (refl, (each .0, (sym ready, each .1)))

@@ -21,7 +21,8 @@ use Rattle.state.specs.declared.Pace.{Pace}
 use Rattle.state.specs.NmtStates.{isOperational}
 use Rattle.rules_services.specs.Effects.{Effect, Frame}
 use Rattle.rules_services.specs.PdoTraffic.{works, idle}
-use Rattle.rules.specs.Outcome.{End, ended, settled, statusOf, driveAtEnd, paceFor, entersOperational, changes, transmissions, transmitters, frameSize, sentInto}
+use Rattle.rules.specs.Outcome.{End, ended, settled, statusOf, driveAtEnd, paceFor, entersOperational, changes}
+use Rattle.rules.specs.Outcome.{transmissions, transmitters, frameSize, sentInto}
 use Rattle.rules.specs.Calls.{accepted, outputLength}
 use Rattle.theorems.proofs.Booleans.{clash}
 use Rattle.theorems.proofs.Lawful.{Lawful, clauses, sound-lawful}
@@ -85,7 +86,8 @@ module _ {s : State} {d o : List ℕ} {e : Effect} {r : Done} {d′ o′ : List 
   end-is = rw (left .parts, left .occasion, left .dictionary) (ended-by s d e (reg .paces))
 
   -- the plans at its end
-  plans-end : (b : Bool) → r .remapped ≡ b → let f = endOf s (r .parts) (r .occasion) d′ in cond b (plansOf (f .dictionary)) (s .axis .plans) ≡ plansOf (f .dictionary)
+  plans-end : (b : Bool) → r .remapped ≡ b →
+      let f = endOf s (r .parts) (r .occasion) d′ in cond b (plansOf (f .dictionary)) (s .axis .plans) ≡ plansOf (f .dictionary)
   unfolding endWith
   plans-end true q = refl
   plans-end false q = plans q ∙ sym (plans-alike d′ _ (made-alike (r .parts) d′))
@@ -110,7 +112,8 @@ module _ {s : State} {d o : List ℕ} {e : Effect} {r : Done} {d′ o′ : List 
 -- ---- of a frame or an event: what its service leaves, the end may finish
 
 transmitter : (t : ℕ) → t < eachWay → In t transmitters
-transmitter t h = subst (λ (q : ℕ). In q transmitters) (eqb-true _ _ (below (λ i. eqb (getD transmitters i 0) i) eachWay t refl h)) (getD-in transmitters t 0 h)
+transmitter t h =
+    subst (λ (q : ℕ). In q transmitters) (eqb-true _ _ (below (λ i. eqb (getD transmitters i 0) i) eachWay t refl h)) (getD-in transmitters t 0 h)
 
 few-spoken : (n : ℕ) (e : Effect) → SpeaksAs n e → length (e .sent) ≤ mostBefore
 few-spoken n e w = subst (λ (l : List Frame). length l ≤ mostBefore) (sym (w .1 .whole)) (rw (length-append, length-append) (w .1 .few))
@@ -141,7 +144,8 @@ module _ {s : State} {d o : List ℕ} {e : Effect} {r : Done} {d′ o′ : List 
 
   ready-at : r .remapped ≡ false → r .touched ≡ false → s .axis .ready ≡ readyOf d′
   ready-at q t =
-      fresh ∙ sym (ready-stays (e .writes) d (reg .rows) (sym (left .remapped) ∙ q) (sym (left .touched) ∙ t) (law .dictionary)) ∙ rw (left .dictionary)
+      fresh ∙ sym (ready-stays (e .writes) d (reg .rows) (sym (left .remapped) ∙ q) (sym (left .touched) ∙ t) (law .dictionary))
+      ∙ rw (left .dictionary)
 
   counts-at : CountsBelow s (r .parts) d′
   unfolding works

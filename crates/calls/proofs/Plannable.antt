@@ -30,7 +30,8 @@ module _ {n : ℕ} {d : List ℕ} (ok : DictionaryOk n d) {p : ℕ} (i : In p pd
   legal : mappingLegal d p ≡ true
   unfolding mappingLegal
   legal =
-      and-both _ _ (entries-good d i ∙ all-of (λ k. isGood (entryVerdict p (read d (mapEntry p k)))) mapSlots (λ k j. ok .words p k i j)) (ok .counts p i)
+      and-both _ _ (entries-good d i ∙ all-of (λ k. isGood (entryVerdict p (read d (mapEntry p k)))) mapSlots (λ k j. ok .words p k i j))
+      (ok .counts p i)
 
   few : read d (mapCount p) ≤ mostMoves
   unfolding inRange

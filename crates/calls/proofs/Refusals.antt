@@ -12,7 +12,7 @@ use Rattle.state.specs.declared.Refusal.{Refusal}
 use Rattle.state.specs.declared.Refusal.the-variants.{DictionaryLength, OutputLength, NodeId, NotSound, BadFrame, BadEvent, OutOfPlace}
 use Rattle.rules_dictionary.specs.TheNode.{firstNode, lastNode, isNodeId}
 use Rattle.rules_dictionary.specs.Table.{dictionaryLength}
-use Rattle.rules_dictionary.proofs.Tests.{and-both}
+use Rattle.rules_dictionary.proofs.Tests.{and-both, and-left, and-right}
 use Rattle.rules_services.specs.Nmt.{powerUp}
 use Rattle.rules_services.specs.declared.Told.{Told}
 use Rattle.rules_services.specs.declared.Told.the-variants.{Happened, Bad}
@@ -20,12 +20,17 @@ use Rattle.rules_services.specs.declared.Event.{Event}
 use Rattle.rules_services.specs.Events.{eventOf, isInPlace, happens}
 use Rattle.rules.specs.Outcome.{mostData}
 use Rattle.rules.specs.Sound.{sound}
-use Rattle.rules.specs.Calls.{Call, powerUpCall, frameCall, eventCall, Decision, refuses, does, framed, eventDecision, decision, decided, refused, answered, answer, outputLength, lastFrameIdentifier}
+use Rattle.rules.specs.Calls.{Call, powerUpCall, frameCall, eventCall, Decision, refuses, does, framed, eventDecision, decision, decided, refused}
+use Rattle.rules.specs.Calls.{answered, answer, outputLength, lastFrameIdentifier}
 use Rattle.theorems.proofs.Runs.{passed}
 use Rattle.theorems.proofs.Booleans.{clash}
 use Rattle.calls.specs.declared.Opening.{Opening}
-use Rattle.calls.specs.Opening.{refusedFor, notRefused, lending, opening}
-use Rattle.calls.specs.Briefs.{outcome, whole, refusal}
+use Rattle.form.specs.Form.{stateLength, stateOf, form, isForm}
+use Rattle.form.specs.Typed.{Typed}
+use Rattle.form.proofs.Rows.{length-form}
+use Rattle.form.proofs.OneForm.{stateOf-form, isForm-form}
+use Rattle.calls.specs.Opening.{refusedFor, notRefused, lending, thenBy, opening, holdsSound, openingOf}
+use Rattle.calls.specs.Briefs.{outcome, refusedAnswer}
 use Rattle.calls.specs.Ending.{Stands}
 
 -- ---- a decision, where its test is known
@@ -60,97 +65,133 @@ module _ (d o : List ℕ) where
       go true false h = absurd (true≢false h)
       go false b h = absurd (true≢false h)
 
-  module _ (s : State) where
-    pub opens-not : lending d o .refused ≡ true → lending d o ≡ opening s d o
-    unfolding opening
+  pub lengths : lending d o .refused ≡ false → (length d ≡ dictionaryLength) × (outputLength ≤ length o)
+  unfolding lending
+  lengths h = go (eqb (length d) dictionaryLength) (leb outputLength (length o)) refl refl h
+    where
+      go : (a b : Bool) → eqb (length d) dictionaryLength ≡ a → leb outputLength (length o) ≡ b →
+          cond a (cond b notRefused (refusedFor OutputLength)) (refusedFor DictionaryLength) .refused ≡ false →
+          (length d ≡ dictionaryLength) × (outputLength ≤ length o)
+      go true true e f k = (eqb-true _ _ e, leb-true _ _ f)
+      go true false e f k = absurd (true≢false k)
+      go false b e f k = absurd (true≢false k)
+
+  -- and then by another test
+  module _ (passes : Bool) (why : Refusal) where
+    pub opens-not : lending d o .refused ≡ true → lending d o ≡ thenBy passes why d o
+    unfolding thenBy
     opens-not h = rw h
 
-    pub opens-by : lending d o .refused ≡ false → (b : Bool) → sound s d ≡ b → cond b notRefused (refusedFor NotSound) ≡ opening s d o
-    unfolding opening
+    pub opens-by : lending d o .refused ≡ false → (b : Bool) → passes ≡ b → cond b notRefused (refusedFor why) ≡ thenBy passes why d o
+    unfolding thenBy
     opens-by h b e = rw (h, e)
+
+    pub passes-both : thenBy passes why d o .refused ≡ false → (lending d o .refused ≡ false) × (passes ≡ true)
+    unfolding thenBy
+    passes-both h = go (lending d o .refused) passes refl refl h
+      where
+        go : (a b : Bool) → lending d o .refused ≡ a → passes ≡ b → cond a (lending d o) (cond b notRefused (refusedFor why)) .refused ≡ false →
+            (lending d o .refused ≡ false) × (passes ≡ true)
+        go true b e f k = clash (lending d o .refused) e k
+        go false false e f k = absurd (true≢false k)
+        go false true e f k = (e, f)
 
 -- ---- of every call: what is lent
 
 module _ (c : Call) (s : State) (d o : List ℕ) where
   -- a refusal by what is lent
-  pub not-lent : lending d o .refused ≡ true → outcome (whole s d (refusal (lending d o .why) s)) d o ≡ answer c s d o
+  pub not-lent : lending d o .refused ≡ true → outcome (refusedAnswer (lending d o .why) s) d o ≡ answer c s d o
   unfolding lending answer decided answered refused
   not-lent h = go (eqb (length d) dictionaryLength) (leb outputLength (length o)) h
     where
       go : (a b : Bool) → cond a (cond b notRefused (refusedFor OutputLength)) (refusedFor DictionaryLength) .refused ≡ true →
-          outcome (whole s d (refusal (cond a (cond b notRefused (refusedFor OutputLength)) (refusedFor DictionaryLength) .why) s)) d o
+          outcome (refusedAnswer (cond a (cond b notRefused (refusedFor OutputLength)) (refusedFor DictionaryLength) .why) s) d o
           ≡ answered (elim a [ true ↦ elim b [ true ↦ decision c s d | false ↦ refuses OutputLength ] | false ↦ refuses DictionaryLength ]) s d o
       go false b h = refl
       go true false h = refl
       go true true h = absurd (false≢true h)
 
   module _ (h : lending d o .refused ≡ false) where
-    pub lengths : (length d ≡ dictionaryLength) × (outputLength ≤ length o)
-    unfolding lending
-    lengths = go (eqb (length d) dictionaryLength) (leb outputLength (length o)) refl refl h
-      where
-        go : (a b : Bool) → eqb (length d) dictionaryLength ≡ a → leb outputLength (length o) ≡ b →
-            cond a (cond b notRefused (refusedFor OutputLength)) (refusedFor DictionaryLength) .refused ≡ false →
-            (length d ≡ dictionaryLength) × (outputLength ≤ length o)
-        go true true e f k = (eqb-true _ _ e, leb-true _ _ f)
-        go true false e f k = absurd (true≢false k)
-        go false b e f k = absurd (true≢false k)
-
     -- then what is decided of the call
     pub decides : (x : Decision) → decision c s d ≡ x → answer c s d o ≡ answered x s d o
     unfolding answer decided
     decides x e =
-        let l = lengths in
+        let l = lengths d o h in
         ap (λ (y : Decision). answered y s d o)
         (passed (eqb (length d) dictionaryLength) _ (refuses DictionaryLength) (eq-eqb (length d) dictionaryLength (l .0))
         ∙ passed (leb outputLength (length o)) (decision c s d) (refuses OutputLength) (le-leb outputLength (length o) (l .1)) ∙ e)
 
-    pub decides-not : (why : Refusal) → decision c s d ≡ refuses why → outcome (whole s d (refusal why s)) d o ≡ answer c s d o
+    pub decides-not : (why : Refusal) → decision c s d ≡ refuses why → outcome (refusedAnswer why s) d o ≡ answer c s d o
     unfolding answered refused
     decides-not why e = sym (decides (refuses why) e)
 
--- ---- of a frame and an event: and the state is sound
+-- ---- and then by the test of the call
 
--- it is refused first where the state is not sound
-abbrev pub Sounds : Call → State → List ℕ → Type 0
-Sounds c s d = sound s d ≡ false → decision c s d ≡ refuses NotSound
-
-module _ (c : Call) (s : State) (d o : List ℕ) (unsound : Sounds c s d) where
-  pub not-opened : opening s d o .refused ≡ true → outcome (whole s d (refusal (opening s d o .why) s)) d o ≡ answer c s d o
-  unfolding opening
-  not-opened h = go (lending d o .refused) (sound s d) refl refl h
+module _ (c : Call) (s : State) (d o : List ℕ) {passes : Bool} {why : Refusal} (fails-by : passes ≡ false → decision c s d ≡ refuses why) where
+  pub not-opened : thenBy passes why d o .refused ≡ true → outcome (refusedAnswer (thenBy passes why d o .why) s) d o ≡ answer c s d o
+  unfolding thenBy
+  not-opened h = go (lending d o .refused) passes refl refl h
     where
-      go : (a b : Bool) → lending d o .refused ≡ a → sound s d ≡ b → cond a (lending d o) (cond b notRefused (refusedFor NotSound)) .refused ≡ true →
-          outcome (whole s d (refusal (cond a (lending d o) (cond b notRefused (refusedFor NotSound)) .why) s)) d o ≡ answer c s d o
+      go : (a b : Bool) → lending d o .refused ≡ a → passes ≡ b → cond a (lending d o) (cond b notRefused (refusedFor why)) .refused ≡ true →
+          outcome (refusedAnswer (cond a (lending d o) (cond b notRefused (refusedFor why)) .why) s) d o ≡ answer c s d o
       go true b e f k = not-lent c s d o e
-      go false false e f k = decides-not c s d o e NotSound (unsound f)
+      go false false e f k = decides-not c s d o e why (fails-by f)
       go false true e f k = absurd (false≢true k)
 
-pub opened-stands : {s : State} {d o : List ℕ} → opening s d o .refused ≡ false → (lending d o .refused ≡ false) × Stands s d o
-unfolding opening
-opened-stands {s} {d} {o} h = go (lending d o .refused) (sound s d) refl refl h
-  where
-    go : (a b : Bool) → lending d o .refused ≡ a → sound s d ≡ b → cond a (lending d o) (cond b notRefused (refusedFor NotSound)) .refused ≡ false →
-        (lending d o .refused ≡ false) × Stands s d o
-    go true b e f k = clash (lending d o .refused) e k
-    go false false e f k = absurd (true≢false k)
-    go false true e f k = let l = lengths (powerUpCall 0) s d o e in (e, record { long = l .0; room = l .1; sound = f })
+pub opened-stands : (s : State) (d o : List ℕ) → opening s d o .refused ≡ false → Stands s d o
+opened-stands s d o h =
+    let p = passes-both d o (sound s d) NotSound h in
+    let l = lengths d o (p .0) in
+    record { long = l .0; room = l .1; sound = p .1 }
+
+-- what stands is lent well
+pub stands-lent : {s : State} {d o : List ℕ} → Stands s d o → lending d o .refused ≡ false
+stands-lent {s} {d} {o} h = rw (← (well-lent d o (h .long) (h .room)))
+
+-- a state as its bytes
+pub opens-form : (s : State) (d o : List ℕ) → Typed s → openingOf (form s) d o ≡ opening s d o
+opens-form s d o t = rw (eq-eqb (length (form s)) stateLength (length-form s t), isForm-form s t, stateOf-form s t)
+
+-- bytes of the right length, and of another
+pub held-by : (bs d : List ℕ) → length bs ≡ stateLength → holdsSound bs d ≡ (isForm bs && sound (stateOf bs) d)
+held-by bs d l = ap (λ (b : Bool). b && (isForm bs && sound (stateOf bs) d)) (eq-eqb (length bs) stateLength l)
+
+pub held-not : (bs d : List ℕ) → (length bs ≡ stateLength → ⊥) → holdsSound bs d ≡ false
+held-not bs d n = ap (λ (b : Bool). b && (isForm bs && sound (stateOf bs) d)) (ne-eqb (length bs) stateLength n)
+
+-- bytes that pass: they hold a state, and it stands
+pub opened-in : (bs d o : List ℕ) → openingOf bs d o .refused ≡ false → (length bs ≡ stateLength) × ((isForm bs ≡ true) × Stands (stateOf bs) d o)
+opened-in bs d o h =
+    let p = passes-both d o (holdsSound bs d) NotSound h in
+    let l = lengths d o (p .0) in
+    let q = and-right (eqb (length bs) stateLength) _ (p .1) in (
+      eqb-true (length bs) stateLength (and-left (eqb (length bs) stateLength) _ (p .1)),
+      (and-left (isForm bs) _ q, record { long = l .0; room = l .1; sound = and-right (isForm bs) _ q }),
+    )
 
 -- ---- power-up: the node-ID
 
-module _ (n : ℕ) (s : State) (d : List ℕ) where
-  pub too-low : n < firstNode → decision (powerUpCall n) s d ≡ refuses NodeId
-  unfolding decision
-  too-low h = fails (isNodeId n) (does (powerUp n)) (refuses NodeId) (ap (λ (b : Bool). b && leb n lastNode) (lt-leb firstNode n h))
+module _ (n : ℕ) where
+  pub node-low : n < firstNode → isNodeId n ≡ false
+  node-low h = ap (λ (b : Bool). b && leb n lastNode) (lt-leb firstNode n h)
 
-  pub too-high : lastNode < n → decision (powerUpCall n) s d ≡ refuses NodeId
-  unfolding decision
-  too-high h =
-      fails (isNodeId n) (does (powerUp n)) (refuses NodeId) (ap (λ (b : Bool). leb firstNode n && b) (lt-leb n lastNode h) ∙ and-false (leb firstNode n))
+  pub node-high : lastNode < n → isNodeId n ≡ false
+  node-high h = ap (λ (b : Bool). leb firstNode n && b) (lt-leb n lastNode h) ∙ and-false (leb firstNode n)
 
-  pub a-node : firstNode ≤ n → n ≤ lastNode → decision (powerUpCall n) s d ≡ does (powerUp n)
-  unfolding decision
-  a-node l h = passed (isNodeId n) (does (powerUp n)) (refuses NodeId) (and-both (leb firstNode n) (leb n lastNode) (le-leb firstNode n l) (le-leb n lastNode h))
+  pub a-node-id : firstNode ≤ n → n ≤ lastNode → isNodeId n ≡ true
+  a-node-id l h = and-both (leb firstNode n) (leb n lastNode) (le-leb firstNode n l) (le-leb n lastNode h)
+
+  pub node-between : isNodeId n ≡ true → (firstNode ≤ n) × (n ≤ lastNode)
+  node-between h = (leb-true firstNode n (and-left (leb firstNode n) _ h), leb-true n lastNode (and-right (leb firstNode n) _ h))
+
+  module _ (s : State) (d : List ℕ) where
+    pub no-node : isNodeId n ≡ false → decision (powerUpCall n) s d ≡ refuses NodeId
+    unfolding decision
+    no-node h = fails (isNodeId n) (does (powerUp n)) (refuses NodeId) h
+
+    pub a-node : isNodeId n ≡ true → decision (powerUpCall n) s d ≡ does (powerUp n)
+    unfolding decision
+    a-node h = passed (isNodeId n) (does (powerUp n)) (refuses NodeId) h
 
 -- ---- a frame and an event: soundness first
 
@@ -160,7 +201,8 @@ module _ (i : ℕ) (bs : List ℕ) (s : State) (d : List ℕ) where
   unsound-frame h = fails (sound s d) _ (refuses NotSound) h
 
   module _ (h : sound s d ≡ true) where
-    formed : decision (frameCall i bs) s d ≡ elim (leb i lastFrameIdentifier && leb (length bs) mostData) [ true ↦ does (framed i bs s d) | false ↦ refuses BadFrame ]
+    formed : decision (frameCall i bs) s d
+        ≡ elim (leb i lastFrameIdentifier && leb (length bs) mostData) [ true ↦ does (framed i bs s d) | false ↦ refuses BadFrame ]
     unfolding decision
     formed = passed (sound s d) _ (refuses NotSound) h
 

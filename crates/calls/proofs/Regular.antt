@@ -38,7 +38,8 @@ pub record Regular (s : State) (e : Effect) : Type 0 where
 
 -- ---- nothing written
 
-unwritten : (s : State) (e : Effect) → e .writes ≡ [] → (isOperational (e .state .node .nmt) ≡ true → e .state .axis .paces ≡ s .axis .paces) → Regular s e
+unwritten : (s : State) (e : Effect) → e .writes ≡ [] → (isOperational (e .state .node .nmt) ≡ true → e .state .axis .paces ≡ s .axis .paces) →
+    Regular s e
 unwritten s e none paces =
     record { rows = λ w i. absurd (none-in (rw none at i)); paces = paces; idle = λ h. absurd (false≢true (rw none at h)) }
 
@@ -98,13 +99,15 @@ beside ws P h r vs which w i =
 
 -- what acting on 6040h leaves
 Acts : State → Effect → Type 0
-Acts t e = ((e .state .node .nmt ≡ t .node .nmt) × (e .state .axis .paces ≡ t .axis .paces)) × ((e .writes ≡ []) ⊎ (e .writes ≡ write errorRegister 0 ∷ []))
+Acts t e =
+    ((e .state .node .nmt ≡ t .node .nmt) × (e .state .axis .paces ≡ t .axis .paces)) × ((e .writes ≡ []) ⊎ (e .writes ≡ write errorRegister 0 ∷ []))
 
 control-acts : (old : ℕ) (ws : List Write) (t : State) (d : List ℕ) → Acts t (controlActed old ws t d)
 unfolding Acts controlActed faultReset
 control-acts old ws t d =
     let c = controlWritten d old (t .axis .drive) in
-    whichever (Acts t) (wrote controlWord ws) (whichever (Acts t) (c .reset) ((refl, refl), inr refl) ((refl, refl), inl refl)) ((refl, refl), inl refl)
+    whichever (Acts t) (wrote controlWord ws) (whichever (Acts t) (c .reset) ((refl, refl), inr refl) ((refl, refl), inl refl))
+    ((refl, refl), inl refl)
 
 applied-applies : (ws : List Write) (s : State) (d : List ℕ) → MayApply s d ws → Applies s (applied ws s d)
 unfolding applied modeActed countRestarted Acts
@@ -173,8 +176,10 @@ regular {s = s} (Serves.begins inside) k law = power-up-regular (s .node .id) s
 regular {s = s} (Serves.moves q h) k law = unwritten s _ refl (λ on. refl)
 regular {s = s} (Serves.reaches h) k law = unwritten s _ refl (λ on. refl)
 regular {s = s} Serves.recovers k law = unwritten s _ refl (λ on. refl)
-regular {s = s} (Serves.faults code register fits inside) k law = record { rows = two-rows (code-row .inside) register-in; paces = λ on. refl; idle = λ h. absurd (false≢true h) }
-regular {s = s} (Serves.feeds at speed fits inside) k law = record { rows = two-rows (position-row .inside) (velocity-row .inside); paces = λ on. refl; idle = λ h. absurd (false≢true h) }
+regular {s = s} (Serves.faults code register fits inside) k law =
+    record { rows = two-rows (code-row .inside) register-in; paces = λ on. refl; idle = λ h. absurd (false≢true h) }
+regular {s = s} (Serves.feeds at speed fits inside) k law =
+    record { rows = two-rows (position-row .inside) (velocity-row .inside); paces = λ on. refl; idle = λ h. absurd (false≢true h) }
 regular {s = s} (Serves.powers v) k law = unwritten s _ refl (λ on. refl)
 regular {s = s} Serves.rests k law = unwritten s _ refl (λ on. refl)
 regular {s = s} (Serves.counts e) k law = unwritten s _ refl (λ on. refl)

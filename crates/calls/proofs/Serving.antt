@@ -22,8 +22,10 @@ use Rattle.rules_services.specs.Nmt.{nmt, nmtIdentifier}
 use Rattle.rules.specs.Outcome.{mostData}
 use Rattle.rules.specs.Calls.{framed}
 use Rattle.theorems.proofs.Lawful.{Lawful, clauses, sound-lawful}
-use Rattle.theorems.proofs.Sent.{length-padded}
+use Rattle.rules_dictionary.proofs.Padded.{length-padded}
 use Rattle.soundness.proofs.Fresh.{plans-are}
+use Rattle.form.specs.Form.{stateOf}
+use Rattle.output.specs.declared.Parts.{Parts}
 use Rattle.output.specs.declared.Done.{Done}
 use Rattle.output.specs.Laying.{OnBus, dataOf}
 use Rattle.output.proofs.Frames.{length-data}
@@ -34,36 +36,44 @@ use Rattle.nmt.specs.Commanding.{MayReset}
 use Rattle.rpdo.specs.Kept.{Kept}
 use Rattle.rpdo.specs.Traffic.{syncOf}
 use Rattle.rpdo.proofs.Callable.{lawful-kept, sync-by-length}
-use Rattle.calls.specs.Ending.{Stands}
-use Rattle.calls.specs.Frames.{requested, serviced, ServedBy}
+use Rattle.calls.specs.Frames.{Starts, requested, serviced, ServedBy}
 
 -- ---- of a sound state and dictionary
 
-module _ {s : State} {d o : List ℕ} (h : Stands s d o) where
-  law : Lawful s d
-  law = sound-lawful s d (h .long) (h .sound)
+module _ {parts : Parts} {bs d o : List ℕ} (h : Starts parts bs d o) where
+  law : Lawful (stateOf bs) d
+  law = sound-lawful (stateOf bs) d (h .stands .long) (h .stands .sound)
 
-  pub last-node : s .node .id ≤ lastNode
-  last-node = leb-true _ _ (and-right (leb firstNode (s .node .id)) _ (law .id))
+  -- the rules' state in the words of its parts
+  pub nmt-own : parts .node .nmt ≡ stateOf bs .node .nmt
+  nmt-own = ap (λ (p : Parts). p .node .nmt) (h .own)
 
-  pub servable : Servable (s .node) d o
-  servable = record { long = h .long; room = h .room; id = last-node }
+  pub id-own : parts .node .id ≡ stateOf bs .node .id
+  id-own = ap (λ (p : Parts). p .node .id) (h .own)
 
-  pub may-reset : MayReset (s .node .id) d o
+  pub last-node : parts .node .id ≤ lastNode
+  last-node = rw (h .own) (leb-true _ _ (and-right (leb firstNode (stateOf bs .node .id)) _ (law .id)))
+
+  pub servable : Servable (parts .node) d o
+  servable = record { long = h .stands .long; room = h .stands .room; id = last-node }
+
+  pub may-reset : MayReset (parts .node .id) d o
   may-reset =
       record {
-        long = h .long;
-        room = omega (arith, h .room);
-        first = leb-true _ _ (and-left (leb firstNode (s .node .id)) _ (law .id));
+        long = h .stands .long;
+        room = omega (arith, h .stands .room);
+        first = rw (h .own) (leb-true _ _ (and-left (leb firstNode (stateOf bs .node .id)) _ (law .id)));
         last = last-node;
       }
 
-  pub kept : Kept s d o
-  kept = lawful-kept law (plans-are s d (clauses s d (h .sound) .plans)) (h .room)
+  pub kept : Kept parts bs d o
+  kept =
+      rw (h .own) (lawful-kept (h .bytes) law (plans-are (stateOf bs) d (clauses (stateOf bs) d (h .stands .sound) .plans)) (h .stands .room))
 
 -- ---- another name for the effect
 
-pub as-served : {s : State} {e e′ : Effect} {d o : List ℕ} {r : Done} {d′ o′ : List ℕ} → e′ ≡ e → ServedBy s e d o r d′ o′ → ServedBy s e′ d o r d′ o′
+pub as-served : {s : State} {e e′ : Effect} {d o : List ℕ} {r : Done} {d′ o′ : List ℕ} → e′ ≡ e → ServedBy s e d o r d′ o′ →
+    ServedBy s e′ d o r d′ o′
 as-served is h = rw is h
 
 module _ (bs : List ℕ) (s : State) (d : List ℕ) where
@@ -81,7 +91,8 @@ module _ (bs : List ℕ) (s : State) (d : List ℕ) where
   pub serviced-request : (i : ℕ) → (i ≡ syncBase → ⊥) → i ≡ requestBase + s .node .id → serviced i bs s d ≡ requested bs s d
   serviced-request i n e = rw (ne-eqb i syncBase n, eq-eqb i (requestBase + s .node .id) e)
 
-  pub serviced-received : (i : ℕ) → (i ≡ syncBase → ⊥) → (i ≡ requestBase + s .node .id → ⊥) → serviced i bs s d ≡ receivedBy receivePdos i bs s d
+  pub serviced-received : (i : ℕ) → (i ≡ syncBase → ⊥) → (i ≡ requestBase + s .node .id → ⊥) →
+      serviced i bs s d ≡ receivedBy receivePdos i bs s d
   serviced-received i n k = rw (ne-eqb i syncBase n, ne-eqb i (requestBase + s .node .id) k)
 
 -- ---- a frame as data
@@ -92,10 +103,11 @@ module _ (content : PdoData) (c : OnBus content) (s : State) (d : List ℕ) wher
 
   whole-data : content .length ≡ requestLength → dataOf content ≡ content .bytes
   whole-data e =
-      let l : length (content .bytes) ≡ mostData = ap length (c .shape .zeros) ∙ length-padded mostData (dataOf content) in
+      let l : length (content .bytes) ≡ mostData = ap length (c .shape .zeros) ∙ length-padded 0 mostData (dataOf content) in
       take-all (content .length) (content .bytes) (omega (arith, l, e))
 
-  pub request-served : isStopped (s .node .nmt) ≡ false → content .length ≡ requestLength → requested (dataOf content) s d ≡ sdo (content .bytes) s d
+  pub request-served : isStopped (s .node .nmt) ≡ false → content .length ≡ requestLength →
+      requested (dataOf content) s d ≡ sdo (content .bytes) s d
   request-served on e =
       let bs = dataOf content in
       let long : eqb (length bs) requestLength ≡ true = eq-eqb (length bs) requestLength (length-data content (c .shape) ∙ e) in
@@ -103,7 +115,8 @@ module _ (content : PdoData) (c : OnBus content) (s : State) (d : List ℕ) wher
 
   -- a request that is not served
   pub request-stopped : isStopped (s .node .nmt) ≡ true → requested (dataOf content) s d ≡ becomes s
-  request-stopped on = rw on (ap (λ (x : Bool). cond x (sdo (dataOf content) s d) (becomes s)) (and-false (eqb (length (dataOf content)) requestLength)))
+  request-stopped on =
+      rw on (ap (λ (x : Bool). cond x (sdo (dataOf content) s d) (becomes s)) (and-false (eqb (length (dataOf content)) requestLength)))
 
   pub request-short : (content .length ≡ requestLength → ⊥) → requested (dataOf content) s d ≡ becomes s
   request-short n =

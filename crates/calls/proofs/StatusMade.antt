@@ -34,7 +34,8 @@ module _ (node : Node) (drive : Drive) (d : List ℕ) (word shown : ℕ) (w : wo
   both-written = rw (w, m)
 
   -- where both stand there already, nothing is to be made
-  pub both-stand : areBytes d ≡ true → length d ≡ dictionaryLength → read d statusWord ≡ word → read d modeDisplay ≡ shown → d ≡ settledBy node drive d
+  pub both-stand : areBytes d ≡ true → length d ≡ dictionaryLength → read d statusWord ≡ word → read d modeDisplay ≡ shown →
+      d ≡ settledBy node drive d
   unfolding settledBy
   both-stand b l p q =
       let first : store statusWord (statusBy node drive d) d ≡ d =

@@ -52,7 +52,8 @@ module _ (ws : List Write) (d : List ℕ) (rows : InTable ws) where
         words : mapWords (stored ws d) q ≡ mapWords d q
         words =
             words-read (stored ws d) i
-            ∙ map-same (λ k. read (stored ws d) (mapEntry q k)) (λ k. read d (mapEntry q k)) mapSlots (λ k j. mapping-stays (mapEntry q k) (entry-in i j) refl)
+            ∙ map-same (λ k. read (stored ws d) (mapEntry q k)) (λ k. read d (mapEntry q k)) mapSlots
+            (λ k j. mapping-stays (mapEntry q k) (entry-in i j) refl)
             ∙ sym (words-read d i)
 
     pub plans-stay : plansOf (stored ws d) ≡ plansOf d

@@ -27,7 +27,8 @@ one-more-taken (suc zero) (b ∷ bs) zero h k = refl
 one-more-taken (suc (suc n)) (b ∷ bs) zero h k = refl
 one-more-taken (suc n) (b ∷ bs) (suc i) h k = ap (λ (l : List ℕ). b ∷ l) (one-more-taken n bs i (omega arith) (omega arith))
 
-pub next-taken : (bs : List ℕ) (i : ℕ) → i < mostData → i < length bs → set (padded 0 mostData (take i bs)) i (getD bs i 0) ≡ padded 0 mostData (take (i + 1) bs)
+pub next-taken : (bs : List ℕ) (i : ℕ) → i < mostData → i < length bs →
+    set (padded 0 mostData (take i bs)) i (getD bs i 0) ≡ padded 0 mostData (take (i + 1) bs)
 next-taken bs i h k = rw add-one (one-more-taken mostData bs i h k)
 
 pub all-taken : (bs : List ℕ) (i : ℕ) → i ≤ length bs → length bs ≤ i → record { length = i; bytes = padded 0 mostData (take i bs) } ≡ pdoData bs

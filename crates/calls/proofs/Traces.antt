@@ -11,7 +11,8 @@ use Rattle.calls.specs.Traces.{Allowed, Trace, ends, goes, TracesAreRuns
 standing : Outcome → Stand
 standing x = record { state = x .state; dictionary = x .dictionary }
 
-stand-left : (k : Step) (a : Stand) (r : Answer) (d o : List ℕ) → Allowed k a r d o → _≡_ {A = Stand} (record { state = r .state; dictionary = d }) (left k a)
+stand-left : (k : Step) (a : Stand) (r : Answer) (d o : List ℕ) → Allowed k a r d o →
+    _≡_ {A = Stand} (record { state = r .state; dictionary = d }) (left k a)
 unfolding standing
 stand-left k a r d o e = ap standing e
 

@@ -13,6 +13,7 @@ use Rattle.state.specs.declared.State.{State}
 use Rattle.state.specs.declared.Refusal.{Refusal}
 use Rattle.state.specs.declared.Answer.{Answer}
 use Rattle.rules.specs.Calls.{Outcome}
+use Rattle.form.specs.Form.{stateOf}
 use Rattle.calls.specs.Briefs.{outcome, whole}
 use Rattle.calls.proofs.power_up as power-up
 use Rattle.calls.proofs.power_up.Kinds as power-up-kinds
@@ -49,7 +50,8 @@ same r r′ d o d′ o′ e = (
 
 module _ (κs : Lfts 2) (a : ArgsD power-up.signature κs) where
   pub power-up-unique : (r r′ : ResD power-up.signature κs) (x x′ : AtExit (endedOf 2 power-up-kinds.ps power-up-kinds.r) κs) →
-      power-up-reads.Post κs a r x → power-up-reads.Post κs a r′ x′ → Same r (now (x .1 .0)) (now (x .1 .1 .0)) r′ (now (x′ .1 .0)) (now (x′ .1 .1 .0))
+      power-up-reads.Post κs a r x → power-up-reads.Post κs a r′ x′ → Same r (now (x .1 .0)) (now (x .1 .1 .0)) r′ (now (x′ .1 .0))
+      (now (x′ .1 .1 .0))
   power-up-unique r r′ x x′ p q = same r r′ (now (x .1 .0)) (now (x .1 .1 .0)) (now (x′ .1 .0)) (now (x′ .1 .1 .0)) (p ∙ sym q)
 
 module _ (κs : Lfts 3) (a : ArgsD frame.signature κs) where
@@ -65,22 +67,28 @@ module _ (κs : Lfts 3) (a : ArgsD event.signature κs) where
 -- ---- in brief
 
 module _ (κs : Lfts 2) (a : ArgsD brief-power-up.signature κs) where
-  pub brief-power-up-unique : (r r′ : ResD brief-power-up.signature κs) (x x′ : AtExit (endedOf 2 brief-power-up-kinds.ps brief-power-up-kinds.r) κs) →
+  pub brief-power-up-unique : (s : State) (r r′ : ResD brief-power-up.signature κs)
+      (x x′ : AtExit (endedOf 2 brief-power-up-kinds.ps brief-power-up-kinds.r) κs) →
       brief-power-up-reads.Post κs a r x → brief-power-up-reads.Post κs a r′ x′ →
-      Same (whole (a .0) (now (x .1 .0)) r) (now (x .1 .0)) (now (x .1 .1 .0)) (whole (a .0) (now (x′ .1 .0)) r′) (now (x′ .1 .0)) (now (x′ .1 .1 .0))
-  brief-power-up-unique r r′ x x′ p q =
-      same (whole (a .0) (now (x .1 .0)) r) (whole (a .0) (now (x′ .1 .0)) r′) (now (x .1 .0)) (now (x .1 .1 .0)) (now (x′ .1 .0)) (now (x′ .1 .1 .0)) (p .0 ∙ sym (q .0))
+      Same (whole s (now (x .0)) r) (now (x .0)) (now (x .1 .0)) (whole s (now (x′ .0)) r′) (now (x′ .0)) (now (x′ .1 .0))
+  brief-power-up-unique s r r′ x x′ p q =
+      same (whole s (now (x .0)) r) (whole s (now (x′ .0)) r′) (now (x .0)) (now (x .1 .0)) (now (x′ .0)) (now (x′ .1 .0))
+      (p .0 s .0 ∙ sym (q .0 s .0))
 
-module _ (κs : Lfts 3) (a : ArgsD brief-frame.signature κs) where
-  pub brief-frame-unique : (r r′ : ResD brief-frame.signature κs) (x x′ : AtExit (endedOf 3 brief-frame-kinds.ps brief-frame-kinds.r) κs) →
-      brief-frame-reads.Post κs a r x → brief-frame-reads.Post κs a r′ x′ →
-      Same (whole (a .0) (now (x .1 .0)) r) (now (x .1 .0)) (now (x .1 .1 .0)) (whole (a .0) (now (x′ .1 .0)) r′) (now (x′ .1 .0)) (now (x′ .1 .1 .0))
+module _ (κs : Lfts 4) (a : ArgsD brief-frame.signature κs) where
+  pub brief-frame-unique : (r r′ : ResD brief-frame.signature κs) (x x′ : AtExit (endedOf 4 brief-frame-kinds.ps brief-frame-kinds.r) κs) →
+      brief-frame-reads.Post κs a r x → brief-frame-reads.Post κs a r′ x′ → let s = stateOf (now (a .0)) in
+      Same (whole s (now (x .1 .0)) r) (now (x .1 .0)) (now (x .1 .1 .0)) (whole s (now (x′ .1 .0)) r′) (now (x′ .1 .0)) (now (x′ .1 .1 .0))
   brief-frame-unique r r′ x x′ p q =
-      same (whole (a .0) (now (x .1 .0)) r) (whole (a .0) (now (x′ .1 .0)) r′) (now (x .1 .0)) (now (x .1 .1 .0)) (now (x′ .1 .0)) (now (x′ .1 .1 .0)) (p .0 ∙ sym (q .0))
+      let s = stateOf (now (a .0)) in
+      same (whole s (now (x .1 .0)) r) (whole s (now (x′ .1 .0)) r′) (now (x .1 .0)) (now (x .1 .1 .0)) (now (x′ .1 .0)) (now (x′ .1 .1 .0))
+      (p .0 ∙ sym (q .0))
 
-module _ (κs : Lfts 3) (a : ArgsD brief-event.signature κs) where
-  pub brief-event-unique : (r r′ : ResD brief-event.signature κs) (x x′ : AtExit (endedOf 3 brief-event-kinds.ps brief-event-kinds.r) κs) →
-      brief-event-reads.Post κs a r x → brief-event-reads.Post κs a r′ x′ →
-      Same (whole (a .0) (now (x .1 .0)) r) (now (x .1 .0)) (now (x .1 .1 .0)) (whole (a .0) (now (x′ .1 .0)) r′) (now (x′ .1 .0)) (now (x′ .1 .1 .0))
+module _ (κs : Lfts 4) (a : ArgsD brief-event.signature κs) where
+  pub brief-event-unique : (r r′ : ResD brief-event.signature κs) (x x′ : AtExit (endedOf 4 brief-event-kinds.ps brief-event-kinds.r) κs) →
+      brief-event-reads.Post κs a r x → brief-event-reads.Post κs a r′ x′ → let s = stateOf (now (a .0)) in
+      Same (whole s (now (x .1 .0)) r) (now (x .1 .0)) (now (x .1 .1 .0)) (whole s (now (x′ .1 .0)) r′) (now (x′ .1 .0)) (now (x′ .1 .1 .0))
   brief-event-unique r r′ x x′ p q =
-      same (whole (a .0) (now (x .1 .0)) r) (whole (a .0) (now (x′ .1 .0)) r′) (now (x .1 .0)) (now (x .1 .1 .0)) (now (x′ .1 .0)) (now (x′ .1 .1 .0)) (p .0 ∙ sym (q .0))
+      let s = stateOf (now (a .0)) in
+      same (whole s (now (x .1 .0)) r) (whole s (now (x′ .1 .0)) r′) (now (x .1 .0)) (now (x .1 .1 .0)) (now (x′ .1 .0)) (now (x′ .1 .1 .0))
+      (p .0 ∙ sym (q .0))

@@ -20,6 +20,10 @@ abbrev pub outcome : Answer → List ℕ → List ℕ → Outcome
 outcome a dictionary output =
     record { refusal = a .refusal; frames = a .frames; state = a .state; dictionary = dictionary; output = output }
 
+-- the answer of a refused call
+abbrev pub refusedAnswer : Refusal → State → Answer
+refusedAnswer why s = record { refusal = why; frames = 0; state = s }
+
 -- ---- answers in brief
 
 -- the whole of an answer in brief: its plans are those of the state at the start or, where a mapping was written, those that the dictionary gives

@@ -1,42 +1,37 @@
 // From a service to the answer in brief, through the call's end.
 ghost use mathlib.Core.Path.{_≡_};
-ghost use mathlib.Core.Bool.{true, false};
+ghost use mathlib.Core.Bool.{false};
 ghost use Prim.Native.Nat.{_≤_};
+ghost use lib.ListN.{length};
 ghost use Rattle.rules_dictionary.specs.Plans.{readyOf};
+ghost use Rattle.form.specs.Form.{stateLength, stateOf};
 ghost use Rattle.tpdo.specs.Sending.{mostBefore};
 ghost use Rattle.calls.specs.Ending.{rested, MayFinish, MayRenew, MayReady, Renews, Stepped};
 use crate::Brief;
 use crate::settling::settle;
+use form::read_node;
+use form::read_paces;
+use form::read_ready;
 use mapping::ready_anew;
 use mapping::ready_by;
 use output::Done;
 use rules_dictionary::PdoData;
-use state::Pace;
 use state::Refusal;
-use state::State;
+use tpdo::IDLE;
 use tpdo::transmit_all;
 
-// Nothing counted, and not due.
-const IDLE: Pace = Pace {
-    count: 0,
-    due: false,
-};
-
 // A quiet service: nothing is left to do.
-fn rest(done: Done, s: State) -> Brief
-    requires { ⌜ done .frames ≤ mostBefore ⌝ }
-    ensures { λ r. ⌜ r ≡ rested s done ⌝ }
+fn rest(done: Done, state: &[u8]) -> Brief
+    requires { ⌜ (length (now state) ≡ stateLength) × (done .frames ≤ mostBefore) ⌝ }
+    ensures { λ r. ⌜ r ≡ rested (stateOf (now (state .entry))) done ⌝ }
 {
-    let axis = s.axis;
     let parts = done.parts;
-    let ready = axis.ready;
-    let paces = axis.paces;
     Brief {
         refusal: Refusal::Accepted,
         frames: done.frames as u8,
         parts: parts,
-        ready: ready,
-        paces: paces,
+        ready: read_ready(state),
+        paces: read_paces(state),
         remapped: false,
     }
 }
@@ -62,38 +57,33 @@ pub fn anew(done: Done, d: &mut [u8]) -> Brief
 }
 
 // The ready frames at the call's end: worked again by the kept plans where something was written that can be mapped.
-fn ready_at_end(written: bool, s: State, d: &[u8]) -> [PdoData; 4]
-    requires { ⌜ MayReady written s (now d) ⌝ }
+fn ready_at_end(written: bool, state: &[u8], d: &[u8]) -> [PdoData; 4]
+    requires { ⌜ (length (now state) ≡ stateLength) × MayReady written (stateOf (now state)) (now d) ⌝ }
     ensures { λ r. ⌜ r ≡ readyOf (now (d .entry)) ⌝ }
 {
-    let axis = s.axis;
-    let plans = axis.plans;
     if written {
-        return ready_by(plans, d);
+        return ready_by(state, d);
     }
-    axis.ready
+    read_ready(state)
 }
 
 // 6041h and 6061h made, the ready frames worked again, and the transmit PDOs sent as they are due.
-fn end_call(done: Done, s: State, d: &mut [u8], output: &mut [u8]) -> Brief
-    requires { ⌜ MayFinish s done (now d) (now output) × (done .remapped ≡ false) ⌝ }
-    ensures { λ r. ⌜ Stepped s done (now (d .entry)) (now (output .entry)) r (now (d .exit)) (now (output .exit)) ⌝ }
+fn end_call(done: Done, state: &[u8], d: &mut [u8], output: &mut [u8]) -> Brief
+    requires { ⌜ (length (now state) ≡ stateLength) × (MayFinish (stateOf (now state)) done (now d) (now output) × (done .remapped ≡ false)) ⌝ }
+    ensures { λ r. ⌜ Stepped (stateOf (now (state .entry))) done (now (d .entry)) (now (output .entry)) r (now (d .exit)) (now (output .exit)) ⌝ }
 {
     let parts = done.parts;
     let node = parts.node;
     let drive = parts.drive;
     let written = settle(node, drive, done.touched, d);
-    let ready = ready_at_end(written, s, d);
-    let before = s.node;
+    let ready = ready_at_end(written, state, d);
+    let before = read_node(state);
     let was = before.nmt;
     let nmt = node.nmt;
-    let axis = s.axis;
-    let kept = axis.ready;
-    let paces = axis.paces;
     let occasion = done.occasion;
     let sent = transmit_all(
-        kept,
-        paces,
+        read_ready(state),
+        read_paces(state),
         was.is_operational(),
         nmt,
         occasion,
@@ -113,16 +103,16 @@ fn end_call(done: Done, s: State, d: &mut [u8], output: &mut [u8]) -> Brief
     }
 }
 
-// What a service left of a call that started in s, finished.
-pub fn finish(done: Done, s: State, d: &mut [u8], output: &mut [u8]) -> Brief
-    requires { ⌜ MayFinish s done (now d) (now output) ⌝ }
-    ensures { λ r. ⌜ Stepped s done (now (d .entry)) (now (output .entry)) r (now (d .exit)) (now (output .exit)) ⌝ }
+// What a service left of a call that started in the state that the bytes hold, finished.
+pub fn finish(done: Done, state: &[u8], d: &mut [u8], output: &mut [u8]) -> Brief
+    requires { ⌜ (length (now state) ≡ stateLength) × MayFinish (stateOf (now state)) done (now d) (now output) ⌝ }
+    ensures { λ r. ⌜ Stepped (stateOf (now (state .entry))) done (now (d .entry)) (now (output .entry)) r (now (d .exit)) (now (output .exit)) ⌝ }
 {
     if done.quiet {
-        return rest(done, s);
+        return rest(done, state);
     }
     if done.remapped {
         return anew(done, d);
     }
-    end_call(done, s, d, output)
+    end_call(done, state, d, output)
 }

@@ -1,8 +1,8 @@
 // The three public calls: power-up, one frame, one event. Each takes the state and hands it back by value; dictionary and output are
 // lent. None asks anything of its caller, and each promise is one equation with the rules' answer (`Calls.answer`): it determines the
 // refusal, the number of frames, the state and every byte of what is lent. proofs/Unique.antt says so.
-// Each stands upon the same call in brief, which leaves out the plans, most of a state's bytes: they change only where a mapping is written,
-// and a caller that keeps the state where it is need not copy them.
+// Each stands upon the same call on a state that is lent as bytes, tested first (`powering`, `opened`) and answered in brief, without the
+// plans, most of a state's bytes: they change only where a mapping is written, and a caller that keeps the state where it is need not copy them.
 
 mod opens; // the refusals that need no more than what is lent
 mod served; // a frame, by its identifier
@@ -14,29 +14,35 @@ use events::event_of;
 use events::is_in_place;
 use finishing::anew;
 use finishing::finish;
+use form::form_of;
 use nmt::start;
-pub use opens::lent;
-use opens::opened;
+pub use opens::opened;
+pub use opens::powering;
 use output::MOST_DATA;
 use output::Parts;
+use output::parts_of;
 use rules_dictionary::PdoData;
 use rules_services::Told;
-use served::take_frame;
+use served::serve_frame;
 use state::Answer;
-use state::FIRST_NODE;
-use state::LAST_NODE;
 use state::Pace;
 use state::Refusal;
 use state::State;
-pub use whole::refuse;
-pub use whole::with_plans;
+use whole::refuse;
+use whole::refused;
+use whole::with_plans;
 ghost use mathlib.Core.Path.{_≡_};
+ghost use mathlib.Core.Bool.{true, false};
 ghost use Prim.Native.Nat.{_≤_};
 ghost use lib.ListN.{length};
+ghost use Rattle.state.specs.declared.State.{State};
 ghost use Rattle.rules_dictionary.specs.Plans.{pdoData};
 ghost use Rattle.rules.specs.Outcome.{mostData};
 ghost use Rattle.rules.specs.Calls.{powerUpCall, frameCall, eventCall, answer};
+ghost use Rattle.form.specs.Form.{stateLength, stateOf};
+ghost use Rattle.calls.specs.Opening.{powering};
 ghost use Rattle.calls.specs.Briefs.{outcome};
+ghost use Rattle.calls.specs.Ending.{Stands};
 ghost use Rattle.calls.specs.Promise.{InBrief};
 
 // The greatest identifier of a frame.
@@ -58,21 +64,12 @@ pub struct Brief {
     pub remapped: bool,
 }
 
-// Power-up as node n, in brief.
-pub fn brief_power_up(s: State, d: &mut [u8], output: &mut [u8], n: u32) -> Brief
-    ensures { λ r. ⌜ InBrief (powerUpCall n) s (now (d .entry)) (now (output .entry)) r (now (d .exit)) (now (output .exit)) ⌝ }
+// Power-up as node n, in brief, where nothing refuses it: whatever the state was, its plans too are made anew.
+pub fn brief_power_up(d: &mut [u8], output: &mut [u8], n: u32) -> Brief
+    requires { ⌜ powering n (now d) (now output) .refused ≡ false ⌝ }
+    ensures { λ r. ⌜ ((s : State) → InBrief (powerUpCall n) s (now (d .entry)) (now (output .entry)) r (now (d .exit)) (now (output .exit)))
+        × (r .remapped ≡ true) ⌝ }
 {
-    let opening = lent(d, output);
-    if opening.refused {
-        let why = opening.why;
-        return refuse(why, s);
-    }
-    if n < FIRST_NODE {
-        return refuse(Refusal::NodeId, s);
-    }
-    if LAST_NODE < n {
-        return refuse(Refusal::NodeId, s);
-    }
     let done = start(d, output, n as u8);
     anew(done, d)
 }
@@ -94,53 +91,58 @@ fn content_of(bytes: &[u8]) -> PdoData
     }
 }
 
-// One frame of the bus, in brief.
+// One frame of the bus, in brief, on a sound state that is lent as bytes.
 pub fn brief_frame(
-    s: State,
+    state: &[u8],
     d: &mut [u8],
     output: &mut [u8],
     identifier: u32,
     bytes: &[u8],
 ) -> Brief
-    ensures { λ r. ⌜ InBrief (frameCall identifier (now (bytes .entry))) s (now (d .entry)) (now (output .entry)) r (now (d .exit)) (now (output .exit)) ⌝ }
+    requires { ⌜ (length (now state) ≡ stateLength) × Stands (stateOf (now state)) (now d) (now output) ⌝ }
+    ensures { λ r. ⌜ InBrief (frameCall identifier (now (bytes .entry))) (stateOf (now (state .entry))) (now (d .entry)) (now (output .entry))
+        r (now (d .exit)) (now (output .exit)) ⌝ }
 {
-    let opening = opened(s, d, output);
-    if opening.refused {
-        let why = opening.why;
-        return refuse(why, s);
-    }
     if LAST_IDENTIFIER < identifier {
-        return refuse(Refusal::BadFrame, s);
+        return refused(Refusal::BadFrame, state);
     }
     if MOST_DATA < bytes.len() {
-        return refuse(Refusal::BadFrame, s);
+        return refused(Refusal::BadFrame, state);
     }
-    take_frame(identifier as u16, content_of(bytes), s, d, output)
+    let parts = parts_of(state);
+    let done = serve_frame(
+        identifier as u16,
+        content_of(bytes),
+        parts,
+        state,
+        d,
+        output,
+    );
+    finish(done, state, d, output)
 }
 
-// One event of the amplifier, in brief.
+// One event of the amplifier, in brief, on a sound state that is lent as bytes.
 pub fn brief_event(
-    s: State,
+    state: &[u8],
     d: &mut [u8],
     output: &mut [u8],
     number: u32,
     arguments: &[u8],
 ) -> Brief
-    ensures { λ r. ⌜ InBrief (eventCall number (now (arguments .entry))) s (now (d .entry)) (now (output .entry)) r (now (d .exit)) (now (output .exit)) ⌝ }
+    requires { ⌜ (length (now state) ≡ stateLength) × Stands (stateOf (now state)) (now d) (now output) ⌝ }
+    ensures { λ r. ⌜ InBrief (eventCall number (now (arguments .entry))) (stateOf (now (state .entry))) (now (d .entry)) (now (output .entry))
+        r (now (d .exit)) (now (output .exit)) ⌝ }
 {
-    let opening = opened(s, d, output);
-    if opening.refused {
-        let why = opening.why;
-        return refuse(why, s);
-    }
     match event_of(number, arguments) {
-        Told::Bad => refuse(Refusal::BadEvent, s),
+        Told::Bad => refused(Refusal::BadEvent, state),
         Told::Happened(e) => {
-            if !is_in_place(e, s) {
-                return refuse(Refusal::OutOfPlace, s);
+            let parts = parts_of(state);
+            let drive = parts.drive;
+            if !is_in_place(e, drive) {
+                return refused(Refusal::OutOfPlace, state);
             }
-            let done = events::happens(e, s, d, output);
-            finish(done, s, d, output)
+            let done = events::happens(e, parts, d, output);
+            finish(done, state, d, output)
         }
     }
 }
@@ -149,22 +151,41 @@ pub fn brief_event(
 pub fn power_up(s: State, d: &mut [u8], output: &mut [u8], n: u32) -> Answer
     ensures { λ r. ⌜ outcome r (now (d .exit)) (now (output .exit)) ≡ answer (powerUpCall n) s (now (d .entry)) (now (output .entry)) ⌝ }
 {
-    let b = brief_power_up(s, d, output, n);
+    let opening = powering(n, d, output);
+    if opening.refused {
+        let why = opening.why;
+        return refuse(why, s);
+    }
+    let b = brief_power_up(d, output, n);
     with_plans(s, b, d)
 }
 
 // One frame of the bus.
 pub fn frame(s: State, d: &mut [u8], output: &mut [u8], identifier: u32, bytes: &[u8]) -> Answer
-    ensures { λ r. ⌜ outcome r (now (d .exit)) (now (output .exit)) ≡ answer (frameCall identifier (now (bytes .entry))) s (now (d .entry)) (now (output .entry)) ⌝ }
+    ensures { λ r. ⌜ outcome r (now (d .exit)) (now (output .exit))
+        ≡ answer (frameCall identifier (now (bytes .entry))) s (now (d .entry)) (now (output .entry)) ⌝ }
 {
-    let b = brief_frame(s, d, output, identifier, bytes);
+    let state = form_of(s);
+    let opening = opened(&state, d, output);
+    if opening.refused {
+        let why = opening.why;
+        return refuse(why, s);
+    }
+    let b = brief_frame(&state, d, output, identifier, bytes);
     with_plans(s, b, d)
 }
 
 // One event of the amplifier.
 pub fn event(s: State, d: &mut [u8], output: &mut [u8], number: u32, arguments: &[u8]) -> Answer
-    ensures { λ r. ⌜ outcome r (now (d .exit)) (now (output .exit)) ≡ answer (eventCall number (now (arguments .entry))) s (now (d .entry)) (now (output .entry)) ⌝ }
+    ensures { λ r. ⌜ outcome r (now (d .exit)) (now (output .exit))
+        ≡ answer (eventCall number (now (arguments .entry))) s (now (d .entry)) (now (output .entry)) ⌝ }
 {
-    let b = brief_event(s, d, output, number, arguments);
+    let state = form_of(s);
+    let opening = opened(&state, d, output);
+    if opening.refused {
+        let why = opening.why;
+        return refuse(why, s);
+    }
+    let b = brief_event(&state, d, output, number, arguments);
     with_plans(s, b, d)
 }

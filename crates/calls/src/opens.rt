@@ -1,28 +1,31 @@
-// The refusals that come first: the lengths of what is lent, and then soundness.
+// The refusals that come first: the lengths of what is lent, then of power-up the node-ID, of a frame or an event soundness.
 ghost use mathlib.Core.Path.{_≡_};
-ghost use Rattle.calls.specs.Opening.{lending, opening};
+ghost use Rattle.calls.specs.Opening.{refusedFor, lending, powering, openingOf};
 use crate::Opening;
 use dictionary::places::DICTIONARY_LENGTH;
+use form::layout::STATE_LENGTH;
 use output::OUTPUT_LENGTH;
 use soundness::is_sound;
+use state::FIRST_NODE;
+use state::LAST_NODE;
 use state::Refusal;
-use state::State;
+
+// Refused for that reason.
+fn refused(why: Refusal) -> Opening
+    ensures { λ r. ⌜ r ≡ refusedFor why ⌝ }
+{
+    Opening { refused: true, why }
+}
 
 // Of every call: what is lent is long enough.
-pub fn lent(d: &[u8], output: &[u8]) -> Opening
+fn lent(d: &[u8], output: &[u8]) -> Opening
     ensures { λ r. ⌜ r ≡ lending (now (d .entry)) (now (output .entry)) ⌝ }
 {
     if d.len() != DICTIONARY_LENGTH {
-        return Opening {
-            refused: true,
-            why: Refusal::DictionaryLength,
-        };
+        return refused(Refusal::DictionaryLength);
     }
     if output.len() < OUTPUT_LENGTH {
-        return Opening {
-            refused: true,
-            why: Refusal::OutputLength,
-        };
+        return refused(Refusal::OutputLength);
     }
     Opening {
         refused: false,
@@ -30,19 +33,36 @@ pub fn lent(d: &[u8], output: &[u8]) -> Opening
     }
 }
 
-// Of a frame or an event: and state and dictionary are sound.
-pub fn opened(s: State, d: &[u8], output: &[u8]) -> Opening
-    ensures { λ r. ⌜ r ≡ opening s (now (d .entry)) (now (output .entry)) ⌝ }
+// Of power-up: and the node-ID is one.
+pub fn powering(n: u32, d: &[u8], output: &[u8]) -> Opening
+    ensures { λ r. ⌜ r ≡ powering n (now (d .entry)) (now (output .entry)) ⌝ }
 {
     let lengths = lent(d, output);
     if lengths.refused {
         return lengths;
     }
-    if is_sound(s, d) {
+    if n < FIRST_NODE {
+        return refused(Refusal::NodeId);
+    }
+    if LAST_NODE < n {
+        return refused(Refusal::NodeId);
+    }
+    lengths
+}
+
+// Of a frame or an event: and the bytes hold a state, which is sound with the dictionary.
+pub fn opened(state: &[u8], d: &[u8], output: &[u8]) -> Opening
+    ensures { λ r. ⌜ r ≡ openingOf (now (state .entry)) (now (d .entry)) (now (output .entry)) ⌝ }
+{
+    let lengths = lent(d, output);
+    if lengths.refused {
         return lengths;
     }
-    Opening {
-        refused: true,
-        why: Refusal::NotSound,
+    if state.len() != STATE_LENGTH {
+        return refused(Refusal::NotSound);
     }
+    if is_sound(state, d) {
+        return lengths;
+    }
+    refused(Refusal::NotSound)
 }

@@ -3,19 +3,15 @@ ghost use mathlib.Core.Path.{_≡_};
 ghost use Rattle.rules_services.specs.Nmt.{nmtIdentifier};
 ghost use Rattle.rules.specs.Calls.{framed};
 ghost use Rattle.output.specs.Laying.{OnBus, dataOf};
-ghost use Rattle.calls.specs.Ending.{Takes, Stands};
-ghost use Rattle.calls.specs.Frames.{requested, serviced, ServedBy};
-use crate::Brief;
-use crate::finishing::finish;
+ghost use Rattle.calls.specs.Frames.{Starts, requested, serviced, ServedIn};
 use nmt::nmt_frame;
 use output::Done;
+use output::Parts;
 use output::becomes;
-use output::parts_of;
 use rpdo::receive;
 use rpdo::sync;
 use rules_dictionary::PdoData;
 use sdo::serve;
-use state::State;
 
 const NMT: u16 = 0x000;
 
@@ -27,58 +23,60 @@ const REQUEST_BASE: u16 = 0x600;
 const REQUEST_LENGTH: u8 = 8;
 
 // A frame on the SDO server's identifier: "Served in Pre-operational and Operational, .. length 8".
-fn request(content: PdoData, s: State, d: &mut [u8], output: &mut [u8]) -> Done
-    requires { ⌜ Stands s (now d) (now output) × OnBus content ⌝ }
-    ensures { λ r. ⌜ ServedBy s (requested (dataOf content) s (now (d .entry))) (now (d .entry)) (now (output .entry)) r (now (d .exit)) (now (output .exit)) ⌝ }
+fn request(content: PdoData, parts: Parts, state: &[u8], d: &mut [u8], output: &mut [u8]) -> Done
+    requires { ⌜ Starts parts (now state) (now d) (now output) × OnBus content ⌝ }
+    ensures { λ r. ⌜ ServedIn (now (state .entry)) (requested (dataOf content)) (now (d .entry)) (now (output .entry))
+        r (now (d .exit)) (now (output .exit)) ⌝ }
 {
-    let node = s.node;
+    let node = parts.node;
     let nmt = node.nmt;
     if nmt.is_stopped() {
-        return becomes(parts_of(s), true);
+        return becomes(parts, true);
     }
     if content.length != REQUEST_LENGTH {
-        return becomes(parts_of(s), true);
+        return becomes(parts, true);
     }
     let bytes = content.bytes;
-    serve(bytes, s, d, output)
+    serve(bytes, parts, d, output)
 }
 
 // A frame that is no NMT command.
-fn service(identifier: u16, content: PdoData, s: State, d: &mut [u8], output: &mut [u8]) -> Done
-    requires { ⌜ Stands s (now d) (now output) × (OnBus content × (identifier ≡ nmtIdentifier → ⊥)) ⌝ }
-    ensures { λ r. ⌜ ServedBy s (serviced identifier (dataOf content) s (now (d .entry))) (now (d .entry)) (now (output .entry)) r (now (d .exit)) (now (output .exit)) ⌝ }
+fn service(
+    identifier: u16,
+    content: PdoData,
+    parts: Parts,
+    state: &[u8],
+    d: &mut [u8],
+    output: &mut [u8],
+) -> Done
+    requires { ⌜ Starts parts (now state) (now d) (now output) × (OnBus content × (identifier ≡ nmtIdentifier → ⊥)) ⌝ }
+    ensures { λ r. ⌜ ServedIn (now (state .entry)) (serviced identifier (dataOf content)) (now (d .entry)) (now (output .entry))
+        r (now (d .exit)) (now (output .exit)) ⌝ }
 {
     if identifier == SYNC {
-        return sync(s, d, output, content.length);
+        return sync(parts, state, d, output, content.length);
     }
-    if identifier == REQUEST_BASE + (s.node.id as u16) {
-        return request(content, s, d, output);
+    if identifier == REQUEST_BASE + (parts.node.id as u16) {
+        return request(content, parts, state, d, output);
     }
-    receive(s, d, output, identifier, content)
+    receive(parts, state, d, output, identifier, content)
 }
 
 // A frame of the bus, well formed: its service.
-fn serve_frame(identifier: u16, content: PdoData, s: State, d: &mut [u8], output: &mut [u8]) -> Done
-    requires { ⌜ Stands s (now d) (now output) × OnBus content ⌝ }
-    ensures { λ r. ⌜ ServedBy s (framed identifier (dataOf content) s (now (d .entry))) (now (d .entry)) (now (output .entry)) r (now (d .exit)) (now (output .exit)) ⌝ }
-{
-    if identifier == NMT {
-        return nmt_frame(content, s, d, output);
-    }
-    service(identifier, content, s, d, output)
-}
-
-// A frame of the bus, well formed: its answer.
-pub fn take_frame(
+pub fn serve_frame(
     identifier: u16,
     content: PdoData,
-    s: State,
+    parts: Parts,
+    state: &[u8],
     d: &mut [u8],
     output: &mut [u8],
-) -> Brief
-    requires { ⌜ Stands s (now d) (now output) × OnBus content ⌝ }
-    ensures { λ r. ⌜ Takes (framed identifier (dataOf content) s (now (d .entry))) s (now (d .entry)) (now (output .entry)) r (now (d .exit)) (now (output .exit)) ⌝ }
+) -> Done
+    requires { ⌜ Starts parts (now state) (now d) (now output) × OnBus content ⌝ }
+    ensures { λ r. ⌜ ServedIn (now (state .entry)) (framed identifier (dataOf content)) (now (d .entry)) (now (output .entry))
+        r (now (d .exit)) (now (output .exit)) ⌝ }
 {
-    let done = serve_frame(identifier, content, s, d, output);
-    finish(done, s, d, output)
+    if identifier == NMT {
+        return nmt_frame(content, parts, d, output);
+    }
+    service(identifier, content, parts, state, d, output)
 }

@@ -3,34 +3,22 @@ ghost use mathlib.Core.Path.{_≡_};
 ghost use mathlib.Core.Bool.{false};
 ghost use lib.ListN.{length};
 ghost use Rattle.rules_dictionary.specs.Table.{dictionaryLength};
-ghost use Rattle.rules_dictionary.specs.Legal.{modeNumber};
 ghost use Rattle.calls.specs.Ending.{settledBy};
 use dictionary::objects;
 use drive::Drive;
 use drive::status::status;
-use rules_dictionary::Mode;
 use state::Node;
-
-// The number of a mode.
-fn mode_number(m: Mode) -> u8
-    ensures { λ r. ⌜ r ≡ modeNumber m ⌝ }
-{
-    match m {
-        Mode::NoMode => 0,
-        Mode::ProfilePosition => 1,
-        Mode::ProfileVelocity => 3,
-    }
-}
 
 // 6041h and 6061h made; whether an object that can be mapped is written by now, `touched` being whether one was before.
 pub fn settle(node: Node, drive: Drive, touched: bool, d: &mut [u8]) -> bool
     requires { ⌜ length (now d) ≡ dictionaryLength ⌝ }
-    ensures { λ r. ⌜ (now (d .exit) ≡ settledBy node drive (now (d .entry))) × (r ≡ false → (touched ≡ false) × (now (d .exit) ≡ now (d .entry))) ⌝ }
+    ensures { λ r. ⌜ (now (d .exit) ≡ settledBy node drive (now (d .entry)))
+        × (r ≡ false → (touched ≡ false) × (now (d .exit) ≡ now (d .entry))) ⌝ }
 {
     let nmt = node.nmt;
     let mode = drive.mode;
     let word = status(!nmt.is_stopped(), node.voltage, drive, d);
-    let shown = mode_number(mode);
+    let shown = mode.number();
     if objects::status_word(d) == word && objects::mode_display(d) == shown {
         return touched;
     }

@@ -2,9 +2,13 @@
 ghost use mathlib.Core.Path.{_≡_};
 ghost use mathlib.Core.Bool.{true, cond};
 ghost use Rattle.rules_dictionary.specs.Plans.{plansOf};
-ghost use Rattle.calls.specs.Briefs.{refusal, whole};
+ghost use lib.ListN.{length};
+ghost use Rattle.form.specs.Form.{stateLength, stateOf};
+ghost use Rattle.calls.specs.Briefs.{refusal, refusedAnswer, whole};
 ghost use Rattle.mapping.specs.Afresh.{GivesPlans};
 use crate::Brief;
+use form::read_paces;
+use form::read_ready;
 use mapping::all_plans;
 use output::parts_of;
 use rules_dictionary::Plan;
@@ -14,18 +18,27 @@ use state::Refusal;
 use state::State;
 
 // A refused call: no frames, and the state that was given.
-pub fn refuse(why: Refusal, s: State) -> Brief
-    ensures { λ r. ⌜ r ≡ refusal why s ⌝ }
+pub fn refuse(why: Refusal, s: State) -> Answer
+    ensures { λ r. ⌜ r ≡ refusedAnswer why s ⌝ }
 {
-    let axis = s.axis;
-    let ready = axis.ready;
-    let paces = axis.paces;
+    Answer {
+        refusal: why,
+        frames: 0,
+        state: s,
+    }
+}
+
+// The same in brief, of the state that the bytes hold.
+pub fn refused(why: Refusal, state: &[u8]) -> Brief
+    requires { ⌜ length (now state) ≡ stateLength ⌝ }
+    ensures { λ r. ⌜ r ≡ refusal why (stateOf (now (state .entry))) ⌝ }
+{
     Brief {
         refusal: why,
         frames: 0,
-        parts: parts_of(s),
-        ready: ready,
-        paces: paces,
+        parts: parts_of(state),
+        ready: read_ready(state),
+        paces: read_paces(state),
         remapped: false,
     }
 }

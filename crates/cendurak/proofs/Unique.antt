@@ -32,16 +32,19 @@ module _ (κs : Lfts 3) (a : ArgsD power-up.signature κs) where
   pub power-up-unique : (r r′ : ResD power-up.signature κs) (x x′ : AtExit (endedOf 3 power-up-kinds.ps power-up-kinds.r) κs) →
       power-up-reads.Post κs a r x → power-up-reads.Post κs a r′ x′ →
       Same r (now (x .0)) (now (x .1 .0)) (now (x .1 .1 .0)) r′ (now (x′ .0)) (now (x′ .1 .0)) (now (x′ .1 .1 .0))
-  power-up-unique r r′ x x′ p q = same r r′ (now (x .0)) (now (x .1 .0)) (now (x .1 .1 .0)) (now (x′ .0)) (now (x′ .1 .0)) (now (x′ .1 .1 .0)) (p ∙ sym q)
+  power-up-unique r r′ x x′ p q =
+      same r r′ (now (x .0)) (now (x .1 .0)) (now (x .1 .1 .0)) (now (x′ .0)) (now (x′ .1 .0)) (now (x′ .1 .1 .0)) (p ∙ sym q)
 
 module _ (κs : Lfts 4) (a : ArgsD frame.signature κs) where
   pub frame-unique : (r r′ : ResD frame.signature κs) (x x′ : AtExit (endedOf 4 frame-kinds.ps frame-kinds.r) κs) →
       frame-reads.Post κs a r x → frame-reads.Post κs a r′ x′ →
       Same r (now (x .0)) (now (x .1 .0)) (now (x .1 .1 .0)) r′ (now (x′ .0)) (now (x′ .1 .0)) (now (x′ .1 .1 .0))
-  frame-unique r r′ x x′ p q = same r r′ (now (x .0)) (now (x .1 .0)) (now (x .1 .1 .0)) (now (x′ .0)) (now (x′ .1 .0)) (now (x′ .1 .1 .0)) (p ∙ sym q)
+  frame-unique r r′ x x′ p q =
+      same r r′ (now (x .0)) (now (x .1 .0)) (now (x .1 .1 .0)) (now (x′ .0)) (now (x′ .1 .0)) (now (x′ .1 .1 .0)) (p ∙ sym q)
 
 module _ (κs : Lfts 4) (a : ArgsD event.signature κs) where
   pub event-unique : (r r′ : ResD event.signature κs) (x x′ : AtExit (endedOf 4 event-kinds.ps event-kinds.r) κs) →
       event-reads.Post κs a r x → event-reads.Post κs a r′ x′ →
       Same r (now (x .0)) (now (x .1 .0)) (now (x .1 .1 .0)) r′ (now (x′ .0)) (now (x′ .1 .0)) (now (x′ .1 .1 .0))
-  event-unique r r′ x x′ p q = same r r′ (now (x .0)) (now (x .1 .0)) (now (x .1 .1 .0)) (now (x′ .0)) (now (x′ .1 .0)) (now (x′ .1 .1 .0)) (p ∙ sym q)
+  event-unique r r′ x x′ p q =
+      same r r′ (now (x .0)) (now (x .1 .0)) (now (x .1 .1 .0)) (now (x′ .0)) (now (x′ .1 .0)) (now (x′ .1 .1 .0)) (p ∙ sym q)

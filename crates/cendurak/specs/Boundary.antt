@@ -13,6 +13,7 @@ use Rattle.state.specs.declared.Answer.{Answer}
 use Rattle.rules_dictionary.specs.TheNode.{isNodeId}
 use Rattle.rules_dictionary.specs.Table.{dictionaryLength}
 use Rattle.rules.specs.Calls.{Call, powerUpCall, frameCall, eventCall, Outcome, answer, refusalNumber, outputLength}
+use Rattle.mapping.specs.Afresh.{GivesPlans}
 use Rattle.form.specs.Form.{stateLength, stateOf, form, isForm}
 
 -- what a call leaves: the number that it returns, and the bytes of the three buffers
@@ -40,7 +41,12 @@ stateAfter OutOfPlace new old = old
 -- the outcome of the rules' call, in the lent bytes
 unfoldable pub leftBy : Outcome → List ℕ → Left
 leftBy x bs =
-    record { status = status (x .refusal) (x .frames); state = stateAfter (x .refusal) (form (x .state)) bs; dictionary = x .dictionary; output = x .output }
+    record {
+      status = status (x .refusal) (x .frames);
+      state = stateAfter (x .refusal) (form (x .state)) bs;
+      dictionary = x .dictionary;
+      output = x .output;
+    }
 
 unfoldable pub refusedWith : Refusal → List ℕ → List ℕ → List ℕ → Left
 refusedWith why bs d o = record { status = status why 0; state = bs; dictionary = d; output = o }
@@ -71,3 +77,10 @@ lentAnswer c bs d o = elim (isGiven c bs) [ true ↦ leftBy (answer c (stateOf b
 -- what the exported functions leave, as one
 abbrev pub left : ℕ → List ℕ → List ℕ → List ℕ → Left
 left number bs d o = record { status = number; state = bs; dictionary = d; output = o }
+
+-- what is needed to leave a state in the bytes: their length; and either a mapping was written and the dictionary gives the plans, or the bytes
+-- are a state's form, whose plans stay
+pub record MayLeave (remapped : Bool) (bs d : List ℕ) : Type 0 where
+  pub long : length bs ≡ stateLength
+  pub plans : remapped ≡ true → GivesPlans d
+  pub own : remapped ≡ false → isForm bs ≡ true

@@ -1,20 +1,18 @@
 // An answer, left to C: as a number, and its state as bytes.
 ghost use mathlib.Core.Path.{_≡_};
-ghost use mathlib.Core.Bool.{true, cond};
+ghost use mathlib.Core.Bool.{true, false, cond};
 ghost use Prim.Native.Nat.{_+_, _*_, _≤_};
 ghost use lib.ListN.{length};
 ghost use Rattle.rules_dictionary.specs.Plans.{plansOf};
 ghost use Rattle.rules.specs.Calls.{refusalNumber};
 ghost use Rattle.calls.specs.Briefs.{whole};
 ghost use Rattle.mapping.specs.Afresh.{GivesPlans};
-ghost use Rattle.form.specs.Form.{stateLength, stateOf, form, isForm, HoldsPlans};
-ghost use Rattle.cendurak.specs.Boundary.{status, stateAfter};
+ghost use Rattle.form.specs.Form.{stateLength, stateOf, form, HoldsPlans};
+ghost use Rattle.cendurak.specs.Boundary.{status, stateAfter, MayLeave};
 use calls::Brief;
 use form::write_head;
 use form::write_plans;
-use form::write_state;
 use mapping::all_plans;
-use state::Answer;
 use state::Refusal;
 
 // The number of a refusal; 0 is none.
@@ -41,24 +39,16 @@ fn number_of(refusal: u32, frames: u8) -> u32
     256 * refusal + (frames as u32)
 }
 
-// An accepted call's state into the bytes; a refused one leaves them. The number that C gets.
-pub fn leave(answer: Answer, state: &mut [u8]) -> u32
-    requires { ⌜ length (now state) ≡ stateLength ⌝ }
-    ensures { λ r. ⌜ (r ≡ status (answer .refusal) (answer .frames)) × (now (state .exit) ≡ stateAfter (answer .refusal) (form (answer .state)) (now (state .entry))) ⌝ }
+// The number that C gets of a refused call.
+pub fn refused(why: Refusal) -> u32
+    ensures { λ r. ⌜ r ≡ status why 0 ⌝ }
 {
-    let why = answer.refusal;
-    let number = refusal_number(why);
-    let after = answer.state;
-    if number == 0 {
-        write_state(state, after);
-        return number_of(number, answer.frames);
-    }
-    number_of(number, answer.frames)
+    number_of(refusal_number(why), 0)
 }
 
 // The plans that the dictionary gives into the state's bytes, where a mapping was written; else they hold the plans of before.
 fn write_new_plans(remapped: bool, state: &mut [u8], d: &[u8])
-    requires { ⌜ (length (now state) ≡ stateLength) × ((isForm (now state) ≡ true) × (remapped ≡ true → GivesPlans (now d))) ⌝ }
+    requires { ⌜ MayLeave remapped (now state) (now d) ⌝ }
     ensures { λ r. ⌜ HoldsPlans (now (state .exit)) (cond remapped (plansOf (now (d .entry))) (stateOf (now (state .entry)) .axis .plans)) ⌝ }
 {
     if remapped {
@@ -66,11 +56,13 @@ fn write_new_plans(remapped: bool, state: &mut [u8], d: &[u8])
     }
 }
 
-// The same of an answer in brief: the plans' bytes are written only where a mapping was. The state's bytes are a form, and d is the
-// dictionary that the call left.
-pub fn leave_brief(b: Brief, state: &mut [u8], d: &[u8]) -> u32
-    requires { ⌜ (length (now state) ≡ stateLength) × ((isForm (now state) ≡ true) × (b .remapped ≡ true → GivesPlans (now d))) ⌝ }
-    ensures { λ r. ⌜ (r ≡ status (b .refusal) (b .frames)) × (now (state .exit) ≡ stateAfter (b .refusal) (form (whole (stateOf (now (state .entry))) (now (d .entry)) b .state)) (now (state .entry))) ⌝ }
+// An accepted call's state into the bytes, of the plans' those of written mappings; a refused one leaves them. The number that C gets. The
+// bytes are the call's, and d is the dictionary that it left.
+pub fn leave(b: Brief, state: &mut [u8], d: &[u8]) -> u32
+    requires { ⌜ MayLeave (b .remapped) (now state) (now d) ⌝ }
+    ensures { λ r. ⌜ (r ≡ status (b .refusal) (b .frames))
+        × (now (state .exit)
+        ≡ stateAfter (b .refusal) (form (whole (stateOf (now (state .entry))) (now (d .entry)) b .state)) (now (state .entry))) ⌝ }
 {
     let why = b.refusal;
     let refused = refusal_number(why);

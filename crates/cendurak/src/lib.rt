@@ -4,31 +4,19 @@
 mod answering; // the answer as a number, the state as bytes
 
 use answering::leave;
-use answering::leave_brief;
+use answering::refused;
 use calls::brief_event;
 use calls::brief_frame;
-use calls::power_up;
-use dictionary::places::DICTIONARY_LENGTH;
-use form::is_form;
+use calls::brief_power_up;
+use calls::opened;
+use calls::powering;
 use form::layout::STATE_LENGTH;
-use form::read_state;
-use output::OUTPUT_LENGTH;
-use state::FIRST_NODE;
-use state::LAST_NODE;
+use state::Refusal;
 ghost use mathlib.Core.Path.{_≡_};
 ghost use Rattle.rules.specs.Calls.{powerUpCall, frameCall, eventCall};
 ghost use Rattle.cendurak.specs.Boundary.{left, lentAnswer};
 
-// The refusals that need no state, as answers.
-const BAD_DICTIONARY: u32 = 0x100;
-
-const BAD_OUTPUT: u32 = 0x200;
-
-const BAD_NODE: u32 = 0x300;
-
-const NO_STATE: u32 = 0x400;
-
-// Power-up as node n.
+// Power-up as node n. The state's bytes may hold anything: they are written, and not read.
 #[no_mangle]
 pub extern "C" fn cendurak_power_up(
     state: &mut [u8],
@@ -36,25 +24,19 @@ pub extern "C" fn cendurak_power_up(
     out: &mut [u8],
     n: u32,
 ) -> u32
-    ensures { λ r. ⌜ left r (now (state .exit)) (now (dict .exit)) (now (out .exit)) ≡ lentAnswer (powerUpCall n) (now (state .entry)) (now (dict .entry)) (now (out .entry)) ⌝ }
+    ensures { λ r. ⌜ left r (now (state .exit)) (now (dict .exit)) (now (out .exit))
+        ≡ lentAnswer (powerUpCall n) (now (state .entry)) (now (dict .entry)) (now (out .entry)) ⌝ }
 {
-    if dict.len() != DICTIONARY_LENGTH {
-        return BAD_DICTIONARY;
-    }
-    if out.len() < OUTPUT_LENGTH {
-        return BAD_OUTPUT;
-    }
-    if n < FIRST_NODE {
-        return BAD_NODE;
-    }
-    if LAST_NODE < n {
-        return BAD_NODE;
+    let opening = powering(n, dict, out);
+    if opening.refused {
+        let why = opening.why;
+        return refused(why);
     }
     if state.len() != STATE_LENGTH {
-        return NO_STATE;
+        return refused(Refusal::NotSound);
     }
-    let answer = power_up(read_state(state), dict, out, n);
-    leave(answer, state)
+    let b = brief_power_up(dict, out, n);
+    leave(b, state, dict)
 }
 
 // One frame of the bus.
@@ -66,22 +48,16 @@ pub extern "C" fn cendurak_frame(
     identifier: u32,
     bytes: &[u8],
 ) -> u32
-    ensures { λ r. ⌜ left r (now (state .exit)) (now (dict .exit)) (now (out .exit)) ≡ lentAnswer (frameCall identifier (now (bytes .entry))) (now (state .entry)) (now (dict .entry)) (now (out .entry)) ⌝ }
+    ensures { λ r. ⌜ left r (now (state .exit)) (now (dict .exit)) (now (out .exit))
+        ≡ lentAnswer (frameCall identifier (now (bytes .entry))) (now (state .entry)) (now (dict .entry)) (now (out .entry)) ⌝ }
 {
-    if dict.len() != DICTIONARY_LENGTH {
-        return BAD_DICTIONARY;
+    let opening = opened(state, dict, out);
+    if opening.refused {
+        let why = opening.why;
+        return refused(why);
     }
-    if out.len() < OUTPUT_LENGTH {
-        return BAD_OUTPUT;
-    }
-    if state.len() != STATE_LENGTH {
-        return NO_STATE;
-    }
-    if !is_form(state) {
-        return NO_STATE;
-    }
-    let b = brief_frame(read_state(state), dict, out, identifier, bytes);
-    leave_brief(b, state, dict)
+    let b = brief_frame(state, dict, out, identifier, bytes);
+    leave(b, state, dict)
 }
 
 // One event of the amplifier.
@@ -93,20 +69,14 @@ pub extern "C" fn cendurak_event(
     number: u32,
     arguments: &[u8],
 ) -> u32
-    ensures { λ r. ⌜ left r (now (state .exit)) (now (dict .exit)) (now (out .exit)) ≡ lentAnswer (eventCall number (now (arguments .entry))) (now (state .entry)) (now (dict .entry)) (now (out .entry)) ⌝ }
+    ensures { λ r. ⌜ left r (now (state .exit)) (now (dict .exit)) (now (out .exit))
+        ≡ lentAnswer (eventCall number (now (arguments .entry))) (now (state .entry)) (now (dict .entry)) (now (out .entry)) ⌝ }
 {
-    if dict.len() != DICTIONARY_LENGTH {
-        return BAD_DICTIONARY;
+    let opening = opened(state, dict, out);
+    if opening.refused {
+        let why = opening.why;
+        return refused(why);
     }
-    if out.len() < OUTPUT_LENGTH {
-        return BAD_OUTPUT;
-    }
-    if state.len() != STATE_LENGTH {
-        return NO_STATE;
-    }
-    if !is_form(state) {
-        return NO_STATE;
-    }
-    let b = brief_event(read_state(state), dict, out, number, arguments);
-    leave_brief(b, state, dict)
+    let b = brief_event(state, dict, out, number, arguments);
+    leave(b, state, dict)
 }

@@ -1,5 +1,4 @@
 pub mod Bytes
-pub mod Ways
 pub mod Lines
 pub mod LookUp
 pub mod Spots

@@ -1,30 +1,24 @@
 -- What the lines tell of the rows, by computed tests; and widths that are halved.
 -- Assumes nothing.
 use Prim.Native.Nat.{ℕ, zero, suc, _+_, _-_, _*_, _/_, _%_, _^_, _<_, _≤_}
-use native.Mathlib.Nat.{le-of-suc-le-suc, not-suc-le-zero}
 use native.Mathlib.Numerals.{add-one}
 use native.Mathlib.Nat.{pow-suc, one-le-pow}
 use native.Mathlib.Omega.{arith}
 use mathlib.Core.Path.{_≡_, refl, _∙_, ap}
 use mathlib.Core.Bool.{true}
-use mathlib.Core.List.{List, [], _∷_, map}
+use mathlib.Core.List.{List, map}
 use borrow.Author.Tests.{ltb-true, leb-true, eqb-true}
 use lib.Dec.{eqb, leb, lit<}
 use lib.ListN.{length, getD, length-map, List·getD-map}
 use Rattle.rules_dictionary.specs.Table.{Row, table, entries, placeOf, dictionaryLength, rowAt, key, deviceType, open-table}
 use Rattle.rules_dictionary.specs.Members.{In}
-use Rattle.rules_dictionary.proofs.Tests.{getD-in, allBelow, below}
+use Rattle.rules_dictionary.proofs.Tests.{getD-in, getD-any, allBelow, below}
 use Rattle.rules_dictionary.proofs.Members.{map-in}
 use Rattle.dictionary.specs.Entries.{entryOf}
 use Rattle.dictionary.specs.Lines.{lineOf, indexIn, subindexIn, roomOf, roleIn, communicationOffset, mappingOffset, sizesFrom, driveRank}
 use Rattle.dictionary.specs.Lines.{middleRank, drivePlace, placeIn, entryIn}
 
 -- ---- lines by their number
-
-getD-any : {A : Type 0} (l : List A) (n : ℕ) (d e : A) → n < length l → getD l n d ≡ getD l n e
-getD-any [] n d e h = absurd (not-suc-le-zero h)
-getD-any (x ∷ xs) zero d e h = refl
-getD-any (x ∷ xs) (suc n) d e h = getD-any xs n d e (le-of-suc-le-suc h)
 
 -- where lines are the rows', each is that of the row of its rank
 pub line-at : (lines : List ℕ) (n : ℕ) → lines ≡ map lineOf table → n < entries → getD lines n 0 ≡ lineOf (rowAt n)

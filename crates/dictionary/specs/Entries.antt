@@ -11,6 +11,8 @@ use Rattle.rules_dictionary.specs.Values as values
 use Rattle.dictionary.specs.declared.Entry.{Entry}
 use Rattle.dictionary.specs.declared.Found.{Found}
 use Rattle.dictionary.specs.declared.Found.the-variants as found
+use Rattle.dictionary.specs.declared.Presence.{Presence}
+use Rattle.dictionary.specs.declared.Presence.the-variants as presence
 use Rattle.dictionary.specs.Sizes.{IsSize}
 
 abbrev pub entryOf : rows.Row → Entry
@@ -41,3 +43,9 @@ abbrev pub IsFound : ℕ → ℕ → Found → Type 0
 IsFound i s (found.Entry e) = Stands i s e
 IsFound i s found.NoObject = rows.lookup i s ≡ rows.noObject
 IsFound i s found.NoSubindex = rows.lookup i s ≡ rows.noSubindex
+
+-- .. and whether one is
+abbrev pub presenceOf : rows.Found → Presence
+presenceOf (rows.found x) = presence.Listed
+presenceOf rows.noObject = presence.NoObject
+presenceOf rows.noSubindex = presence.NoSubindex

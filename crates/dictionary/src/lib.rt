@@ -12,6 +12,7 @@ pub use defaults::write_defaults;
 use rules_dictionary::Access;
 use rules_dictionary::Role;
 pub use table::find;
+pub use table::seek;
 pub use values::read;
 pub use values::read1;
 pub use values::read2;
@@ -34,6 +35,13 @@ pub struct Entry {
 // What a look-up finds.
 pub enum Found {
     Entry(Entry),
+    NoObject,
+    NoSubindex,
+}
+
+// Whether it finds anything.
+pub enum Presence {
+    Listed,
     NoObject,
     NoSubindex,
 }

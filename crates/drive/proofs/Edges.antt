@@ -10,7 +10,6 @@ use Rattle.rules_dictionary.specs.declared.Mode.the-variants.{NoMode, ProfilePo
 use Rattle.drive.specs.declared.DriveState.{DriveState}
 use Rattle.drive.specs.declared.DriveState.the-variants.{NotReady, SwitchOnDisabled, ReadyToSwitchOn, SwitchedOn, OperationEnabled}
 use Rattle.drive.specs.declared.DriveState.the-variants.{QuickStopActive, FaultReactionActive, Fault}
-use Rattle.drive.specs.declared.Command.{Command}
 use Rattle.drive.specs.declared.Command.the-variants.{None, FaultReset, DisableVoltage, QuickStop, Shutdown, SwitchOn, Enable}
 use Rattle.drive.specs.declared.SetPoint.{SetPoint}
 use Rattle.drive.specs.declared.Store.{Store}
@@ -24,6 +23,7 @@ use Rattle.rules_dictionary.specs.Values.{Write, write, stored, open-values}
 use Rattle.drive.specs.DriveStates.{command, next, resets, open-drive-states}
 use Rattle.drive.specs.SetPoints.{offered, controlWritten, modeWritten, setPointRule, open-set-points}
 use Rattle.drive.specs.StatusWord.{status, open-status-word}
+use Rattle.drive.proofs.Every.{commands}
 
 -- ---- commands: "read at each write, also of the same value"
 
@@ -33,9 +33,6 @@ commands-read : (map (command 0x000F) (0x80 ∷ 0x8F ∷ 0x00 ∷ 0x0D ∷ 0x02 
     × (map (command 0x0080) (0x80 ∷ 0x8F ∷ 0x06 ∷ []) ≡ None ∷ None ∷ Shutdown ∷ [])
 unfolding open-drive-states
 commands-read = (refl, refl)
-
-commands : List Command
-commands = None ∷ FaultReset ∷ DisableVoltage ∷ QuickStop ∷ Shutdown ∷ SwitchOn ∷ Enable ∷ []
 
 row : Bool → DriveState → List DriveState
 row cause s = map (next cause s) commands
@@ -54,7 +51,7 @@ drive-table : (row false NotReady ≡ replicate 7 NotReady)
     × (row false FaultReactionActive ≡ replicate 7 FaultReactionActive)
     × (row false Fault ≡ Fault ∷ SwitchOnDisabled ∷ Fault ∷ Fault ∷ Fault ∷ Fault ∷ Fault ∷ [])
     × (row true Fault ≡ replicate 7 Fault)
-unfolding row commands open-drive-states
+unfolding row open-drive-states
 drive-table = (refl, refl, refl, refl, refl, refl, refl, refl, refl)
 
 -- a reset is one only in Fault and without cause

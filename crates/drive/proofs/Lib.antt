@@ -1,3 +1,4 @@
+pub mod Every
 pub mod Edges
 pub mod Tempting
 pub mod Raised

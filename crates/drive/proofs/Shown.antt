@@ -1,19 +1,19 @@
 -- What the parts of the status word come to, and the ways through its rules.
 -- Assumes nothing.
 use Prim.Native.Nat.{ℕ, _+_, _≤_}
-use mathlib.Core.Path.{_≡_, ap}
+use mathlib.Core.Path.{_≡_, refl, ap}
 use mathlib.Core.Bool.{Bool, true, false}
 use mathlib.Core.List.{List}
 use native.Mathlib.Omega.{arith}
+use borrow.Author.Tests.{leb-true}
 use lib.Dec.{leb}
 use lib.IntN.{natAbs, +ℤ-idr}
 use Rattle.rules_dictionary.specs.Numbers.{integer}
 use Rattle.drive.specs.declared.DriveState.{DriveState}
-use Rattle.drive.specs.declared.DriveState.the-variants.{NotReady, SwitchOnDisabled, ReadyToSwitchOn, SwitchedOn, OperationEnabled}
-use Rattle.drive.specs.declared.DriveState.the-variants.{QuickStopActive, FaultReactionActive, Fault}
 use Rattle.drive.specs.declared.Drive.{Drive}
 use Rattle.drive.specs.DriveStates.{isEnabled, stateWord}
 use Rattle.drive.specs.StatusWord.{shown, within, ackInMode, reachedInMode, enabledBits, status}
+use Rattle.drive.proofs.Every.{on-states}
 
 -- the same window about the same integers
 pub within-same : (w w' a a' b b' : ℕ) → w ≡ w' → a ≡ a' → b ≡ b' → within w (integer a) (integer b) ≡ within w' (integer a') (integer b')
@@ -30,14 +30,7 @@ shown-most w true = omega arith
 shown-most w false = omega arith
 
 pub state-word-most : (s : DriveState) → stateWord s ≤ 0x40
-state-word-most NotReady = omega arith
-state-word-most SwitchOnDisabled = omega arith
-state-word-most ReadyToSwitchOn = omega arith
-state-word-most SwitchedOn = omega arith
-state-word-most OperationEnabled = omega arith
-state-word-most QuickStopActive = omega arith
-state-word-most FaultReactionActive = omega arith
-state-word-most Fault = omega arith
+state-word-most s = leb-true _ _ (on-states (λ s. leb (stateWord s) 0x40) refl s)
 
 module _ (remote voltage : Bool) (v : Drive) (d : List ℕ) where
   pub enabled-most : enabledBits v d ≤ 0x1C00

@@ -4,7 +4,8 @@ ghost use mathlib.Core.Path.{_≡_};
 ghost use Prim.Native.Nat.{_/_, _%_, _<_};
 ghost use mathlib.Core.Bool.{_&&_, not};
 ghost use lib.Dec.{eqb};
-ghost use Rattle.drive.specs.DriveStates.{asked, command, next, resets, fromDisabled, fromPowered, fromQuickStop, fromFault, isNotReady, isEnabled, isQuickStop, isReaction, isFaulty, isFaultReset, stateWord};
+ghost use Rattle.drive.specs.DriveStates.{asked, command, next, resets, fromDisabled, fromPowered, fromQuickStop, fromFault, isNotReady};
+ghost use Rattle.drive.specs.DriveStates.{isEnabled, isQuickStop, isReaction, isFaulty, isFaultReset, stateWord};
 use crate::Command;
 use crate::DriveState;
 

@@ -2,7 +2,8 @@
 
 ghost use mathlib.Core.Path.{_≡_};
 ghost use lib.ListN.{length};
-ghost use Rattle.drive.specs.StatusWord.{haltBit, shown, slow, near, ackInMode, positionReached, velocityReached, standsStill, reachedInMode, enabledBits, status};
+ghost use Rattle.drive.specs.StatusWord.{haltBit, shown, slow, near, ackInMode, positionReached, velocityReached, standsStill, reachedInMode};
+ghost use Rattle.drive.specs.StatusWord.{enabledBits, status};
 ghost use Rattle.rules_dictionary.specs.Numbers.{bit};
 ghost use Rattle.rules_dictionary.specs.Table.{controlWord, dictionaryLength};
 ghost use Rattle.rules_dictionary.specs.Values.{read};

@@ -44,7 +44,8 @@ silent code v d o e = rw e (refl, refl)
 
 -- else one
 pub spoken : (code : ℕ) (v : Node) (d : List ℕ) (register : ℕ) (content : PdoData) (o o′ : List ℕ) → isStopped (v .nmt) ≡ false →
-    register ≡ read d errorRegister → content ≡ pdoData (emergencyBytes code register) → o′ ≡ sentInto o (frameOf (emergencyBase + v .id) content ∷ []) →
+    register ≡ read d errorRegister → content ≡ pdoData (emergencyBytes code register) →
+    o′ ≡ sentInto o (frameOf (emergencyBase + v .id) content ∷ []) →
     (1 ≡ length (emergencyOf code v d)) × (o′ ≡ sentInto o (emergencyOf code v d))
 unfolding emergencyOf bytes
 spoken code v d register content o o′ e is c h =
@@ -117,7 +118,8 @@ module _ (old : ℕ) (mode control : Bool) (p q : Parts) (d : List ℕ)
 -- ---- by the parts of the state alone
 
 -- 6060h and 6040h are acted on by the parts alone
-pub acts-alike : (old : ℕ) (mode control : Bool) (s : State) (d : List ℕ) → Alike (acts old mode control s d) (acts old mode control (bare (partsOf s)) d)
+pub acts-alike : (old : ℕ) (mode control : Bool) (s : State) (d : List ℕ) →
+    Alike (acts old mode control s d) (acts old mode control (bare (partsOf s)) d)
 unfolding acts controlActs faultReset
 acts-alike old mode false s d = record { parts = refl; writes = refl; sent = refl; occasion = refl }
 acts-alike old mode true s d = go (controlWritten d old (modeActs mode (s .axis .drive) d))
@@ -132,7 +134,8 @@ acts-alike old mode true s d = go (controlWritten d old (modeActs mode (s .axis 
             (cond b (faultReset (withDrive (c .drive) (bare (partsOf s))) d) (becomes (withDrive (c .drive) (bare (partsOf s)))))
         by true =
             let d′ = store errorRegister 0 d in
-            let same = emergency-by faultGone (withDrive (c .drive) s) d′ ∙ sym (emergency-by faultGone (withDrive (c .drive) (bare (partsOf s))) d′) in
+            let same =
+            emergency-by faultGone (withDrive (c .drive) s) d′ ∙ sym (emergency-by faultGone (withDrive (c .drive) (bare (partsOf s))) d′) in
             record { parts = refl; writes = refl; sent = ap (λ (fs : List Frame). fs ++ []) same; occasion = refl }
         by false = record { parts = refl; writes = refl; sent = refl; occasion = refl }
 

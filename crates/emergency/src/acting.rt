@@ -23,7 +23,8 @@ const FAULT_GONE: u16 = 0x0000;
 // "1001h to 0, emergency 0000h; 603Fh stays".
 fn fault_reset(parts: Parts, d: &mut [u8], output: &mut [u8]) -> Done
     requires { ⌜ (length (now d) ≡ dictionaryLength) × ((frameSize ≤ length (now output)) × (parts .node .id ≤ lastNode)) ⌝ }
-    ensures { λ r. ⌜ Leaves (faultReset (bare parts) (now (d .entry))) (now (d .entry)) (now (output .entry)) r (now (d .exit)) (now (output .exit)) × (r .quiet ≡ false) ⌝ }
+    ensures { λ r. ⌜ Leaves (faultReset (bare parts) (now (d .entry))) (now (d .entry)) (now (output .entry)) r (now (d .exit)) (now (output .exit))
+        × (r .quiet ≡ false) ⌝ }
 {
     objects::set_error_register(d, 0);
     let node = parts.node;
@@ -53,7 +54,8 @@ fn mode_acted(drive: Drive, d: &[u8], written: bool) -> Drive
 // 6040h acted on; `old` is what stood there before the write.
 fn control_acted(old: u16, parts: Parts, d: &mut [u8], output: &mut [u8]) -> Done
     requires { ⌜ (length (now d) ≡ dictionaryLength) × ((frameSize ≤ length (now output)) × (parts .node .id ≤ lastNode)) ⌝ }
-    ensures { λ r. ⌜ Leaves (controlActs old (bare parts) (now (d .entry))) (now (d .entry)) (now (output .entry)) r (now (d .exit)) (now (output .exit)) × (r .quiet ≡ false) ⌝ }
+    ensures { λ r. ⌜ Leaves (controlActs old (bare parts) (now (d .entry))) (now (d .entry)) (now (output .entry)) r
+        (now (d .exit)) (now (output .exit)) × (r .quiet ≡ false) ⌝ }
 {
     let node = parts.node;
     let drive = parts.drive;
@@ -81,7 +83,8 @@ pub fn acted(
     output: &mut [u8],
 ) -> Done
     requires { ⌜ (length (now d) ≡ dictionaryLength) × ((frameSize ≤ length (now output)) × (parts .node .id ≤ lastNode)) ⌝ }
-    ensures { λ r. ⌜ Leaves (acts old mode control (bare parts) (now (d .entry))) (now (d .entry)) (now (output .entry)) r (now (d .exit)) (now (output .exit)) × (r .quiet ≡ false) ⌝ }
+    ensures { λ r. ⌜ Leaves (acts old mode control (bare parts) (now (d .entry))) (now (d .entry)) (now (output .entry)) r
+        (now (d .exit)) (now (output .exit)) × (r .quiet ≡ false) ⌝ }
 {
     let node = parts.node;
     let drive = parts.drive;

@@ -37,7 +37,8 @@ fn emergency_data(code: u16, register: u8) -> PdoData
 // The emergency of a code at the start of the bytes, which are the output from its frame on; none while Stopped. How many frames that is.
 pub fn emergency(code: u16, node: Node, d: &[u8], output: &mut [u8]) -> usize
     requires { ⌜ (length (now d) ≡ dictionaryLength) × ((frameSize ≤ length (now output)) × (node .id ≤ lastNode)) ⌝ }
-    ensures { λ r. ⌜ (r ≡ length (emergencyOf code node (now (d .entry)))) × (now (output .exit) ≡ sentInto (now (output .entry)) (emergencyOf code node (now (d .entry)))) ⌝ }
+    ensures { λ r. ⌜ (r ≡ length (emergencyOf code node (now (d .entry))))
+        × (now (output .exit) ≡ sentInto (now (output .entry)) (emergencyOf code node (now (d .entry)))) ⌝ }
 {
     let nmt = node.nmt;
     if nmt.is_stopped() {

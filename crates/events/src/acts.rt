@@ -12,7 +12,7 @@ ghost use Rattle.rules_services.specs.Effects.{withDrive};
 ghost use Rattle.rules_services.specs.declared.Event.the-variants.{Feedback};
 ghost use Rattle.rules_services.specs.Events.{faulted, happens};
 ghost use Rattle.rules.specs.Outcome.{frameSize};
-ghost use Rattle.output.specs.Leaves.{partsOf, became, Leaves, Rests};
+ghost use Rattle.output.specs.Leaves.{partsOf, bare, became, LeavesBy};
 use dictionary::objects;
 use drive::Drive;
 use drive::DriveState;
@@ -22,21 +22,18 @@ use nmt::tick;
 use output::Done;
 use output::Parts;
 use output::becomes;
-use output::parts_of;
 use rules_services::Event;
 use state::Occasion;
-use state::State;
 
 // Bit 0 of 1001h.
 const GENERIC_ERROR: u8 = 1;
 
 // An event that changes nothing but the drive.
-fn moved(s: State, drive: Drive) -> Done
-    ensures { λ r. ⌜ r ≡ became (partsOf (withDrive drive s)) false ⌝ }
+fn moved(parts: Parts, drive: Drive) -> Done
+    ensures { λ r. ⌜ r ≡ became (partsOf (withDrive drive (bare parts))) false ⌝ }
 {
-    let node = s.node;
-    let axis = s.axis;
-    let held = axis.held;
+    let node = parts.node;
+    let held = parts.held;
     becomes(Parts { node, drive, held }, false)
 }
 
@@ -52,16 +49,14 @@ fn reaction_from(state: DriveState) -> DriveState
 }
 
 // A fault: "603Fh is the code, 1001h gains the register and bit 0, cause present, emergency".
-fn faulted(code: u16, register: u8, s: State, d: &mut [u8], output: &mut [u8]) -> Done
-    requires { ⌜ (length (now d) ≡ dictionaryLength) × ((frameSize ≤ length (now output)) × (s .node .id ≤ lastNode)) ⌝ }
-    ensures { λ r. ⌜ Leaves (faulted code register s (now (d .entry))) (now (d .entry)) (now (output .entry)) r (now (d .exit)) (now (output .exit))
-        × (r .quiet ≡ false) ⌝ }
+fn faulted(code: u16, register: u8, parts: Parts, d: &mut [u8], output: &mut [u8]) -> Done
+    requires { ⌜ (length (now d) ≡ dictionaryLength) × ((frameSize ≤ length (now output)) × (parts .node .id ≤ lastNode)) ⌝ }
+    ensures { λ r. ⌜ LeavesBy parts (faulted code register) (now (d .entry)) (now (output .entry)) r (now (d .exit)) (now (output .exit)) ⌝ }
 {
-    let node = s.node;
-    let axis = s.axis;
-    let drive = axis.drive;
+    let node = parts.node;
+    let drive = parts.drive;
     let state = drive.state;
-    let held = axis.held;
+    let held = parts.held;
     let before = objects::error_register(d);
     objects::set_error_code(d, code);
     objects::set_error_register(d, before | (register | GENERIC_ERROR));
@@ -81,15 +76,14 @@ fn faulted(code: u16, register: u8, s: State, d: &mut [u8], output: &mut [u8]) -
 }
 
 // Feedback: 6064h and 606Ch.
-fn fed_back(at: u32, speed: u32, s: State, d: &mut [u8]) -> Done
+fn fed_back(at: u32, speed: u32, parts: Parts, d: &mut [u8]) -> Done
     requires { ⌜ length (now d) ≡ dictionaryLength ⌝ }
-    ensures { λ r. ⌜ ((o : List ℕ) → Leaves (happens (Feedback at speed) s (now (d .entry))) (now (d .entry)) o r (now (d .exit)) o)
-        × (r .quiet ≡ false) ⌝ }
+    ensures { λ r. ⌜ ((o : List ℕ) → LeavesBy parts (happens (Feedback at speed)) (now (d .entry)) o r (now (d .exit)) o) ⌝ }
 {
     objects::set_position(d, at);
     objects::set_velocity(d, speed);
     Done {
-        parts: parts_of(s),
+        parts: parts,
         frames: 0,
         touched: true,
         remapped: false,
@@ -99,26 +93,24 @@ fn fed_back(at: u32, speed: u32, s: State, d: &mut [u8]) -> Done
 }
 
 // What an event does. Only a tick is quiet.
-pub fn happens(e: Event, s: State, d: &mut [u8], output: &mut [u8]) -> Done
-    requires { ⌜ (length (now d) ≡ dictionaryLength) × ((frameSize ≤ length (now output)) × (s .node .id ≤ lastNode)) ⌝ }
-    ensures { λ r. ⌜ Leaves (happens e s (now (d .entry))) (now (d .entry)) (now (output .entry)) r (now (d .exit)) (now (output .exit))
-        × Rests s (happens e s (now (d .entry))) r ⌝ }
+pub fn happens(e: Event, parts: Parts, d: &mut [u8], output: &mut [u8]) -> Done
+    requires { ⌜ (length (now d) ≡ dictionaryLength) × ((frameSize ≤ length (now output)) × (parts .node .id ≤ lastNode)) ⌝ }
+    ensures { λ r. ⌜ LeavesBy parts (happens e) (now (d .entry)) (now (output .entry)) r (now (d .exit)) (now (output .exit)) ⌝ }
 {
-    let axis = s.axis;
-    let drive = axis.drive;
+    let drive = parts.drive;
     let store = drive.store;
-    let held = axis.held;
+    let held = parts.held;
     match e {
-        Event::Started => moved(s, drive.enters(DriveState::SwitchOnDisabled)),
-        Event::QuickStopDone => moved(s, drive.enters(DriveState::SwitchOnDisabled)),
-        Event::Fault(code, register) => faulted(code, register, s, d, output),
-        Event::ReactionDone => moved(s, drive.enters(DriveState::Fault)),
-        Event::Feedback(at, speed) => fed_back(at, speed, s, d),
-        Event::SetPointReached => moved(s, drive.with_store(store.reached())),
-        Event::Tick => tick(s, d, output),
-        Event::CauseGone => moved(s, drive.with_cause(false)),
+        Event::Started => moved(parts, drive.enters(DriveState::SwitchOnDisabled)),
+        Event::QuickStopDone => moved(parts, drive.enters(DriveState::SwitchOnDisabled)),
+        Event::Fault(code, register) => faulted(code, register, parts, d, output),
+        Event::ReactionDone => moved(parts, drive.enters(DriveState::Fault)),
+        Event::Feedback(at, speed) => fed_back(at, speed, parts, d),
+        Event::SetPointReached => moved(parts, drive.with_store(store.reached())),
+        Event::Tick => tick(parts, d, output),
+        Event::CauseGone => moved(parts, drive.with_cause(false)),
         Event::Voltage(on) => {
-            let mut node = s.node;
+            let mut node = parts.node;
             node.voltage = on;
             becomes(Parts { node, drive, held }, false)
         }

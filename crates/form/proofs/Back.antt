@@ -33,17 +33,19 @@ use Rattle.state.specs.declared.Node.{Node}
 use Rattle.state.specs.declared.Pace.{Pace}
 use Rattle.state.specs.declared.State.{State}
 use Rattle.rules_dictionary.proofs.Rows.{value-bytes}
-use Rattle.form.specs.Form.{wordLength, wordAt, numbersBehind, setPointWords, pacesForm, paceAt, flagNumber, flagOf, nmtNumber, nmtOf}
+use Rattle.form.specs.Form.{wordLength, wordAt, numbersBehind, setPointWords, dueOffset, paceLength, paceForm, paceAt}
+use Rattle.form.specs.Form.{flagNumber, flagOf, nmtNumber, nmtOf}
 use Rattle.form.specs.Form.{stateNumber, driveStateOf, each, joined, nodeForm, nodeAt, setPointForm, setPointAt, storeKind, firstOf, secondOf}
 use Rattle.form.specs.Form.{storeForm, storeAt, driveForm, driveAt, dataForm, dataAt, half, moveForm, moveAt, planForm, planAt, headForm, form}
 use Rattle.form.specs.Form.{stateOf, nmtOffset, voltageOffset, heartbeatOffset, nodeLength, velocityOffset, accelerationOffset}
 use Rattle.form.specs.Form.{decelerationOffset, setPointLength, modeOffset, takenOffset, limitOffset, causeOffset, storeOffset, driveLength}
-use Rattle.form.specs.Form.{dataLength, moveLength, planLength, nodePlace, drivePlace, storePlace, readyPlace, heldPlace, countsPlace, duePlace}
+use Rattle.form.specs.Form.{dataLength, moveLength, planLength, nodePlace, drivePlace, storePlace, readyPlace, heldPlace, pacesPlace}
 use Rattle.form.specs.Form.{plansPlace}
-use Rattle.form.specs.Own.{everyAt, ownFlag, flagsOwn, everyWord, isZero, small, nodeOwn, storeOwn, driveOwn, planOwn, plansOwn, isOwn}
-use Rattle.form.specs.Typed.{Many, none, more, SetPointTyped, StoreTyped, DataTyped, MoveTyped, PlanTyped, Typed}
+use Rattle.form.specs.Own.{everyAt, ownFlag, flagsOwn, everyWord, isZero, small, nodeOwn, storeOwn, driveOwn}
+use Rattle.form.specs.Own.{pacesOwn, planOwn, plansOwn, headOwn, isOwn}
+use Rattle.form.specs.Typed.{Many, none, more, SetPointTyped, StoreTyped, AnyPace, DataTyped, MoveTyped, PlanTyped, Typed}
 use Rattle.form.proofs.Rows.{each-element, length-node, length-set-point, length-drive, length-data, length-move, length-plan, length-frames}
-use Rattle.form.proofs.Rows.{length-paces}
+use Rattle.form.proofs.Rows.{length-pace, length-paces}
 
 -- ---- enums and flags
 
@@ -89,20 +91,6 @@ as-state : (s : State) {n : Node} {v : Drive} {ps : List Plan} {r h : List PdoDa
     n ≡ s .node → v ≡ s .axis .drive → ps ≡ s .axis .plans → r ≡ s .axis .ready → h ≡ s .axis .held → c ≡ s .axis .paces →
     record { node = n; axis = record { drive = v; plans = ps; ready = r; held = h; paces = c } } ≡ s
 as-state s e1 e2 e3 e4 e5 e6 = rw (e1, e2, e3, e4, e5, e6)
-
--- counts and marks, side by side
-abbrev paired : List ℕ → List ℕ → List Pace
-paired [] ms = []
-paired (c ∷ cs) [] = []
-paired (c ∷ cs) (m ∷ ms) = record { count = c; due = flagOf m } ∷ paired cs ms
-
-paces-of : (ps : List Pace) → paired (map (λ p. p .count) ps) (map (λ p. flagNumber (p .due)) ps) ≡ ps
-paces-of [] = refl
-paces-of (p ∷ ps) = rw (flag-of (p .due), paces-of ps)
-
-flags-own : (ps : List Pace) → all (λ t. t) (map ownFlag (map (λ p. flagNumber (p .due)) ps)) ≡ true
-flags-own [] = refl
-flags-own (p ∷ ps) = rw (flag-of (p .due), same (flagNumber (p .due))) (flags-own ps)
 
 -- words that are zero
 abbrev zeroWords : ℕ → List ℕ
@@ -244,42 +232,39 @@ module _ (bs : List ℕ) where
       row-back dataForm DataTyped (λ i. dataAt i bs) (λ _. true) dataLength length-data (λ p r rest′ t e′. (data-back p r rest′ t e′, refl))
       place rest m e .0
 
-  listed-back : (place : ℕ) (xs rest : List ℕ) → length xs ≡ eachWay → drop place bs ≡ xs ++ rest → each eachWay place 1 (λ i. getD bs i 0) ≡ xs
-  listed-back place xs rest l e =
-      let room : place + eachWay ≤ length bs = omega (arith, simp (length-drop, length-append) at (ap length e)) in
-      each-element eachWay place 0 bs room ∙ ap (take eachWay) e ∙ take-at xs rest eachWay l
+  pace-back : (place : ℕ) (p : Pace) (rest : List ℕ) → AnyPace p → drop place bs ≡ paceForm p ++ rest →
+      (paceAt place bs ≡ p) × (ownFlag (getD bs (place + dueOffset) 0) ≡ true)
+  unfolding paceForm
+  pace-back place p rest t e =
+      let count : getD bs place 0 ≡ p .count = rw add-zero at (byte-at place 0 e) in
+      let due : getD bs (place + dueOffset) 0 ≡ flagNumber (p .due) = byte-at place dueOffset e in
+      (rw (count, due, flag-of (p .due)), rw (due, flag-of (p .due)) (same (flagNumber (p .due))))
 
-  paces-back : (ps : List Pace) (rest : List ℕ) → length ps ≡ eachWay → drop countsPlace bs ≡ pacesForm ps ++ rest →
-      (each eachWay countsPlace 1 (λ i. paceAt i bs) ≡ ps) × (flagsOwn eachWay duePlace bs ≡ true)
-  unfolding pacesForm flagsOwn
-  paces-back ps rest l e =
-      let cs = map (λ p. p .count) ps in
-      let ms = map (λ p. flagNumber (p .due)) ps in
-      let e′ : drop countsPlace bs ≡ cs ++ (ms ++ rest) = e ∙ append-assoc cs ms rest in
-      let counts = listed-back countsPlace cs (ms ++ rest) (simp length-map l) e′ in
-      let marks = listed-back duePlace ms rest (simp length-map l) (behind countsPlace eachWay cs e′ (simp length-map l)) in (
-        ap (λ (xs : List ℕ). paired xs (each eachWay duePlace 1 (λ i. getD bs i 0))) counts ∙ ap (paired cs) marks ∙ paces-of ps,
-        ap (λ (xs : List ℕ). all (λ t. t) (map ownFlag xs)) marks ∙ flags-own ps,
-      )
+  paces-back : {ps : List Pace} (rest : List ℕ) → Many AnyPace eachWay ps → drop pacesPlace bs ≡ joined paceForm ps ++ rest →
+      (each eachWay pacesPlace paceLength (λ i. paceAt i bs) ≡ ps) × (pacesOwn bs ≡ true)
+  unfolding pacesOwn
+  paces-back rest m e =
+      row-back paceForm AnyPace (λ i. paceAt i bs) (λ i. ownFlag (getD bs (i + dueOffset) 0)) paceLength (λ p _. length-pace p) pace-back
+      pacesPlace rest m e
 
   -- THE LAWS: read back, the form is the state, and it is its own
   pub state-back : (s : State) → Typed s → bs ≡ form s → (stateOf bs ≡ s) × (isOwn bs ≡ true)
-  unfolding form headForm stateOf isOwn plansOwn
+  unfolding form headForm stateOf isOwn headOwn plansOwn
   state-back s t e =
       let a = s .axis in
       let h = t .head in
       let e0 : drop nodePlace bs ≡ nodeForm (s .node) ++ (driveForm (a .drive) ++ (joined dataForm (a .ready)
-      ++ (joined dataForm (a .held) ++ (pacesForm (a .paces) ++ joined planForm (a .plans))))) = e ∙ simp append-assoc in
+      ++ (joined dataForm (a .held) ++ (joined paceForm (a .paces) ++ joined planForm (a .plans))))) = e ∙ simp append-assoc in
       let e1 = behind nodePlace nodeLength (nodeForm (s .node)) e0 (length-node (s .node)) in
       let e2 = behind drivePlace driveLength (driveForm (a .drive)) e1 (length-drive (a .drive)) in
       let e3 = behind readyPlace (eachWay * dataLength) (joined dataForm (a .ready)) e2 (length-frames (h .ready)) in
       let e4 = behind heldPlace (eachWay * dataLength) (joined dataForm (a .held)) e3 (length-frames (h .held)) in
-      let e5 = behind countsPlace (2 * eachWay) (pacesForm (a .paces)) e4 (length-paces (a .paces) (h .paces)) in
+      let e5 = behind pacesPlace (eachWay * paceLength) (joined paceForm (a .paces)) e4 (length-paces (h .paces)) in
       let node = node-back (s .node) _ (h .heartbeat) e0 in
       let drive = drive-back (a .drive) _ (h .store) e1 in
       let ready = frames-back readyPlace _ (h .ready) e2 in
       let held = frames-back heldPlace _ (h .held) e3 in
-      let paces = paces-back (a .paces) _ (h .paces) e4 in
+      let paces = paces-back _ (h .paces) e4 in
       let plans = row-back planForm PlanTyped (λ i. planAt i bs) (λ i. planOwn i bs) planLength length-plan plan-back
       plansPlace [] (t .plans) (e5 ∙ sym (append-nil (joined planForm (a .plans)))) in (
         as-state s (node .0) (drive .0) (plans .0) ready held (paces .0),

@@ -4,7 +4,7 @@ use Prim.Native.Nat.{ℕ, zero, suc, _+_, _-_, _*_, _/_, _%_, _^_, _<_, _≤_}
 use native.Mathlib.Numerals.{add-one}
 use native.Mathlib.Omega.{arith}
 use mathlib.Core.Path.{_≡_, refl, sym, _∙_, ap}
-use mathlib.Core.Bool.{Bool, true, false, cond}
+use mathlib.Core.Bool.{Bool, true, false, cond, _&&_}
 use mathlib.Core.List.{List, [], _∷_, _++_}
 use borrow.Author.Tests.{eqb-true, ltb-true}
 use lib.Dec.{eqb}
@@ -18,12 +18,14 @@ use Rattle.drive.specs.declared.Store.the-variants.{Empty, Rested, Moving, Queu
 use Rattle.drive.specs.SetPoints.{modeOf}
 use Rattle.dictionary.proofs.Bytes.{value-step}
 use Rattle.form.specs.Form.{flagNumber, flagOf, nmtNumber, nmtOf, stateNumber, driveStateOf, each, joined, nodeForm, nodeAt, wordLength, wordAt}
-use Rattle.form.specs.Form.{setPointForm, setPointAt, storeForm, storeAt, driveForm, driveAt, dataForm, dataAt, pacesForm, paceAt, half}
+use Rattle.form.specs.Form.{setPointForm, setPointAt, storeForm, storeAt, driveForm, driveAt, dataForm, dataAt}
+use Rattle.form.specs.Form.{dueOffset, paceLength, paceForm, paceAt, half}
 use Rattle.form.specs.Form.{moveForm, moveAt, planForm, planAt, headForm, form, stateOf, nmtOffset, voltageOffset, heartbeatOffset, nodeLength}
 use Rattle.form.specs.Form.{velocityOffset, accelerationOffset, decelerationOffset, numbersBehind, setPointWords, setPointLength, storeLength}
 use Rattle.form.specs.Form.{modeOffset, takenOffset, driveMarks, driveLength, dataLength, moveLength, planLength, nodePlace, drivePlace}
-use Rattle.form.specs.Form.{storePlace, readyPlace, heldPlace, countsPlace, duePlace, plansPlace, stateLength}
-use Rattle.form.specs.Own.{everyAt, ownFlag, flagsOwn, everyWord, isZero, small, nodeOwn, storeOwn, driveOwn, planOwn, plansOwn, isOwn}
+use Rattle.form.specs.Form.{storePlace, readyPlace, heldPlace, pacesPlace, plansPlace, stateLength}
+use Rattle.form.specs.Own.{everyAt, ownFlag, flagsOwn, everyWord, isZero, small, nodeOwn, storeOwn, driveOwn}
+use Rattle.form.specs.Own.{pacesOwn, planOwn, plansOwn, headOwn, isOwn}
 use Rattle.form.proofs.Rows.{each-element}
 
 -- parts behind one another are one part
@@ -165,27 +167,38 @@ module _ (bs : List ℕ) (fits : (i : ℕ) → getD bs i 0 < 256) where
       joined dataForm (each eachWay place dataLength (λ i. dataAt i bs)) ≡ part place (dataLength * eachWay) bs
   frames-kept place h = row-kept dataForm (λ i. dataAt i bs) (λ _. true) dataLength (λ i l _. data-kept i l) eachWay place h refl
 
-  paces-kept : plansPlace ≤ length bs → flagsOwn eachWay duePlace bs ≡ true →
-      pacesForm (each eachWay countsPlace 1 (λ i. paceAt i bs)) ≡ part countsPlace (2 * eachWay) bs
-  unfolding pacesForm
-  paces-kept h t = then-part bs countsPlace eachWay eachWay (each-element eachWay countsPlace 0 bs (omega arith)) (flags-kept eachWay duePlace h t)
+  pace-kept : (place : ℕ) → place + paceLength ≤ length bs → ownFlag (getD bs (place + dueOffset) 0) ≡ true →
+      paceForm (paceAt place bs) ≡ part place paceLength bs
+  unfolding paceForm
+  pace-kept place h t =
+      let mark = getD bs (place + dueOffset) 0 in
+      let due : flagNumber (flagOf mark) ≡ mark = eqb-true (flagNumber (flagOf mark)) mark t in
+      rw due (each-element paceLength place 0 bs h)
+
+  paces-kept : plansPlace ≤ length bs → pacesOwn bs ≡ true →
+      joined paceForm (each eachWay pacesPlace paceLength (λ i. paceAt i bs)) ≡ part pacesPlace (paceLength * eachWay) bs
+  unfolding pacesOwn
+  paces-kept h t =
+      row-kept paceForm (λ i. paceAt i bs) (λ i. ownFlag (getD bs (i + dueOffset) 0)) paceLength pace-kept eachWay pacesPlace h t
 
   -- THE LAW: the bytes are the form of the state that they hold
   pub own-kept : length bs ≡ stateLength → isOwn bs ≡ true → form (stateOf bs) ≡ bs
-  unfolding form headForm stateOf isOwn plansOwn
+  unfolding form headForm stateOf isOwn headOwn plansOwn
   own-kept l t =
       let nodeTest = nodeOwn nodePlace bs in
       let driveTest = driveOwn drivePlace bs in
-      let dueTest = flagsOwn eachWay duePlace bs in
-      let t1 = and-right nodeTest _ t in
+      let dueTest = pacesOwn bs in
+      let head = and-left (nodeTest && (driveTest && dueTest)) _ t in
+      let t1 = and-right nodeTest _ head in
       let t2 = and-right driveTest _ t1 in
       let frames = dataLength * eachWay in
       let eight = 2 * eachWay in
       let plan = row-kept planForm (λ i. planAt i bs) (λ i. planOwn i bs) planLength plan-kept in
-      let paces = paces-kept (omega arith) (and-left dueTest _ t2) in
-      let held = then-part bs heldPlace frames (plansPlace - countsPlace) (frames-kept heldPlace (omega arith)) paces in
+      let paces = paces-kept (omega arith) t2 in
+      let held = then-part bs heldPlace frames (plansPlace - pacesPlace) (frames-kept heldPlace (omega arith)) paces in
       let ready = then-part bs readyPlace frames (plansPlace - heldPlace) (frames-kept readyPlace (omega arith)) held in
       let drive = then-part bs drivePlace driveLength (plansPlace - readyPlace) (drive-kept (omega arith) (and-left driveTest _ t1)) ready in
-      let head = then-part bs nodePlace nodeLength (plansPlace - drivePlace) (node-kept (omega arith) (and-left nodeTest _ t)) drive in
-      then-part bs nodePlace plansPlace (planLength * eight) head (plan eight plansPlace (omega arith) (and-right dueTest _ t2))
+      let front = then-part bs nodePlace nodeLength (plansPlace - drivePlace) (node-kept (omega arith) (and-left nodeTest _ head)) drive in
+      then-part bs nodePlace plansPlace (planLength * eight) front
+      (plan eight plansPlace (omega arith) (and-right (nodeTest && (driveTest && dueTest)) _ t))
       ∙ take-all stateLength bs (omega arith)

@@ -18,12 +18,14 @@ use Rattle.drive.specs.declared.Store.the-variants.{Empty, Rested, Moving, Queu
 use Rattle.state.specs.declared.State.{State}
 use Rattle.rules.specs.Outcome.{sameBy}
 use Rattle.dictionary.proofs.Bytes.{value-step, value-none}
-use Rattle.form.specs.Form.{moveAt, dataAt, wordLength, pacesForm, each, joined, heartbeatOffset, nodeForm, nodeAt, velocityOffset}
+use Rattle.form.specs.Form.{moveAt, dataAt, wordLength, paceForm, paceAt, paceLength, pacesPlace, each}
+use Rattle.form.specs.Form.{joined, heartbeatOffset, nodeForm, nodeAt, velocityOffset}
 use Rattle.form.specs.Form.{accelerationOffset, decelerationOffset, setPointLength, setPointForm, setPointAt, storeForm, storeAt, driveForm}
 use Rattle.form.specs.Form.{driveAt, dataForm, resting, moveLength, planLength, planForm, planAt, headForm, form, HoldsPlans, stateOf, isForm}
-use Rattle.form.specs.Form.{dataLength, nodePlace, storePlace, readyPlace, heldPlace, plansPlace, stateLength}
+use Rattle.form.specs.Form.{dataLength, nodePlace, storePlace, readyPlace, heldPlace, plansPlace, planPlace, planIn, stateLength}
 use Rattle.form.specs.Own.{isOwn}
-use Rattle.form.specs.Typed.{Many, none, more, DataTyped, SetPointTyped, StoreTyped, MoveTyped, PlanTyped, Typed}
+use Rattle.form.specs.Typed.{Many, none, more, AnyPace, DataTyped, SetPointTyped, StoreTyped, MoveTyped, PlanTyped, Typed}
+use Rattle.form.proofs.Rows.{each-at}
 use Rattle.form.proofs.Kept.{own-kept}
 use Rattle.form.proofs.Back.{state-back}
 
@@ -102,10 +104,15 @@ module _ (bs : List ℕ) (fits : (i : ℕ) → getD bs i 0 < 256) where
               (set-point-typed (first + setPointLength));
           ready = each-read DataTyped (λ i. dataAt i bs) eachWay readyPlace dataLength (λ i. record { size = refl });
           held = each-read DataTyped (λ i. dataAt i bs) eachWay heldPlace dataLength (λ i. record { size = refl });
-          paces = refl;
+          paces = each-read AnyPace (λ i. paceAt i bs) eachWay pacesPlace paceLength (λ i. tt);
         };
         plans = plans-typed bs;
       }
+
+-- the plan that bytes hold for a PDO, where it stands
+pub plan-stands : (bs : List ℕ) (p : ℕ) → p < 2 * eachWay → planIn bs p ≡ planAt (planPlace p) bs
+unfolding stateOf
+plan-stands bs p h = each-at (2 * eachWay) plansPlace planLength (λ i. planAt i bs) _ p h
 
 -- ---- THE LAWS
 
@@ -132,7 +139,7 @@ is-own bs fits l = go (isOwn bs) (isForm bs) refl refl
 
 -- the plans' bytes of a form
 read-length : (bs : List ℕ) → length (headForm (stateOf bs)) ≡ plansPlace
-unfolding headForm stateOf nodeForm driveForm storeForm setPointForm dataForm pacesForm bytes
+unfolding headForm stateOf nodeForm driveForm storeForm setPointForm dataForm paceForm bytes
 read-length bs = refl
 
 pub plans-held : (bs : List ℕ) → isForm bs ≡ true → HoldsPlans bs (stateOf bs .axis .plans)

@@ -22,11 +22,12 @@ use Rattle.drive.specs.declared.Drive.{Drive}
 use Rattle.state.specs.declared.Node.{Node}
 use Rattle.state.specs.declared.Pace.{Pace}
 use Rattle.state.specs.declared.State.{State}
-use Rattle.form.specs.Form.{each, joined, flagNumber, nodeForm, setPointForm, storeKind, firstOf, secondOf, storeForm, driveForm, dataForm}
-use Rattle.form.specs.Form.{pacesForm, moveForm, planForm, headForm, form, withPlans, formOver, HoldsPlans, nodeLength, wordLength}
-use Rattle.form.specs.Form.{velocityOffset, accelerationOffset, decelerationOffset, setPointLength, driveLength, dataLength, moveLength}
-use Rattle.form.specs.Form.{planLength, nodePlace, drivePlace, readyPlace, heldPlace, countsPlace, duePlace, plansPlace, stateLength}
-use Rattle.form.specs.Typed.{Many, none, more, DataTyped, PlanTyped, HeadTyped, Typed}
+use Rattle.form.specs.Form.{each, joined, nodeForm, setPointForm, storeKind, firstOf, secondOf, storeForm, driveForm, dataForm}
+use Rattle.form.specs.Form.{paceForm, moveForm, planForm, headForm, form, withPlans, formOver, HoldsPlans, nodeLength, wordLength}
+use Rattle.form.specs.Form.{velocityOffset, accelerationOffset, decelerationOffset, setPointLength, driveLength}
+use Rattle.form.specs.Form.{dataLength, paceLength, moveLength}
+use Rattle.form.specs.Form.{planLength, nodePlace, drivePlace, readyPlace, heldPlace, pacesPlace, plansPlace, stateLength}
+use Rattle.form.specs.Typed.{Many, none, more, AnyPace, DataTyped, PlanTyped, HeadTyped, Typed}
 
 -- what is written behind what was written
 pub sets-append : (d xs ys : List ℕ) (place next : ℕ) → place + length xs ≡ next → sets d place (xs ++ ys) ≡ sets (sets d place xs) next ys
@@ -36,12 +37,6 @@ sets-append d (x ∷ xs) ys place next e = sets-append (set d place x) xs ys (su
 -- a byte, and what is written behind it
 pub sets-behind : (d : List ℕ) (place x : ℕ) (xs : List ℕ) → sets (set d place x) (place + 1) xs ≡ sets d place (x ∷ xs)
 sets-behind d place x xs = rw add-one
-
--- a byte behind what is written
-set-past : (d xs : List ℕ) (place i v : ℕ) → place + length xs ≤ i → set (sets d place xs) i v ≡ sets (set d i v) place xs
-set-past d [] place i v h = refl
-set-past d (x ∷ xs) place i v h =
-    set-past (set d place x) xs (suc place) i v (omega arith) ∙ rw (set-comm d place i x v (λ e. absurd (omega arith)))
 
 -- ---- so many things
 
@@ -88,32 +83,12 @@ module _ {A : Type 0} {f : A → List ℕ} {P : A → Type 0} {width : ℕ} {z :
         let l : length xs ≤ k = omega arith in
         (rw (drop-of-length-le xs l) at (r .left), rw few at (many-at P z xs (λ i g. r .holds i (omega arith))))
 
--- two rows of bytes, one behind the other, written side by side as far as k
-pub record TwoRows {A : Type 0} (f g : A → ℕ) (z : A) (xs : List A) (p q : ℕ) (before bytes : List ℕ) (k : ℕ) : Type 0 where
-  pub left : sets (sets bytes (p + k) (map f (drop k xs))) (q + k) (map g (drop k xs)) ≡ sets (sets before p (map f xs)) q (map g xs)
-  pub kept : length bytes ≡ length before
-
-module _ {A : Type 0} {f g : A → ℕ} {z : A} {xs : List A} {p q : ℕ} {before : List ℕ} where
-  pub no-pair : TwoRows f g z xs p q before before 0
-  no-pair = record { left = rw (add-zero p, add-zero q); kept = refl }
-
-  module _ {bytes : List ℕ} {k : ℕ} (r : TwoRows f g z xs p q before bytes k) where
-    pub pair-more : {next : List ℕ} → k < length xs → p + length xs ≤ q →
-        next ≡ set (set bytes (p + k) (f (getD xs k z))) (q + k) (g (getD xs k z)) → TwoRows f g z xs p q before next (k + 1)
-    pair-more h apart e =
-        let x = getD xs k z in
-        let rest = drop (suc k) xs in
-        let l : suc (p + k) + length (map f rest) ≤ q + k = simp (length-map, length-drop) (omega arith) in
-        let past = set-past (set bytes (p + k) (f x)) (map f rest) (suc (p + k)) (q + k) (g x) l in
-        let p′ : p + (k + 1) ≡ suc (p + k) = omega arith in
-        let q′ : q + (k + 1) ≡ suc (q + k) = omega arith in
-        record {
-          left = rw (e, p′, q′, add-one, ← past) (rw (drop-cons xs k z h) at (r .left));
-          kept = ap length e ∙ simp length-set (r .kept);
-        }
-
-    pub pairs-written : length xs ≤ k → bytes ≡ sets (sets before p (map f xs)) q (map g xs)
-    pairs-written h = rw (drop-of-length-le xs h) at (r .left)
+-- what is read for one of them
+pub each-at : {A : Type 0} (n place width : ℕ) (f : ℕ → A) (z : A) (p : ℕ) → p < n → getD (each n place width f) p z ≡ f (place + width * p)
+each-at (suc n) place width f z zero h = let e : place + width * 0 ≡ place = omega arith in rw e
+each-at (suc n) place width f z (suc p) h =
+    let e : place + width + width * p ≡ place + width * suc p = omega arith in
+    rw (← e) (each-at n (place + width) width f z p (omega arith))
 
 -- the elements one by one
 pub each-element : {A : Type 0} (n place : ℕ) (z : A) (xs : List A) → place + n ≤ length xs →
@@ -173,12 +148,6 @@ store-written d place s =
     sym (sets-append (set d place (storeKind s)) (setPointForm (firstOf s)) (setPointForm (secondOf s)) (place + 1) _ (omega arith))
     ∙ sets-behind d place (storeKind s) (setPointForm (firstOf s) ++ setPointForm (secondOf s))
 
--- the counts and the due marks
-pub paces-written : (d : List ℕ) (ps : List Pace) → length ps ≡ eachWay →
-    sets (sets d countsPlace (map (λ p. p .count) ps)) duePlace (map (λ p. flagNumber (p .due)) ps) ≡ sets d countsPlace (pacesForm ps)
-unfolding pacesForm
-paces-written d ps l = sym (sets-append d (map (λ p. p .count) ps) _ countsPlace duePlace (simp length-map (omega arith)))
-
 -- ---- lengths of the parts
 
 pub length-node : (n : Node) → length (nodeForm n) ≡ nodeLength
@@ -196,9 +165,12 @@ length-data r t = ap suc (t .size)
 pub length-frames : {rs : List PdoData} → Many DataTyped eachWay rs → length (joined dataForm rs) ≡ eachWay * dataLength
 length-frames m = length-row dataForm dataLength length-data m
 
-pub length-paces : (ps : List Pace) → length ps ≡ eachWay → length (pacesForm ps) ≡ 2 * eachWay
-unfolding pacesForm
-length-paces ps l = simp (length-append, length-map) (omega arith)
+pub length-pace : (p : Pace) → length (paceForm p) ≡ paceLength
+unfolding paceForm
+length-pace p = refl
+
+pub length-paces : {ps : List Pace} → Many AnyPace eachWay ps → length (joined paceForm ps) ≡ eachWay * paceLength
+length-paces m = length-row paceForm paceLength (λ p _. length-pace p) m
 
 pub length-move : (m : Move) → length (moveForm m) ≡ moveLength
 unfolding moveForm bytes
@@ -218,8 +190,15 @@ length-head s t =
     let v = length-drive (s .axis .drive) in
     let r = length-frames (t .ready) in
     let h = length-frames (t .held) in
-    let p = length-paces (s .axis .paces) (t .paces) in
+    let p = length-paces (t .paces) in
     simp length-append (omega arith)
+
+pub length-form : (s : State) → Typed s → length (form s) ≡ stateLength
+unfolding form
+length-form s t =
+    let h = length-head s (t .head) in
+    let p = length-plans (t .plans) in
+    rw length-append (omega arith)
 
 -- ---- the whole
 
@@ -231,17 +210,17 @@ front d xs n e h = let z : 0 + length xs ≡ n = omega arith in rw z at (sets-eq
 pub head-written : (d : List ℕ) (s : State) → length d ≡ stateLength → HeadTyped s →
     let a = s .axis in
     sets (sets (sets (sets (sets d nodePlace (nodeForm (s .node))) drivePlace (driveForm (a .drive))) readyPlace (joined dataForm (a .ready)))
-    heldPlace (joined dataForm (a .held))) countsPlace (pacesForm (a .paces)) ≡ formOver d s
+    heldPlace (joined dataForm (a .held))) pacesPlace (joined paceForm (a .paces)) ≡ formOver d s
 unfolding formOver headForm
 head-written d s l t =
     let n = nodeForm (s .node) in
     let v = driveForm (s .axis .drive) in
     let r = joined dataForm (s .axis .ready) in
     let h = joined dataForm (s .axis .held) in
-    let p = pacesForm (s .axis .paces) in
+    let p = joined paceForm (s .axis .paces) in
     let lr = length-frames (t .ready) in
     let lh = length-frames (t .held) in
-    in-turn (sets d nodePlace n) v r h p drivePlace readyPlace heldPlace countsPlace
+    in-turn (sets d nodePlace n) v r h p drivePlace readyPlace heldPlace pacesPlace
     (omega (arith, length-drive (s .axis .drive))) (omega arith) (omega arith)
     ∙ sym (sets-append d n (v ++ (r ++ (h ++ p))) nodePlace drivePlace (omega (arith, length-node (s .node))))
     ∙ front d (headForm s) plansPlace (length-head s t) (omega arith)

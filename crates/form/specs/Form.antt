@@ -1,9 +1,9 @@
 -- The state as bytes of one length: each number as wide as its type and low byte first, each enum by its number, each flag as 0 or 1.
--- In this order: the node, the drive, the ready and the held frames, SYNC counts, due marks, and the plans. Assumes nothing.
+-- In this order: the node, the drive, the ready and the held frames, what is kept of the transmit PDOs, and the plans. Assumes nothing.
 use Prim.Native.Nat.{ℕ, zero, suc, _+_, _*_, _/_, _%_, _^_}
 use mathlib.Core.Path.{_≡_}
 use mathlib.Core.Bool.{Bool, true, false, cond}
-use mathlib.Core.List.{List, [], _∷_, _++_, map}
+use mathlib.Core.List.{List, [], _∷_, _++_}
 use lib.Dec.{eqb}
 use lib.ListN.{getD, drop}
 use Rattle.rules_dictionary.specs.declared.Move.{Move}
@@ -232,14 +232,20 @@ dataForm r = r .length ∷ r .bytes
 abbrev pub dataAt : ℕ → List ℕ → PdoData
 dataAt place bs = record { length = getD bs place 0; bytes = each mostData (place + 1) 1 (λ i. getD bs i 0) }
 
--- ---- what is kept of the transmit PDOs: their SYNC counts, then their due marks
+-- ---- what is kept of a transmit PDO: its SYNC count and its due mark
 
-unfoldable pub pacesForm : List Pace → List ℕ
-pacesForm paces = map (λ p. p .count) paces ++ map (λ p. flagNumber (p .due)) paces
+-- where the mark stands, counted from the count
+abbrev pub dueOffset : ℕ
+dueOffset = 1
 
--- what is kept of the transmit PDO whose count stands at a place
+abbrev pub paceLength : ℕ
+paceLength = dueOffset + 1
+
+unfoldable pub paceForm : Pace → List ℕ
+paceForm p = p .count ∷ flagNumber (p .due) ∷ []
+
 abbrev pub paceAt : ℕ → List ℕ → Pace
-paceAt place bs = record { count = getD bs place 0; due = flagOf (getD bs (place + eachWay) 0) }
+paceAt place bs = record { count = getD bs place 0; due = flagOf (getD bs (place + dueOffset) 0) }
 
 -- ---- a plan: its count and eight moves, each a word: the place in its low half, then the size, and a zero byte
 
@@ -285,14 +291,14 @@ readyPlace = drivePlace + driveLength
 abbrev pub heldPlace : ℕ
 heldPlace = readyPlace + eachWay * dataLength
 
-abbrev pub countsPlace : ℕ
-countsPlace = heldPlace + eachWay * dataLength
-
-abbrev pub duePlace : ℕ
-duePlace = countsPlace + eachWay
+abbrev pub pacesPlace : ℕ
+pacesPlace = heldPlace + eachWay * dataLength
 
 abbrev pub plansPlace : ℕ
-plansPlace = duePlace + eachWay
+plansPlace = pacesPlace + eachWay * paceLength
+
+abbrev pub planPlace : ℕ → ℕ
+planPlace p = plansPlace + planLength * p
 
 abbrev pub stateLength : ℕ
 stateLength = plansPlace + 2 * eachWay * planLength
@@ -301,7 +307,7 @@ stateLength = plansPlace + 2 * eachWay * planLength
 unfoldable pub headForm : State → List ℕ
 headForm s =
     nodeForm (s .node) ++ (driveForm (s .axis .drive)
-    ++ (joined dataForm (s .axis .ready) ++ (joined dataForm (s .axis .held) ++ pacesForm (s .axis .paces))))
+    ++ (joined dataForm (s .axis .ready) ++ (joined dataForm (s .axis .held) ++ joined paceForm (s .axis .paces))))
 
 -- the byte form of a state
 unfoldable pub form : State → List ℕ
@@ -330,9 +336,13 @@ stateOf bs =
         plans = each (2 * eachWay) plansPlace planLength (λ i. planAt i bs);
         ready = each eachWay readyPlace dataLength (λ i. dataAt i bs);
         held = each eachWay heldPlace dataLength (λ i. dataAt i bs);
-        paces = each eachWay countsPlace 1 (λ i. paceAt i bs);
+        paces = each eachWay pacesPlace paceLength (λ i. paceAt i bs);
       };
     }
+
+-- the plan that they hold for a PDO
+abbrev pub planIn : List ℕ → ℕ → Plan
+planIn bs p = getD (stateOf bs .axis .plans) p (record { count = 0; moves = [] })
 
 -- are the bytes the form of the state that they hold
 unfoldable pub isForm : List ℕ → Bool

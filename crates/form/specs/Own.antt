@@ -12,7 +12,7 @@ use Rattle.rules_dictionary.specs.Legal.{modeNumber}
 use Rattle.drive.specs.SetPoints.{modeOf}
 use Rattle.form.specs.Form.{flagNumber, flagOf, nmtNumber, nmtOf, stateNumber, driveStateOf, each, nmtOffset, voltageOffset, wordLength, wordAt}
 use Rattle.form.specs.Form.{velocityOffset, numbersBehind, setPointWords, setPointLength, modeOffset, takenOffset, driveMarks, storeOffset}
-use Rattle.form.specs.Form.{planLength, nodePlace, drivePlace, duePlace, plansPlace}
+use Rattle.form.specs.Form.{dueOffset, paceLength, planLength, nodePlace, drivePlace, pacesPlace, plansPlace}
 
 -- does a test hold at each of so many places, one width apart
 abbrev pub everyAt : (ℕ → Bool) → ℕ → ℕ → ℕ → Bool
@@ -39,11 +39,6 @@ isZero word = eqb word 0
 abbrev pub small : ℕ → Bool
 small word = ltb word (2 ^ 24)
 
--- a number tells whether so many words are zero, and whether the last byte of each is
-pub record Tells (bits n place : ℕ) (bs : List ℕ) : Type 0 where
-  pub zeros : isZero bits ≡ everyWord isZero n place bs
-  pub smalls : small bits ≡ everyWord small n place bs
-
 -- ---- the parts
 
 unfoldable pub nodeOwn : ℕ → List ℕ → Bool
@@ -63,11 +58,19 @@ driveOwn place bs =
     && (eqb (modeNumber (modeOf (getD bs (place + modeOffset) 0))) (getD bs (place + modeOffset) 0)
     && (flagsOwn driveMarks (place + takenOffset) bs && storeOwn (place + storeOffset) bs))
 
+-- the due mark of each transmit PDO
+unfoldable pub pacesOwn : List ℕ → Bool
+pacesOwn bs = everyAt (λ i. ownFlag (getD bs (i + dueOffset) 0)) eachWay pacesPlace paceLength
+
 unfoldable pub planOwn : ℕ → List ℕ → Bool
 planOwn place bs = everyWord small mostMoves (place + 1) bs
 
 unfoldable pub plansOwn : List ℕ → Bool
 plansOwn bs = everyAt (λ i. planOwn i bs) (2 * eachWay) plansPlace planLength
 
+-- all but the plans
+unfoldable pub headOwn : List ℕ → Bool
+headOwn bs = nodeOwn nodePlace bs && (driveOwn drivePlace bs && pacesOwn bs)
+
 unfoldable pub isOwn : List ℕ → Bool
-isOwn bs = nodeOwn nodePlace bs && (driveOwn drivePlace bs && (flagsOwn eachWay duePlace bs && plansOwn bs))
+isOwn bs = headOwn bs && plansOwn bs

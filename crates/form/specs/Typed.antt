@@ -9,6 +9,7 @@ use Rattle.rules_dictionary.specs.declared.Plan.{Plan}
 use Rattle.rules_dictionary.specs.declared.PdoData.{PdoData}
 use Rattle.drive.specs.declared.SetPoint.{SetPoint}
 use Rattle.drive.specs.declared.Store.{Store}
+use Rattle.state.specs.declared.Pace.{Pace}
 use Rattle.state.specs.declared.State.{State}
 use Rattle.rules_dictionary.specs.Table.{eachWay, mostMoves}
 use Rattle.rules.specs.Outcome.{mostData}
@@ -32,6 +33,10 @@ pub record StoreTyped (s : Store) : Type 0 where
 pub record DataTyped (r : PdoData) : Type 0 where
   pub size : length (r .bytes) ≡ mostData
 
+-- of what is kept of a transmit PDO nothing is asked
+abbrev pub AnyPace : Pace → Type 0
+AnyPace p = Unit {0}
+
 pub record MoveTyped (m : Move) : Type 0 where
   pub place : m .place < half
   pub size : m .size < 256
@@ -45,7 +50,7 @@ pub record HeadTyped (s : State) : Type 0 where
   pub store : StoreTyped (s .axis .drive .store)
   pub ready : Many DataTyped eachWay (s .axis .ready)
   pub held : Many DataTyped eachWay (s .axis .held)
-  pub paces : length (s .axis .paces) ≡ eachWay
+  pub paces : Many AnyPace eachWay (s .axis .paces)
 
 pub record Typed (s : State) : Type 0 where
   pub head : HeadTyped s

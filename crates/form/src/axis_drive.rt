@@ -13,7 +13,6 @@ use drive::DriveState;
 use drive::SetPoint;
 use drive::Store;
 use drive::set_points::mode_of;
-use rules_dictionary::Mode;
 ghost use mathlib.Core.Path.{_≡_};
 ghost use Prim.Native.Nat.{_+_, _≤_};
 ghost use lib.Dec.{eqb};
@@ -21,7 +20,7 @@ ghost use lib.ListN.{length};
 ghost use lib.Seq.{sets};
 ghost use Rattle.rules_dictionary.specs.Legal.{modeNumber};
 ghost use Rattle.drive.specs.SetPoints.{modeOf};
-ghost use Rattle.form.specs.Form.{driveStateOf, setPointLength, setPointAt, storeAt, drivePlace, storePlace, driveAt, stateLength};
+ghost use Rattle.form.specs.Form.{driveStateOf, setPointLength, setPointAt, storeAt, drivePlace, storePlace, stateLength, stateOf};
 ghost use Rattle.form.specs.Form.{stateNumber, setPointForm, storeKind, resting, firstOf, secondOf, storeForm, driveForm};
 ghost use Rattle.form.specs.Typed.{SetPointTyped, StoreTyped};
 ghost use Rattle.form.specs.Own.{storeOwn, driveOwn};
@@ -74,7 +73,7 @@ fn read_store(bytes: &[u8]) -> Store
 // The drive that the bytes hold.
 pub fn read_drive(bytes: &[u8]) -> Drive
     requires { ⌜ length (now bytes) ≡ stateLength ⌝ }
-    ensures { λ r. ⌜ r ≡ driveAt drivePlace (now (bytes .entry)) ⌝ }
+    ensures { λ r. ⌜ r ≡ stateOf (now (bytes .entry)) .axis .drive ⌝ }
 {
     let state = drive_state_of(bytes[layout::DRIVE_STATE]);
     let mode = mode_of(bytes[layout::MODE]);
@@ -102,17 +101,6 @@ fn state_number(state: DriveState) -> u8
         DriveState::QuickStopActive => 5,
         DriveState::FaultReactionActive => 6,
         DriveState::Fault => 7,
-    }
-}
-
-// The number of a mode.
-fn mode_number(mode: Mode) -> u8
-    ensures { λ r. ⌜ r ≡ modeNumber mode ⌝ }
-{
-    match mode {
-        Mode::NoMode => 0,
-        Mode::ProfilePosition => 1,
-        Mode::ProfileVelocity => 3,
     }
 }
 
@@ -196,7 +184,7 @@ pub fn write_drive(bytes: &mut [u8], v: Drive)
     let mode = v.mode;
     let store = v.store;
     bytes[layout::DRIVE_STATE] = state_number(state);
-    bytes[layout::MODE] = mode_number(mode);
+    bytes[layout::MODE] = mode.number();
     bytes[layout::TAKEN] = flag_number(v.taken);
     bytes[layout::LIMIT] = flag_number(v.limit);
     bytes[layout::CAUSE] = flag_number(v.cause);

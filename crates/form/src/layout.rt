@@ -72,11 +72,13 @@ pub const READY: usize = SECOND_SET_POINT + SET_POINT_LENGTH;
 
 pub const HELD: usize = READY + EACH_WAY * FRAME_LENGTH;
 
-// ---- the transmit PDOs' SYNC counts and due marks, a byte each
+// ---- what is kept of the transmit PDOs, four in a row: the SYNC count, behind it the due mark
 
-pub const FIRST_COUNT: usize = HELD + EACH_WAY * FRAME_LENGTH;
+pub const DUE_OFFSET: usize = 1;
 
-pub const FIRST_DUE: usize = FIRST_COUNT + EACH_WAY;
+pub const PACE_LENGTH: usize = DUE_OFFSET + 1;
+
+pub const PACES: usize = HELD + EACH_WAY * FRAME_LENGTH;
 
 // ---- the plans of the PDOs: receive, then transmit
 
@@ -87,21 +89,7 @@ pub const MOVE_LENGTH: usize = WORD_LENGTH;
 
 pub const PLAN_LENGTH: usize = MOVES_OFFSET + MOST_WORDS * MOVE_LENGTH;
 
-pub const FIRST_PLAN: usize = FIRST_DUE + EACH_WAY;
-
-pub const SECOND_PLAN: usize = FIRST_PLAN + PLAN_LENGTH;
-
-pub const THIRD_PLAN: usize = SECOND_PLAN + PLAN_LENGTH;
-
-pub const FOURTH_PLAN: usize = THIRD_PLAN + PLAN_LENGTH;
-
-pub const FIFTH_PLAN: usize = FOURTH_PLAN + PLAN_LENGTH;
-
-pub const SIXTH_PLAN: usize = FIFTH_PLAN + PLAN_LENGTH;
-
-pub const SEVENTH_PLAN: usize = SIXTH_PLAN + PLAN_LENGTH;
-
-pub const EIGHTH_PLAN: usize = SEVENTH_PLAN + PLAN_LENGTH;
+pub const PLANS: usize = PACES + EACH_WAY * PACE_LENGTH;
 
 // The bytes of a state.
-pub const STATE_LENGTH: usize = FIRST_PLAN + PDOS * PLAN_LENGTH;
+pub const STATE_LENGTH: usize = PLANS + PDOS * PLAN_LENGTH;

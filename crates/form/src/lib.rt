@@ -8,43 +8,27 @@ mod node;
 mod own;
 mod pdos;
 
-use dictionary::places::EACH_WAY;
+pub use axis_drive::read_drive;
 use drive::Drive;
+pub use node::read_node;
+pub use own::bits_of_words;
 use own::both;
+pub use pdos::read_frame;
+pub use pdos::read_held;
+pub use pdos::read_paces;
+pub use pdos::read_plan;
+pub use pdos::read_ready;
 pub use pdos::write_plans;
 use rules_dictionary::PdoData;
-use state::Axis;
 use state::Node;
 use state::Pace;
 use state::State;
 ghost use mathlib.Core.Path.{_≡_};
 ghost use mathlib.Core.List.{[]};
 ghost use lib.ListN.{length};
-ghost use Rattle.form.specs.Form.{stateLength, stateOf, form, withPlans, formOver, isForm};
+ghost use Rattle.form.specs.Form.{stateLength, form, withPlans, formOver};
+ghost use Rattle.form.specs.Own.{headOwn};
 ghost use Rattle.form.specs.Typed.{HeadTyped, Typed};
-
-// The state that the bytes hold.
-pub fn read_state(bytes: &[u8]) -> State
-    requires { ⌜ length (now bytes) ≡ stateLength ⌝ }
-    ensures { λ r. ⌜ r ≡ stateOf (now (bytes .entry)) ⌝ }
-{
-    let node = node::read_node(bytes);
-    let drive = axis_drive::read_drive(bytes);
-    let ready = pdos::read_frames(bytes, layout::READY);
-    let held = pdos::read_frames(bytes, layout::HELD);
-    let paces = pdos::read_paces(bytes);
-    let plans = pdos::read_plans(bytes);
-    State {
-        node,
-        axis: Axis {
-            drive,
-            plans,
-            ready,
-            held,
-            paces,
-        },
-    }
-}
 
 // All but the plans of a state into the bytes: the plans' bytes stay.
 pub fn write_head(
@@ -82,17 +66,22 @@ pub fn write_state(bytes: &mut [u8], s: State)
     write_head(bytes, node, drive, ready, held, paces);
 }
 
-// Whether the bytes are the form of a state.
-pub fn is_form(bytes: &[u8]) -> bool
-    requires { ⌜ length (now bytes) ≡ stateLength ⌝ }
-    ensures { λ r. ⌜ r ≡ isForm (now (bytes .entry)) ⌝ }
+// The bytes of a state.
+pub fn form_of(s: State) -> [u8; layout::STATE_LENGTH]
+    ensures { λ r. ⌜ (r ≡ form s) × Typed s ⌝ }
 {
-    let rows = both(
-        own::own_flags(bytes, layout::FIRST_DUE, EACH_WAY),
-        pdos::own_plans(bytes),
-    );
+    let mut bytes = [0u8; layout::STATE_LENGTH];
+    write_state(&mut bytes, s);
+    bytes
+}
+
+// Whether all bytes but the plans' are a state's form.
+pub fn is_head_own(bytes: &[u8]) -> bool
+    requires { ⌜ length (now bytes) ≡ stateLength ⌝ }
+    ensures { λ r. ⌜ r ≡ headOwn (now (bytes .entry)) ⌝ }
+{
     both(
         node::own_node(bytes),
-        both(axis_drive::own_drive(bytes), rows),
+        both(axis_drive::own_drive(bytes), pdos::own_paces(bytes)),
     )
 }

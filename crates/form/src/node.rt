@@ -11,7 +11,7 @@ ghost use mathlib.Core.Path.{_≡_};
 ghost use Prim.Native.Nat.{_<_};
 ghost use lib.ListN.{length};
 ghost use lib.Seq.{sets};
-ghost use Rattle.form.specs.Form.{flagOf, flagNumber, nmtOf, nmtNumber, stateLength, nodePlace, nodeAt, nodeForm, half};
+ghost use Rattle.form.specs.Form.{flagOf, flagNumber, nmtOf, nmtNumber, stateLength, stateOf, nodePlace, nodeForm, half};
 ghost use Rattle.form.specs.Own.{nodeOwn};
 
 // The flag of a byte.
@@ -38,7 +38,7 @@ fn nmt_of(b: u8) -> NmtState
 // The node that the bytes hold.
 pub fn read_node(bytes: &[u8]) -> Node
     requires { ⌜ length (now bytes) ≡ stateLength ⌝ }
-    ensures { λ r. ⌜ r ≡ nodeAt nodePlace (now (bytes .entry)) ⌝ }
+    ensures { λ r. ⌜ r ≡ stateOf (now (bytes .entry)) .node ⌝ }
 {
     let nmt = nmt_of(bytes[layout::NMT]);
     Node {

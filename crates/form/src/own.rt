@@ -9,7 +9,7 @@ ghost use mathlib.Core.Bool.{_&&_};
 ghost use Prim.Native.Nat.{_+_, _*_, _≤_};
 ghost use lib.ListN.{length};
 ghost use Rattle.form.specs.Form.{wordLength};
-ghost use Rattle.form.specs.Own.{ownFlag, flagsOwn, Tells};
+ghost use Rattle.form.specs.Own.{ownFlag, flagsOwn, isZero, everyWord};
 
 // Whether two tests hold, both made.
 pub fn both(a: bool, b: bool) -> bool
@@ -41,10 +41,10 @@ pub fn own_flags(bytes: &[u8], place: usize, count: usize) -> bool
     own
 }
 
-// The bits of so many words from a place on, all together.
+// The bits of so many words from a place on, all together: zero just where every word is.
 pub fn bits_of_words(bytes: &[u8], place: usize, count: usize) -> u32
     requires { ⌜ place + wordLength * count ≤ length (now bytes) ⌝ }
-    ensures { λ r. ⌜ Tells r count place (now (bytes .entry)) ⌝ }
+    ensures { λ r. ⌜ isZero r ≡ everyWord isZero count place (now (bytes .entry)) ⌝ }
 {
     let mut bits: u32 = 0;
     let mut at = place;

@@ -3,7 +3,8 @@
 use crate::layout;
 use crate::node::flag_number;
 use crate::node::flag_of;
-use crate::own::bits_of_words;
+use crate::own::both;
+use crate::own::own_flag;
 use dictionary::places::EACH_WAY;
 use dictionary::places::MOST_WORDS;
 use dictionary::places::PDOS;
@@ -18,13 +19,13 @@ ghost use Prim.Native.Nat.{_+_, _*_, _<_, _≤_};
 ghost use lib.ListN.{length};
 ghost use lib.Seq.{sets};
 ghost use Rattle.rules_dictionary.specs.Table.{eachWay, mostMoves};
-ghost use Rattle.form.specs.Form.{each, dataLength, dataAt, moveLength, moveAt, planLength, planAt, plansPlace, countsPlace, paceAt};
-ghost use Rattle.form.specs.Form.{stateLength, joined, dataForm, pacesForm, moveForm, planForm};
-ghost use Rattle.form.specs.Typed.{Many, DataTyped, MoveTyped, PlanTyped};
-ghost use Rattle.form.specs.Own.{plansOwn};
+ghost use Rattle.form.specs.Form.{each, dataLength, dataAt, moveLength, moveAt, planLength, planAt, paceLength, paceAt};
+ghost use Rattle.form.specs.Form.{stateLength, stateOf, planIn, pacesPlace, plansPlace, joined, dataForm, paceForm, moveForm, planForm};
+ghost use Rattle.form.specs.Typed.{Many, AnyPace, DataTyped, MoveTyped, PlanTyped};
+ghost use Rattle.form.specs.Own.{pacesOwn};
 
 // The data at a place.
-fn read_frame(bytes: &[u8], place: usize) -> PdoData
+pub fn read_frame(bytes: &[u8], place: usize) -> PdoData
     requires { ⌜ place + dataLength ≤ length (now bytes) ⌝ }
     ensures { λ r. ⌜ r ≡ dataAt place (now (bytes .entry)) ⌝ }
 {
@@ -67,27 +68,46 @@ pub fn read_frames(bytes: &[u8], place: usize) -> [PdoData; 4]
     ]
 }
 
-// What is kept of the transmit PDO whose count stands at a place.
+// The ready frames of the transmit PDOs.
+pub fn read_ready(bytes: &[u8]) -> [PdoData; 4]
+    requires { ⌜ length (now bytes) ≡ stateLength ⌝ }
+    ensures { λ r. ⌜ r ≡ stateOf (now (bytes .entry)) .axis .ready ⌝ }
+{
+    read_frames(bytes, layout::READY)
+}
+
+// The held frames of the receive PDOs.
+pub fn read_held(bytes: &[u8]) -> [PdoData; 4]
+    requires { ⌜ length (now bytes) ≡ stateLength ⌝ }
+    ensures { λ r. ⌜ r ≡ stateOf (now (bytes .entry)) .axis .held ⌝ }
+{
+    read_frames(bytes, layout::HELD)
+}
+
+// What is kept of a transmit PDO, at a place.
 fn read_pace(bytes: &[u8], place: usize) -> Pace
-    requires { ⌜ place + eachWay < length (now bytes) ⌝ }
+    requires { ⌜ place + paceLength ≤ length (now bytes) ⌝ }
     ensures { λ r. ⌜ r ≡ paceAt place (now (bytes .entry)) ⌝ }
 {
     Pace {
         count: bytes[place],
-        due: flag_of(bytes[place + EACH_WAY]),
+        due: flag_of(bytes[place + layout::DUE_OFFSET]),
     }
 }
 
 // What is kept of the transmit PDOs.
 pub fn read_paces(bytes: &[u8]) -> [Pace; 4]
     requires { ⌜ length (now bytes) ≡ stateLength ⌝ }
-    ensures { λ r. ⌜ r ≡ each eachWay countsPlace 1 (λ i. paceAt i (now (bytes .entry))) ⌝ }
+    ensures { λ r. ⌜ r ≡ stateOf (now (bytes .entry)) .axis .paces ⌝ }
 {
+    let second = layout::PACES + layout::PACE_LENGTH;
+    let third = second + layout::PACE_LENGTH;
+    let fourth = third + layout::PACE_LENGTH;
     [
-        read_pace(bytes, layout::FIRST_COUNT),
-        read_pace(bytes, layout::FIRST_COUNT + 1),
-        read_pace(bytes, layout::FIRST_COUNT + 2),
-        read_pace(bytes, layout::FIRST_COUNT + 3),
+        read_pace(bytes, layout::PACES),
+        read_pace(bytes, second),
+        read_pace(bytes, third),
+        read_pace(bytes, fourth),
     ]
 }
 
@@ -104,7 +124,7 @@ fn read_move(bytes: &[u8], place: usize) -> Move
 }
 
 // The plan at a place.
-fn read_plan(bytes: &[u8], place: usize) -> Plan
+fn plan_at(bytes: &[u8], place: usize) -> Plan
     requires { ⌜ place + planLength ≤ length (now bytes) ⌝ }
     ensures { λ r. ⌜ r ≡ planAt place (now (bytes .entry)) ⌝ }
 {
@@ -131,21 +151,12 @@ fn read_plan(bytes: &[u8], place: usize) -> Plan
     }
 }
 
-// The plans of the eight PDOs.
-pub fn read_plans(bytes: &[u8]) -> [Plan; 8]
-    requires { ⌜ length (now bytes) ≡ stateLength ⌝ }
-    ensures { λ r. ⌜ r ≡ each (2 * eachWay) plansPlace planLength (λ i. planAt i (now (bytes .entry))) ⌝ }
+// The plan of PDO p.
+pub fn read_plan(bytes: &[u8], p: usize) -> Plan
+    requires { ⌜ (length (now bytes) ≡ stateLength) × (p < 2 * eachWay) ⌝ }
+    ensures { λ r. ⌜ r ≡ planIn (now (bytes .entry)) p ⌝ }
 {
-    [
-        read_plan(bytes, layout::FIRST_PLAN),
-        read_plan(bytes, layout::SECOND_PLAN),
-        read_plan(bytes, layout::THIRD_PLAN),
-        read_plan(bytes, layout::FOURTH_PLAN),
-        read_plan(bytes, layout::FIFTH_PLAN),
-        read_plan(bytes, layout::SIXTH_PLAN),
-        read_plan(bytes, layout::SEVENTH_PLAN),
-        read_plan(bytes, layout::EIGHTH_PLAN),
-    ]
+    plan_at(bytes, layout::PLANS + layout::PLAN_LENGTH * p)
 }
 
 // Data into the bytes at a place.
@@ -180,16 +191,26 @@ pub fn write_frames(bytes: &mut [u8], place: usize, frames: [PdoData; 4])
     }
 }
 
+// What is kept of a transmit PDO into the bytes at a place.
+fn write_pace(bytes: &mut [u8], place: usize, pace: Pace)
+    requires { ⌜ place + paceLength ≤ length (now bytes) ⌝ }
+    ensures { λ r. ⌜ now (bytes .exit) ≡ sets (now (bytes .entry)) place (paceForm pace) ⌝ }
+{
+    bytes[place] = pace.count;
+    bytes[place + layout::DUE_OFFSET] = flag_number(pace.due);
+}
+
 // What is kept of the transmit PDOs into the bytes.
 pub fn write_paces(bytes: &mut [u8], paces: [Pace; 4])
     requires { ⌜ length (now bytes) ≡ stateLength ⌝ }
-    ensures { λ r. ⌜ (now (bytes .exit) ≡ sets (now (bytes .entry)) countsPlace (pacesForm paces)) × (length paces ≡ eachWay) ⌝ }
+    ensures { λ r. ⌜ (now (bytes .exit) ≡ sets (now (bytes .entry)) pacesPlace (joined paceForm paces)) × Many AnyPace eachWay paces ⌝ }
 {
+    let mut at: usize = layout::PACES;
     let mut k: usize = 0;
     while k < EACH_WAY {
         let pace = paces[k];
-        bytes[layout::FIRST_COUNT + k] = pace.count;
-        bytes[layout::FIRST_DUE + k] = flag_number(pace.due);
+        write_pace(bytes, at, pace);
+        at += layout::PACE_LENGTH;
         k += 1;
     }
 }
@@ -232,7 +253,7 @@ pub fn write_plans(bytes: &mut [u8], plans: [Plan; 8])
     requires { ⌜ length (now bytes) ≡ stateLength ⌝ }
     ensures { λ r. ⌜ (now (bytes .exit) ≡ sets (now (bytes .entry)) plansPlace (joined planForm plans)) × Many PlanTyped (2 * eachWay) plans ⌝ }
 {
-    let mut at: usize = layout::FIRST_PLAN;
+    let mut at: usize = layout::PLANS;
     let mut k: usize = 0;
     while k < PDOS {
         let plan = plans[k];
@@ -242,18 +263,18 @@ pub fn write_plans(bytes: &mut [u8], plans: [Plan; 8])
     }
 }
 
-// Whether the plans' bytes are their form: the last byte of each move is zero.
-pub fn own_plans(bytes: &[u8]) -> bool
+// Whether the due marks' bytes are flags'.
+pub fn own_paces(bytes: &[u8]) -> bool
     requires { ⌜ length (now bytes) ≡ stateLength ⌝ }
-    ensures { λ r. ⌜ r ≡ plansOwn (now (bytes .entry)) ⌝ }
+    ensures { λ r. ⌜ r ≡ pacesOwn (now (bytes .entry)) ⌝ }
 {
-    let mut bits: u32 = 0;
-    let mut at: usize = layout::FIRST_PLAN;
-    let mut left: usize = PDOS;
+    let mut own = true;
+    let mut at: usize = layout::PACES;
+    let mut left: usize = EACH_WAY;
     while left > 0 {
-        bits = bits | bits_of_words(bytes, at + layout::MOVES_OFFSET, MOST_WORDS);
-        at += layout::PLAN_LENGTH;
+        own = both(own, own_flag(bytes[at + layout::DUE_OFFSET]));
+        at += layout::PACE_LENGTH;
         left -= 1;
     }
-    bits < 0x100_0000
+    own
 }

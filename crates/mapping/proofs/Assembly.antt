@@ -31,7 +31,7 @@ append-bytes : (xs ys : List ℕ) → areBytes xs ≡ true → areBytes ys ≡ t
 append-bytes [] ys a b = b
 append-bytes (x ∷ xs) ys a b = and-both _ _ (and-left (isByte x) (areBytes xs) a) (append-bytes xs ys (and-right (isByte x) (areBytes xs) a) b)
 
-pub value-append : (xs ys : List ℕ) → value (xs ++ ys) ≡ value xs + 256 ^ length xs * value ys
+value-append : (xs ys : List ℕ) → value (xs ++ ys) ≡ value xs + 256 ^ length xs * value ys
 unfolding value
 value-append [] ys = omega arith
 value-append (x ∷ xs) ys =
@@ -51,7 +51,7 @@ no-bytes zero = refl
 no-bytes (suc n) = ap (λ (bs : List ℕ). 0 ∷ bs) (no-bytes n)
 
 -- the bytes of a value are those it came from, and zeros
-pub bytes-padded : (n : ℕ) (bs : List ℕ) → areBytes bs ≡ true → length bs ≤ n → bytes n (value bs) ≡ padded 0 n bs
+bytes-padded : (n : ℕ) (bs : List ℕ) → areBytes bs ≡ true → length bs ≤ n → bytes n (value bs) ≡ padded 0 n bs
 unfolding value bytes
 bytes-padded n [] h l = no-bytes n
 bytes-padded zero (b ∷ bs) h l = absurd (omega arith)
@@ -110,7 +110,9 @@ module _ (d : List ℕ) (l : length d ≡ dictionaryLength) (b : areBytes d ≡ 
   unfolding joinedMoves
   length-more = rw (from-here, length-append, sized) (omega arith)
 
-  pub value-more : value (joinedMoves d (drop (k - 1) (take n ms))) ≡ value (part (m .place) (m .size) d) + 256 ^ (m .size) * value (joinedMoves d behind)
+  pub value-more :
+      value (joinedMoves d (drop (k - 1) (take n ms)))
+      ≡ value (part (m .place) (m .size) d) + 256 ^ (m .size) * value (joinedMoves d behind)
   unfolding joinedMoves
   value-more = rw (from-here, value-append, sized) refl
 

@@ -2,9 +2,9 @@
 -- Assumes nothing.
 use Prim.Native.Nat.{ℕ, zero, suc, _+_}
 use native.Mathlib.Numerals.{add-one}
-use mathlib.Core.Path.{_≡_, refl, _∙_}
+use mathlib.Core.Path.{_≡_, refl}
 use mathlib.Core.List.{List}
-use lib.ListN.{length, set, length-set}
+use lib.ListN.{set}
 
 -- the first so many elements stored
 unfoldable pub filled : {A : Type 0} → (ℕ → A) → ℕ → List A → List A
@@ -18,8 +18,3 @@ none-filled f xs = refl
 pub one-filled : {A : Type 0} (f : ℕ → A) (k : ℕ) (xs ys : List A) (y : A) → ys ≡ filled f k xs → y ≡ f k → set ys k y ≡ filled f (k + 1) xs
 unfolding filled
 one-filled f k xs ys y e h = rw (e, h, add-one)
-
-pub length-filled : {A : Type 0} (f : ℕ → A) (k : ℕ) (xs : List A) → length (filled f k xs) ≡ length xs
-unfolding filled
-length-filled f zero xs = refl
-length-filled f (suc k) xs = length-set (filled f k xs) k (f k) ∙ length-filled f k xs

@@ -30,13 +30,17 @@ all-listed n xs l = listed-from n 0 xs (omega arith)
 
 -- eight bytes and their value
 module _ (xs : List ℕ) (l : length xs ≡ 8) where
-  value-listed : value (listed 8 0 xs) ≡
-      getD xs 0 0 + 256 * (getD xs 1 0 + 256 * (getD xs 2 0 + 256 * (getD xs 3 0 + 256 * (getD xs 4 0 + 256 * (getD xs 5 0 + 256 * (getD xs 6 0 + 256 * getD xs 7 0))))))
+  abbrev byte : ℕ → ℕ
+  byte i = getD xs i 0
+
+  abbrev summed : ℕ
+  summed = byte 0 + 256 * (byte 1 + 256 * (byte 2 + 256 * (byte 3 + 256 * (byte 4 + 256 * (byte 5 + 256 * (byte 6 + 256 * byte 7))))))
+
+  value-listed : value (listed 8 0 xs) ≡ summed
   unfolding value
   value-listed = omega arith
 
-  pub value-eight : value xs ≡
-      getD xs 0 0 + 256 * (getD xs 1 0 + 256 * (getD xs 2 0 + 256 * (getD xs 3 0 + 256 * (getD xs 4 0 + 256 * (getD xs 5 0 + 256 * (getD xs 6 0 + 256 * getD xs 7 0))))))
+  pub value-eight : value xs ≡ summed
   value-eight = ap value (all-listed 8 xs l) ∙ value-listed
 
   pub bytes-eight : getD xs 0 0 < 256 → getD xs 1 0 < 256 → getD xs 2 0 < 256 → getD xs 3 0 < 256 →
@@ -57,7 +61,7 @@ same-bytes (x ∷ xs) (y ∷ ys) h =
     let r : xs ≡ ys = same-bytes xs ys (and-right (eqb x y) _ h) in
     rw (e, r)
 
-pub bytes-same : (xs : List ℕ) → sameBy eqb xs xs ≡ true
+bytes-same : (xs : List ℕ) → sameBy eqb xs xs ≡ true
 bytes-same [] = refl
 bytes-same (x ∷ xs) = and-both _ _ (eq-eqb x x refl) (bytes-same xs)
 

@@ -8,7 +8,7 @@ use mathlib.Core.Bool.{Bool, true, false, not, _&&_, _||_, true≢false}
 use mathlib.Core.List.{List, [], _∷_, map}
 use borrow.Author.Tests.{eqb-true, eq-eqb, ne-eqb, leb-true, leb-false, le-leb, lt-leb, lt-ltb, le-ltb, not-true}
 use lib.Dec.{eqb, leb, ltb}
-use lib.ListN.{length, take, drop, getD}
+use lib.ListN.{length, take, drop}
 use lib.Seq.{drop-drop}
 use Rattle.rules_dictionary.specs.declared.Move.{Move}
 use Rattle.rules_dictionary.specs.declared.Plan.{Plan}
@@ -23,8 +23,8 @@ use Rattle.rules_dictionary.proofs.Members.{pdo-in}
 use Rattle.dictionary.specs.Sizes.{IsPdo}
 use Rattle.rules.specs.Outcome.{sameBy, sameMove, samePlan, mostData}
 use Rattle.rules.specs.Sound.{mappingLegal}
-use Rattle.mapping.specs.Words.{wordMove, wayOf}
-use Rattle.mapping.specs.Slots.{wordsFrom, slotSound, slotsSound}
+use Rattle.mapping.specs.Words.{wordMove, namesOne, wayOf}
+use Rattle.mapping.specs.Slots.{wordsFrom}
 use Rattle.mapping.proofs.Naming.{Names, facts, one-or-none, names-one, names-none, verdict}
 
 -- ---- tests in another order
@@ -110,47 +110,54 @@ module _ (p : ℕ) where
   unfolding targets andThen
   targets-named ws n = rw (facts n .finds)
 
-  within : (n used w : ℕ) (ws : List ℕ) (m : Move) (ms : List Move) →
-      (slotSound (directionOf p) true w m && asRuled n (used + m .size) ws ms) ≡ asRuled (suc n) used (w ∷ ws) (m ∷ ms)
-  unfolding slotSound asRuled
+  -- a slot within the count: the word names the move
+  abbrev pub isMapped : ℕ → Move → Bool
+  isMapped w m = namesOne (directionOf p) w && sameMove m (wordMove (directionOf p) w)
+
+  -- a slot past it: the word is legal, and there is no move
+  abbrev pub isUnmapped : ℕ → Move → Bool
+  isUnmapped w m = (eqb w 0 || namesOne (directionOf p) w) && sameMove m noMove
+
+  pub within : (n used w : ℕ) (ws : List ℕ) (m : Move) (ms : List Move) →
+      (isMapped w m && asRuled n (used + m .size) ws ms) ≡ asRuled (suc n) used (w ∷ ws) (m ∷ ms)
+  unfolding asRuled
   within n used w ws m ms = go (one-or-none (directionOf p) w)
     where
       go : (wordMove (directionOf p) w ≡ noMove) ⊎ ((x : Row) × Names (directionOf p) w x) →
-          (slotSound (directionOf p) true w m && asRuled n (used + m .size) ws ms) ≡ asRuled (suc n) used (w ∷ ws) (m ∷ ms)
+          (isMapped w m && asRuled n (used + m .size) ws ms) ≡ asRuled (suc n) used (w ∷ ws) (m ∷ ms)
       go (inl e) =
           rw (names-none p w e, verdict p w, or-none (eqb w 0) _ (names-none p w e))
           (sym (refused (eqb w 0) (eqb 0 w) _ _ _ (λ z. eq-eqb 0 w (sym (eqb-true w 0 z)))))
       go (inr (x, k)) =
           let f = facts k in
-          rw (names-one p w k, f .moves, verdict p w, names-one p w k, or-right (eqb w 0) true refl, ne-eqb 0 w (λ z. f .nonzero (sym z)), targets-named (take n ws) k)
+          rw (
+            names-one p w k,
+            f .moves,
+            verdict p w,
+            names-one p w k,
+            or-right (eqb w 0) true refl,
+            ne-eqb 0 w (λ z. f .nonzero (sym z)),
+            targets-named (take n ws) k,
+          )
           (regroup true (sameMove m (move x)) (all legal ws) (not (any (eqb 0) (take n ws)))
           (not (ltb mostBits (8 * used + (wordLength w + sum (map wordLength (take n ws))))))
           (not (ltb mostBits (8 * (used + m .size) + sum (map wordLength (take n ws)))))
           (sameBy sameMove ms (padded noMove (length ws) (map move (targets (take n ws)))))
-          (λ s. more-bits used (m .size) (wordLength w) (sum (map wordLength (take n ws))) (f .length ∙ ap (λ (k : ℕ). 8 * k) (sym (same-size m (move x) s)))))
+          (λ s. more-bits used (m .size) (wordLength w) (sum (map wordLength (take n ws)))
+          (f .length ∙ ap (λ (k : ℕ). 8 * k) (sym (same-size m (move x) s)))))
 
-  past : (used w : ℕ) (ws : List ℕ) (m : Move) (ms : List Move) →
-      (slotSound (directionOf p) false w m && asRuled 0 (used + m .size) ws ms) ≡ asRuled 0 used (w ∷ ws) (m ∷ ms)
-  unfolding slotSound asRuled targets
+  pub past : (used w : ℕ) (ws : List ℕ) (m : Move) (ms : List Move) →
+      (isUnmapped w m && asRuled 0 (used + m .size) ws ms) ≡ asRuled 0 used (w ∷ ws) (m ∷ ms)
+  unfolding asRuled targets
   past used w ws m ms =
       rw (← verdict p w)
       (regroup (legal w) (sameMove m noMove) (all legal ws) true (not (ltb mostBits (8 * used + 0))) (not (ltb mostBits (8 * (used + m .size) + 0)))
       (sameBy sameMove ms (padded noMove (length ws) []))
       (λ s. more-bits used (m .size) 0 0 (ap (λ (k : ℕ). 8 * k) (sym (same-size m noMove s)))))
 
-  none-left : (n used : ℕ) → leb used mostData ≡ asRuled n used [] []
+  pub none-left : (used : ℕ) → leb used mostData ≡ asRuled 0 used [] []
   unfolding asRuled
-  none-left zero used = bytes-or-bits used
-  none-left (suc n) used = bytes-or-bits used
-
-  pub ruled : (n used : ℕ) (ws : List ℕ) (ms : List Move) → length ws ≡ length ms →
-      slotsSound (directionOf p) n used ws ms ≡ asRuled n used ws ms
-  unfolding slotsSound
-  ruled n used [] [] l = none-left n used
-  ruled n used [] (m ∷ ms) l = absurd (omega arith)
-  ruled n used (w ∷ ws) [] l = absurd (omega arith)
-  ruled zero used (w ∷ ws) (m ∷ ms) l = rw (ruled zero (used + m .size) ws ms (omega arith)) (past used w ws m ms)
-  ruled (suc n) used (w ∷ ws) (m ∷ ms) l = rw (ruled n (used + m .size) ws ms (omega arith)) (within n used w ws m ms)
+  none-left used = bytes-or-bits used
 
   -- a legal mapping maps as many rows as its count says
   pub counted : (n : ℕ) (ws : List ℕ) → all legal ws ≡ true → not (any (eqb 0) (take n ws)) ≡ true → n ≤ length ws → length (targets (take n ws)) ≡ n
@@ -191,16 +198,6 @@ pub words-behind : (d : List ℕ) (p : ℕ) → wordsFrom 8 (wordsPlace p) d ≡
 unfolding mapWords unpacked wordsOf
 words-behind d p = sym (words-dropped 8 (wordsPlace p) d)
 
--- the first two, as they are read
-module _ (d : List ℕ) (p first v : ℕ) (at : first ≡ wordsPlace p) where
-  pub first-word : v ≡ value (part first 4 d) → v ≡ getD (mapWords d p) 0 0
-  unfolding wordsFrom
-  first-word is = is ∙ rw at (ap (λ (ws : List ℕ). getD ws 0 0) (words-behind d p))
-
-  pub second-word : v ≡ value (part (first + 4) 4 d) → v ≡ getD (mapWords d p) 1 0
-  unfolding wordsFrom
-  second-word is = is ∙ rw at (ap (λ (ws : List ℕ). getD ws 1 0) (words-behind d p))
-
 -- they lie within the dictionary
 words-test : all (λ p. leb (wordsPlace p + 4 * mostMoves) dictionaryLength) pdos ≡ true
 unfolding open-table
@@ -215,7 +212,7 @@ length-words d p = refl
 
 -- THE LAW: with a count of eight at most, the mapping is legal and the plan the one worked afresh where the kept count is the
 -- dictionary's and the slots are as the rules have them
-pub sound-mapping : (d : List ℕ) (p : ℕ) (plan : Plan) → read d (mapCount p) ≤ mostMoves →
+sound-mapping : (d : List ℕ) (p : ℕ) (plan : Plan) → read d (mapCount p) ≤ mostMoves →
     (eqb (plan .count) (read d (mapCount p)) && asRuled p (read d (mapCount p)) 0 (mapWords d p) (plan .moves))
     ≡ (mappingLegal d p && samePlan plan (planFor (mapped d p)))
 unfolding mappingLegal planFor mapped
@@ -247,13 +244,5 @@ module _ (d : List ℕ) (p : ℕ) (plan : Plan) (count : ℕ) (is : count ≡ re
     pub other-count : (plan .count ≡ count → ⊥) → false ≡ verdictOf
     other-count e = rw (ne-eqb (plan .count) count e) at few
 
-    pub same-count : plan .count ≡ count → length (plan .moves) ≡ mostMoves →
-        slotsSound (wayOf (leb eachWay p)) count 0 (mapWords d p) (plan .moves) ≡ verdictOf
-    same-count e l =
-        rw (way-of p) (ruled p count 0 (mapWords d p) (plan .moves) (length-words d p ∙ sym l))
-        ∙ (rw (eq-eqb (plan .count) count e) at few)
-
-    -- with the words from their place on, as the code tests them
-    pub same-slots : (first : ℕ) (r : Bool) → first ≡ wordsPlace p → plan .count ≡ count →
-        (r ≡ slotsSound (wayOf (leb eachWay p)) count 0 (wordsFrom 8 first d) (plan .moves)) × (length (plan .moves) ≡ mostMoves) → r ≡ verdictOf
-    same-slots first r at e t = t .0 ∙ rw (at, words-behind d p) (same-count e (t .1))
+    pub same-count : plan .count ≡ count → asRuled p count 0 (mapWords d p) (plan .moves) ≡ verdictOf
+    same-count e = rw (eq-eqb (plan .count) count e) at few

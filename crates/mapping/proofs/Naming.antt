@@ -10,12 +10,14 @@ use borrow.Author.Tests.{eqb-true, eqb-false, eq-eqb, ne-eqb, not-true}
 use lib.Arith.{mod-mul}
 use lib.Dec.{eqb, lit<}
 use Rattle.rules_dictionary.specs.Numbers.{all, filter}
-use Rattle.rules_dictionary.specs.Table.{Row, ValueType, u8, u16, u32, i8, i32, size, table, sizeOf, Direction, receive, transmit, directionOf, mappingWord, wordIndex, wordSubindex, wordLength, Found, found, noObject, noSubindex, search, lookup, open-table}
+use Rattle.rules_dictionary.specs.Table.{Row, ValueType, u8, u16, u32, i8, i32, size, table, sizeOf, Direction, receive, transmit}
+use Rattle.rules_dictionary.specs.Table.{directionOf, mappingWord, wordIndex, wordSubindex, wordLength, Found, found, noObject, noSubindex}
+use Rattle.rules_dictionary.specs.Table.{lookup, open-table}
 use Rattle.rules_dictionary.specs.Aborts.{good, bad, isGood, firstOf, notMappable}
 use Rattle.rules_dictionary.specs.Legal.{suits, targetVerdict, entryVerdict}
 use Rattle.rules_dictionary.specs.Plans.{move, noMove}
 use Rattle.rules_dictionary.specs.Members.{In, here, there}
-use Rattle.rules_dictionary.proofs.Tests.{and-left, and-right, all-in, or-right, or-none}
+use Rattle.rules_dictionary.proofs.Tests.{and-left, and-right, all-in, or-none}
 use Rattle.rules_dictionary.proofs.LookUp.{found-in, is-found}
 use Rattle.rules_dictionary.proofs.Members.{map-in, filter-in}
 use Rattle.mapping.specs.Words.{mappables, named, wordMove, namesOne}
@@ -130,7 +132,8 @@ is-word w x i s l =
     let last : w % 2 ^ 8 ≡ wordLength w = low-bits w in
     rw (i, s) (joins _ _ _ _ _ _ high low (last ∙ l))
 
-good-names : (way : Direction) (w : ℕ) (f : Found) → lookup (wordIndex w) (wordSubindex w) ≡ f → isGood (targetVerdict way w f) ≡ true → (x : Row) × Names way w x
+good-names : (way : Direction) (w : ℕ) (f : Found) → lookup (wordIndex w) (wordSubindex w) ≡ f → isGood (targetVerdict way w f) ≡ true →
+    (x : Row) × Names way w x
 unfolding targetVerdict firstOf
 good-names way w (found x) e h = go (suits way (x .mappable)) (eqb (wordLength w) (8 * sizeOf x)) refl refl h
   where

@@ -41,7 +41,7 @@ module _ (ms : List Move) (n k : ℕ) (f : MovesFit ms n) (h : k < n) where
   pub fits : MoveFits here
   fits = f .each k h
 
-  step : left ms n k ≡ here ∷ left ms n (k + 1)
+  pub step : left ms n k ≡ here ∷ left ms n (k + 1)
   step = rw (add-one k) (next ms n k (f .each) h)
 
   pub place-step : (place : ℕ) → hasPlace place (left ms n k) ≡ (eqb (here .place) place || hasPlace place (left ms n (k + 1)))
@@ -51,7 +51,8 @@ module _ (ms : List Move) (n k : ℕ) (f : MovesFit ms n) (h : k < n) where
   size-step = rw step
 
   pub legal-step : (at : ℕ) (bs : List ℕ) →
-      movesLegal (left ms n k) (drop at bs) ≡ (isLegal (here .place) (value (part at (here .size) bs)) && movesLegal (left ms n (k + 1)) (drop (at + here .size) bs))
+      movesLegal (left ms n k) (drop at bs)
+      ≡ (isLegal (here .place) (value (part at (here .size) bs)) && movesLegal (left ms n (k + 1)) (drop (at + here .size) bs))
   unfolding movesLegal
   legal-step at bs = rw (step, drop-drop)
 

@@ -14,7 +14,10 @@ use Rattle.rules_dictionary.specs.declared.Plan.{Plan}
 use Rattle.rules_dictionary.specs.declared.Move.{Move}
 use Rattle.rules_dictionary.specs.Numbers.{value, isByte, areBytes, all, any, padded}
 use Rattle.rules_dictionary.specs.declared.Role.the-variants.{Plain, ModeOfOperation}
-use Rattle.rules_dictionary.specs.Table.{Row, sizeOf, placeOf, same, Direction, receive, transmit, directionOf, pdos, receivePdos, transmitPdos, mapCount, mapEntry, mapSlots, eachWay, mostMoves, controlWord, mode, targetPosition, profileVelocity, profileAcceleration, profileDeceleration, targetVelocity, heartbeatTime, open-table}
+use Rattle.rules_dictionary.specs.Table.{Row, sizeOf, placeOf, same, Direction, receive, transmit, directionOf, pdos, receivePdos}
+use Rattle.rules_dictionary.specs.Table.{transmitPdos, mapCount, mapEntry, mapSlots, eachWay, mostMoves, controlWord, mode, targetPosition}
+use Rattle.rules_dictionary.specs.Table.{profileVelocity, profileAcceleration, profileDeceleration, targetVelocity, heartbeatTime}
+use Rattle.rules_dictionary.specs.Table.{open-table}
 use Rattle.rules_dictionary.specs.Values.{read, store, stored, unpacked}
 use Rattle.rules_dictionary.specs.Aborts.{good, bad, isGood, firstOf, belowRange, badValue}
 use Rattle.rules_dictionary.specs.Legal.{isMode, suits, isBelow, isAbove, otherBadValue, mappingVerdict, valueVerdict, entryVerdict, mapWords}
@@ -25,11 +28,9 @@ use Rattle.rules_dictionary.proofs.Rows.{all-drop}
 use Rattle.rules_dictionary.proofs.Members.{all-of, in-left, count-in, map-in, in-cons}
 use Rattle.rules_services.specs.PdoTraffic.{mappedLength, areLegal}
 use Rattle.rules_services.specs.Written.{wrote}
-use Rattle.rules.specs.Outcome.{mostData}
 use Rattle.rules.specs.Sound.{inRange, mappingLegal}
 use Rattle.theorems.proofs.Dictionary.{isPdo, DictionaryOk, entries-good}
 use Rattle.mapping.specs.Words.{mappables}
-use Rattle.mapping.specs.Moves.{MovesFit}
 use Rattle.mapping.proofs.Worked.{plan-fits, maps-count, legal-mapping, Tested}
 use Rattle.mapping.proofs.Legality.{neither, named-row, targets-named}
 use Rattle.mapping.specs.Received.{movesOf, sizes, hasPlace, isLegal, movesLegal, storedMoves, Received, Receives}
@@ -176,9 +177,6 @@ module _ {plan : Plan} {xs : List Row} (r : Receives plan xs) where
   pub length-is : sizes (movesOf plan) ≡ mappedLength xs
   length-is = ap sizes moves-are ∙ length-rows xs
 
-  pub short-is : mappedLength xs ≤ mostData
-  short-is = rw (← length-is) (r .fits .room)
-
   pub legal-is : (d bs : List ℕ) → areBytes bs ≡ true → movesLegal (movesOf plan) bs ≡ areLegal d (unpacked xs bs)
   legal-is d bs h = ap (λ (ms : List Move). movesLegal ms bs) moves-are ∙ legal-rows xs d bs (r .received) h
 
@@ -246,7 +244,9 @@ legal-receives {n} {d} ok {p} i =
     let j : In p pdos = in-left transmitPdos i in
     let v = read d (mapCount p) in
     let r = ok .ranged (mapCount p) (count-in j) in
-    let b = not-true (isAbove (mapCount p) v) (and-right (not (isBelow (mapCount p) v)) _ (and-left (not (isBelow (mapCount p) v) && not (isAbove (mapCount p) v)) _ r)) in
+    let low = not (isBelow (mapCount p) v) in
+    let b = not-true (isAbove (mapCount p) v) (and-right low _ (and-left (low && not (isAbove (mapCount p) v)) _ r)) in
+    let words = all-of (λ k. isGood (entryVerdict p (read d (mapEntry p k)))) mapSlots (λ k m. ok .words p k j m) in
+    let most = eqb-true (mapCount p .range .greatest) mostMoves (all-in (λ p. eqb (mapCount p .range .greatest) mostMoves) i few-moves) in
     receives d p (ltb-true p eachWay (all-in (λ p. ltb p eachWay) i below-four))
-    (and-both _ _ (entries-good d j ∙ all-of (λ k. isGood (entryVerdict p (read d (mapEntry p k)))) mapSlots (λ k m. ok .words p k j m)) (ok .counts p j))
-    (omega (arith, ltb-false (mapCount p .range .greatest) v b, eqb-true (mapCount p .range .greatest) mostMoves (all-in (λ p. eqb (mapCount p .range .greatest) mostMoves) i few-moves)))
+    (and-both _ _ (entries-good d j ∙ words) (ok .counts p j)) (omega (arith, ltb-false (mapCount p .range .greatest) v b, most))

@@ -13,7 +13,9 @@ use lib.ListN.{length, take, getD, set, replicate, length-map}
 use Rattle.rules_dictionary.specs.declared.Move.{Move}
 use Rattle.rules_dictionary.specs.declared.Plan.{Plan}
 use Rattle.rules_dictionary.specs.Numbers.{value, part, all, any, sum, padded}
-use Rattle.rules_dictionary.specs.Table.{Row, Direction, eachWay, wordsPlace, ValueType, u8, u16, u32, i8, i32, size, table, sizeOf, directionOf, wordIndex, wordSubindex, wordLength, Found, found, noObject, noSubindex, lookup, mapCount, mostMoves}
+use Rattle.rules_dictionary.specs.Table.{Row, Direction, eachWay, wordsPlace, table}
+use Rattle.rules_dictionary.specs.Table.{directionOf, wordIndex, wordSubindex, wordLength, Found, found, noObject, noSubindex, lookup}
+use Rattle.rules_dictionary.specs.Table.{mapCount, mostMoves}
 use Rattle.rules_dictionary.specs.Values.{read}
 use Rattle.rules_dictionary.specs.Aborts.{isGood}
 use Rattle.rules_dictionary.specs.Legal.{entryVerdict, mapWords, mostBits}
@@ -26,7 +28,6 @@ use Rattle.rules_dictionary.proofs.Members.{in-cons}
 use Rattle.dictionary.proofs.Bytes.{is-size}
 use Rattle.rules.specs.Outcome.{sameBy, sameMove, samePlan}
 use Rattle.rules.specs.Sound.{mappingLegal}
-use Rattle.dictionary.specs.Sizes.{IsSize}
 use Rattle.mapping.specs.Words.{wordMove, wayOf}
 use Rattle.mapping.specs.Slots.{wordsFrom, movesNamed}
 use Rattle.mapping.specs.Moves.{joinedMoves, readyBy, MoveFits, MovesFit}
@@ -190,7 +191,7 @@ module _ {A : Type 0} (s : A) where
   set-padded (suc n) [] x h = refl
   set-padded (suc n) (y ∷ xs) x h = ap (λ (ys : List A). y ∷ ys) (set-padded n xs x (omega arith))
 
-length-words-from : (n place : ℕ) (d : List ℕ) → length (wordsFrom n place d) ≡ n
+pub length-words-from : (n place : ℕ) (d : List ℕ) → length (wordsFrom n place d) ≡ n
 unfolding wordsFrom
 length-words-from zero place d = refl
 length-words-from (suc n) place d = ap suc (length-words-from n (place + 4) d)
@@ -202,7 +203,7 @@ one-more (suc n) place d =
     let e : place + 4 + 4 * n ≡ place + 4 * suc n = omega arith in
     ap (λ (ws : List ℕ). value (part place 4 d) ∷ ws) (one-more n (place + 4) d ∙ rw e)
 
-take-words : (n k place : ℕ) (d : List ℕ) → k ≤ n → take k (wordsFrom n place d) ≡ wordsFrom k place d
+pub take-words : (n k place : ℕ) (d : List ℕ) → k ≤ n → take k (wordsFrom n place d) ≡ wordsFrom k place d
 unfolding wordsFrom
 take-words n zero place d h = refl
 take-words zero (suc k) place d h = absurd (omega arith)

@@ -1,6 +1,7 @@
 pub mod Words
 pub mod Slots
 pub mod Moves
-pub mod Usual
 pub mod Received
 pub mod Afresh
+pub mod Working
+pub mod Kept

@@ -1,10 +1,13 @@
 // The plans of all PDOs, and the ready frames of the transmit PDOs, worked afresh.
 ghost use mathlib.Core.Path.{_≡_};
 ghost use Rattle.rules_dictionary.specs.Plans.{plansOf, readyOf};
+ghost use lib.ListN.{length};
+ghost use Rattle.form.specs.Form.{stateLength, stateOf};
 ghost use Rattle.mapping.specs.Afresh.{GivesPlans};
 use crate::frames::ready_of;
 use crate::plans::plan_of;
 use dictionary::places::EACH_WAY;
+use form::read_plan;
 use rules_dictionary::Move;
 use rules_dictionary::PdoData;
 use rules_dictionary::Plan;
@@ -53,15 +56,15 @@ pub fn all_plans(d: &[u8]) -> [Plan; 8]
     plans
 }
 
-// The ready frames by plans that are kept, where those are fresh.
-pub fn ready_by(plans: [Plan; 8], d: &[u8]) -> [PdoData; 4]
-    requires { ⌜ GivesPlans (now d) × (plans ≡ plansOf (now d)) ⌝ }
+// The ready frames by the plans that the state's bytes hold, where those are fresh.
+pub fn ready_by(state: &[u8], d: &[u8]) -> [PdoData; 4]
+    requires { ⌜ (length (now state) ≡ stateLength) × (GivesPlans (now d) × (stateOf (now state) .axis .plans ≡ plansOf (now d))) ⌝ }
     ensures { λ r. ⌜ r ≡ readyOf (now (d .entry)) ⌝ }
 {
     let mut ready = [NO_DATA, NO_DATA, NO_DATA, NO_DATA];
     let mut t: usize = 0;
     while t < EACH_WAY {
-        ready[t] = ready_of(d, plans[EACH_WAY + t]);
+        ready[t] = ready_of(d, read_plan(state, EACH_WAY + t));
         t += 1;
     }
     ready

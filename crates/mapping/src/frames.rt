@@ -28,7 +28,7 @@ fn wide8(x: u8) -> u64
 }
 
 // The value of eight bytes.
-pub fn word_of(x: [u8; 8]) -> u64
+fn word_of(x: [u8; 8]) -> u64
     ensures { λ r. ⌜ (r ≡ value x) × ((areBytes x ≡ true) × (length x ≡ 8)) ⌝ }
 {
     let high = wide8(x[4]) + 256 * (wide8(x[5]) + 256 * (wide8(x[6]) + 256 * wide8(x[7])));
@@ -85,7 +85,8 @@ fn join_one(d: &[u8], m: Move, behind: u64) -> u64
 // The bytes of the first moves, joined.
 fn join(d: &[u8], moves: [Move; 8], count: usize) -> Joined
     requires { ⌜ (length (now d) ≡ dictionaryLength) × MovesFit moves count ⌝ }
-    ensures { λ r. ⌜ (r .length ≡ length (joinedMoves (now (d .entry)) (take count moves))) × (r .value ≡ value (joinedMoves (now (d .entry)) (take count moves))) ⌝ }
+    ensures { λ r. ⌜ r .length ≡ length (joinedMoves (now (d .entry)) (take count moves)) ⌝ }
+    ensures { λ r. ⌜ r .value ≡ value (joinedMoves (now (d .entry)) (take count moves)) ⌝ }
 {
     let mut length: u8 = 0;
     let mut value: u64 = 0;

@@ -3,23 +3,21 @@
 
 mod words; // the move that a mapping word names
 mod frames; // the data of a PDO
-mod plans; // a PDO's mapping and its kept plan
-mod usual; // the mapping that most PDOs have
+mod plans; // the plan that a PDO's mapping gives
 mod received; // the values of a received frame
 mod afresh; // all plans, and all ready frames
+mod kept; // what a state's bytes keep of a mapping
+mod working; // whether a PDO works in Operational
 
 pub use afresh::all_plans;
 pub use afresh::ready_anew;
 pub use afresh::ready_by;
-pub use frames::ready_of;
 pub use frames::same_data;
-pub use plans::mapping_sound;
-pub use plans::plan_of;
+pub use kept::is_plan_kept;
+pub use kept::is_ready_kept;
 pub use received::are_legal;
 pub use received::length_of;
 pub use received::maps;
 pub use received::store_values;
-pub use usual::is_frame_usual;
-pub use usual::is_pair_usual;
-pub use usual::is_short;
 pub use words::move_of;
+pub use working::is_open;

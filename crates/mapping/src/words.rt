@@ -1,86 +1,82 @@
-// Mapping words: index, subindex and bit length of a mapped object.
+// Mapping words: index, subindex and bit length of a mapped object, and the word of its move.
 use dictionary::places;
 use rules_dictionary::Move;
 ghost use mathlib.Core.Path.{_≡_};
 ghost use Rattle.rules_dictionary.specs.Table.{receive, transmit};
-ghost use Rattle.mapping.specs.Words.{wordMove, wayOf};
+ghost use Rattle.form.specs.Form.{moveOf};
+ghost use Rattle.mapping.specs.Words.{wordMove, keptWord, wayOf};
 
-// The move of the object that a mapping word of a receive PDO names; all zero where it names none.
-fn receive_move(word: u32) -> Move
-    ensures { λ r. ⌜ r ≡ wordMove receive word ⌝ }
+// A move's word: its place in the low half, above it its size.
+const HALF: u32 = 0x1_0000;
+
+const ONE_BYTE: u32 = HALF;
+
+const TWO_BYTES: u32 = 2 * HALF;
+
+const FOUR_BYTES: u32 = 4 * HALF;
+
+// The word of the move of the object that a mapping word of a receive PDO names; 0 where it names none.
+fn receive_word(word: u32) -> u32
+    ensures { λ r. ⌜ r ≡ keptWord receive word ⌝ }
 {
     match word {
-        0x6040_00_10 => Move {
-            place: places::CONTROL_WORD as u16,
-            size: 2,
-        },
-        0x6060_00_08 => Move {
-            place: places::MODE as u16,
-            size: 1,
-        },
-        0x607A_00_20 => Move {
-            place: places::TARGET_POSITION as u16,
-            size: 4,
-        },
-        0x6081_00_20 => Move {
-            place: places::PROFILE_VELOCITY as u16,
-            size: 4,
-        },
-        0x6083_00_20 => Move {
-            place: places::PROFILE_ACCELERATION as u16,
-            size: 4,
-        },
-        0x6084_00_20 => Move {
-            place: places::PROFILE_DECELERATION as u16,
-            size: 4,
-        },
-        0x60FF_00_20 => Move {
-            place: places::TARGET_VELOCITY as u16,
-            size: 4,
-        },
-        _ => Move { place: 0, size: 0 },
+        0x6040_00_10 => TWO_BYTES + places::CONTROL_WORD as u32,
+        0x6060_00_08 => ONE_BYTE + places::MODE as u32,
+        0x607A_00_20 => FOUR_BYTES + places::TARGET_POSITION as u32,
+        0x6081_00_20 => FOUR_BYTES + places::PROFILE_VELOCITY as u32,
+        0x6083_00_20 => FOUR_BYTES + places::PROFILE_ACCELERATION as u32,
+        0x6084_00_20 => FOUR_BYTES + places::PROFILE_DECELERATION as u32,
+        0x60FF_00_20 => FOUR_BYTES + places::TARGET_VELOCITY as u32,
+        _ => 0,
     }
 }
 
-// The move of the object that a mapping word of a transmit PDO names; all zero where it names none.
-fn transmit_move(word: u32) -> Move
-    ensures { λ r. ⌜ r ≡ wordMove transmit word ⌝ }
+// The word of the move of the object that a mapping word of a transmit PDO names; 0 where it names none.
+fn transmit_word(word: u32) -> u32
+    ensures { λ r. ⌜ r ≡ keptWord transmit word ⌝ }
 {
     match word {
-        0x1001_00_08 => Move {
-            place: places::ERROR_REGISTER as u16,
-            size: 1,
-        },
-        0x603F_00_10 => Move {
-            place: places::ERROR_CODE as u16,
-            size: 2,
-        },
-        0x6041_00_10 => Move {
-            place: places::STATUS_WORD as u16,
-            size: 2,
-        },
-        0x6061_00_08 => Move {
-            place: places::MODE_DISPLAY as u16,
-            size: 1,
-        },
-        0x6064_00_20 => Move {
-            place: places::POSITION as u16,
-            size: 4,
-        },
-        0x606C_00_20 => Move {
-            place: places::VELOCITY as u16,
-            size: 4,
-        },
-        _ => Move { place: 0, size: 0 },
+        0x1001_00_08 => ONE_BYTE + places::ERROR_REGISTER as u32,
+        0x603F_00_10 => TWO_BYTES + places::ERROR_CODE as u32,
+        0x6041_00_10 => TWO_BYTES + places::STATUS_WORD as u32,
+        0x6061_00_08 => ONE_BYTE + places::MODE_DISPLAY as u32,
+        0x6064_00_20 => FOUR_BYTES + places::POSITION as u32,
+        0x606C_00_20 => FOUR_BYTES + places::VELOCITY as u32,
+        _ => 0,
     }
+}
+
+// The word of the move of the object that a mapping word names in its PDO's direction; 0 where it names none.
+pub fn kept_word(word: u32, transmit: bool) -> u32
+    ensures { λ r. ⌜ r ≡ keptWord (wayOf transmit) word ⌝ }
+{
+    if transmit {
+        return transmit_word(word);
+    }
+    receive_word(word)
+}
+
+// The place in a move's word.
+pub fn place_of(word: u32) -> u16
+    ensures { λ r. ⌜ r ≡ moveOf word .place ⌝ }
+{
+    (word % HALF) as u16
+}
+
+// The size in a move's word.
+pub fn size_of(word: u32) -> u8
+    ensures { λ r. ⌜ r ≡ moveOf word .size ⌝ }
+{
+    (word / HALF % 0x100) as u8
 }
 
 // The move of the object that a mapping word names in its PDO's direction; all zero where it names none.
 pub fn move_of(word: u32, transmit: bool) -> Move
     ensures { λ r. ⌜ r ≡ wordMove (wayOf transmit) word ⌝ }
 {
-    if transmit {
-        return transmit_move(word);
+    let named = kept_word(word, transmit);
+    Move {
+        place: place_of(named),
+        size: size_of(named),
     }
-    receive_move(word)
 }

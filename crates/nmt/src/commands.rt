@@ -2,7 +2,7 @@
 ghost use mathlib.Core.Path.{_≡_};
 ghost use Rattle.rules_services.specs.Nmt.{nmt, commandOf, commanded};
 ghost use Rattle.output.specs.Laying.{OnBus, dataOf};
-ghost use Rattle.output.specs.Leaves.{Leaves, Rests};
+ghost use Rattle.output.specs.Leaves.{LeavesBy};
 ghost use Rattle.nmt.specs.Commanding.{entered, isForNode, MayReset};
 use crate::resets::disabled;
 use crate::resets::none_held;
@@ -12,11 +12,9 @@ use drive::Drive;
 use output::Done;
 use output::Parts;
 use output::becomes;
-use output::parts_of;
 use rules_dictionary::PdoData;
 use state::NmtState;
 use state::Node;
-use state::State;
 
 const COMMAND_LENGTH: u8 = 2;
 
@@ -39,16 +37,15 @@ fn entered(node: Node, nmt: NmtState, drive: Drive, held: [PdoData; 4]) -> Parts
 }
 
 // A command for this node: "01h Operational, 02h Stopped, 80h Pre-operational, 81h as power-up, 82h ..". One that is unknown changes nothing.
-fn command(c: u8, s: State, d: &mut [u8], output: &mut [u8]) -> Done
-    requires { ⌜ MayReset (s .node .id) (now d) (now output) ⌝ }
-    ensures { λ r. ⌜ Leaves (commanded (commandOf c) s) (now (d .entry)) (now (output .entry)) r (now (d .exit)) (now (output .exit))
-        × Rests s (commanded (commandOf c) s) r ⌝ }
+fn command(c: u8, parts: Parts, d: &mut [u8], output: &mut [u8]) -> Done
+    requires { ⌜ MayReset (parts .node .id) (now d) (now output) ⌝ }
+    ensures { λ r. ⌜ LeavesBy parts (λ s d. commanded (commandOf c) s)
+        (now (d .entry)) (now (output .entry)) r (now (d .exit)) (now (output .exit)) ⌝ }
 {
-    let node = s.node;
+    let node = parts.node;
     let nmt = node.nmt;
-    let axis = s.axis;
-    let drive = axis.drive;
-    let held = axis.held;
+    let drive = parts.drive;
+    let held = parts.held;
     match c {
         0x01 => becomes(entered(node, NmtState::Operational, drive, held), false),
         0x02 => becomes(
@@ -57,7 +54,7 @@ fn command(c: u8, s: State, d: &mut [u8], output: &mut [u8]) -> Done
         ),
         0x80 => {
             if nmt.is_pre_operational() {
-                becomes(parts_of(s), false)
+                becomes(parts, false)
             } else {
                 becomes(
                     entered(node, NmtState::PreOperational, drive, none_held()),
@@ -65,9 +62,9 @@ fn command(c: u8, s: State, d: &mut [u8], output: &mut [u8]) -> Done
                 )
             }
         }
-        0x81 => start(d, output, s.node.id),
-        0x82 => reset_communication(s, d, output),
-        _ => becomes(parts_of(s), false),
+        0x81 => start(d, output, node.id),
+        0x82 => reset_communication(parts, d, output),
+        _ => becomes(parts, false),
     }
 }
 
@@ -80,13 +77,13 @@ fn is_for_node(content: PdoData, id: u8) -> bool
 }
 
 // An NMT frame; one of another length or for another node changes nothing.
-pub fn nmt_frame(content: PdoData, s: State, d: &mut [u8], output: &mut [u8]) -> Done
-    requires { ⌜ MayReset (s .node .id) (now d) (now output) × OnBus content ⌝ }
-    ensures { λ r. ⌜ Leaves (nmt (dataOf content) s) (now (d .entry)) (now (output .entry)) r (now (d .exit)) (now (output .exit))
-        × Rests s (nmt (dataOf content) s) r ⌝ }
+pub fn nmt_frame(content: PdoData, parts: Parts, d: &mut [u8], output: &mut [u8]) -> Done
+    requires { ⌜ MayReset (parts .node .id) (now d) (now output) × OnBus content ⌝ }
+    ensures { λ r. ⌜ LeavesBy parts (λ s d. nmt (dataOf content) s)
+        (now (d .entry)) (now (output .entry)) r (now (d .exit)) (now (output .exit)) ⌝ }
 {
-    if is_for_node(content, s.node.id) {
-        return command(content.bytes[0], s, d, output);
+    if is_for_node(content, parts.node.id) {
+        return command(content.bytes[0], parts, d, output);
     }
-    becomes(parts_of(s), true)
+    becomes(parts, true)
 }

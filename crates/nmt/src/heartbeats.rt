@@ -9,17 +9,15 @@ ghost use Rattle.rules_dictionary.specs.Table.{dictionaryLength};
 ghost use Rattle.rules_services.specs.Effects.{frame, on, withHeartbeat};
 ghost use Rattle.rules_services.specs.Nmt.{heartbeatBase, stateByte, bootUp, tick};
 ghost use Rattle.rules.specs.Outcome.{frameSize, sentInto};
-ghost use Rattle.output.specs.Leaves.{partsOf, Leaves, Rests};
+ghost use Rattle.output.specs.Leaves.{partsOf, bare, LeavesBy};
 ghost use Rattle.nmt.specs.Commanding.{ticked};
 use dictionary::objects;
 use output::Done;
 use output::Parts;
-use output::parts_of;
 use output::send;
 use rules_dictionary::PdoData;
 use state::NmtState;
 use state::Occasion;
-use state::State;
 
 // 700h, to which the node-ID is added.
 const HEARTBEAT_BASE: u16 = 0x700;
@@ -64,16 +62,13 @@ pub fn boot_up(output: &mut [u8], n: u8)
     send_byte(output, n, BOOT_UP);
 }
 
-// The parts of the state, with that count of ticks since the last heartbeat.
-fn counted(s: State, count: u16) -> Parts
-    ensures { λ r. ⌜ r ≡ partsOf (withHeartbeat count s) ⌝ }
+// Those parts of the state, with that count of ticks since the last heartbeat.
+fn counted(parts: Parts, count: u16) -> Parts
+    ensures { λ r. ⌜ r ≡ partsOf (withHeartbeat count (bare parts)) ⌝ }
 {
-    let axis = s.axis;
-    let drive = axis.drive;
-    let held = axis.held;
-    let mut node = s.node;
-    node.heartbeat = count;
-    Parts { node, drive, held }
+    let mut next = parts;
+    next.node.heartbeat = count;
+    next
 }
 
 // A tick that leaves those parts. Nothing is left to do after it: the count is neither in the dictionary nor shown.
@@ -91,20 +86,20 @@ fn ticked(parts: Parts, frames: usize) -> Done
 }
 
 // 1 ms on: the heartbeat "each 1017h ticks, in all states".
-pub fn tick(s: State, d: &[u8], output: &mut [u8]) -> Done
+pub fn tick(parts: Parts, d: &[u8], output: &mut [u8]) -> Done
     requires { ⌜ (length (now d) ≡ dictionaryLength) × (frameSize ≤ length (now output)) ⌝ }
-    ensures { λ r. ⌜ Leaves (on Ticked (tick s (now (d .entry)))) (now (d .entry)) (now (output .entry)) r (now (d .entry)) (now (output .exit))
-        × Rests s (on Ticked (tick s (now (d .entry)))) r ⌝ }
+    ensures { λ r. ⌜ LeavesBy parts (λ s d. on Ticked (tick s d))
+        (now (d .entry)) (now (output .entry)) r (now (d .entry)) (now (output .exit)) ⌝ }
 {
     let period = objects::heartbeat_time(d);
-    let node = s.node;
+    let node = parts.node;
     let nmt = node.nmt;
     if period == 0 {
-        return ticked(parts_of(s), 0);
+        return ticked(parts, 0);
     }
     if node.heartbeat < period - 1 {
-        return ticked(counted(s, node.heartbeat + 1), 0);
+        return ticked(counted(parts, node.heartbeat + 1), 0);
     }
     send_byte(output, node.id, state_byte(nmt));
-    ticked(counted(s, 0), 1)
+    ticked(counted(parts, 0), 1)
 }

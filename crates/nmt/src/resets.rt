@@ -3,7 +3,7 @@ ghost use mathlib.Core.Path.{_≡_};
 ghost use mathlib.Core.Bool.{true, false};
 ghost use Rattle.rules_services.specs.PdoTraffic.{noneHeld};
 ghost use Rattle.rules_services.specs.Nmt.{freshState, powerUp, resetCommunication, commanded};
-ghost use Rattle.output.specs.Leaves.{partsOf, Leaves};
+ghost use Rattle.output.specs.Leaves.{partsOf, Leaves, LeavesBy};
 ghost use Rattle.nmt.specs.Commanding.{disabled, MayReset};
 use crate::heartbeats::boot_up;
 use dictionary::write_communication_defaults;
@@ -20,7 +20,6 @@ use rules_dictionary::PdoData;
 use state::NmtState;
 use state::Node;
 use state::Occasion;
-use state::State;
 
 // Four PDOs with no data.
 pub fn none_held() -> [PdoData; 4]
@@ -83,21 +82,21 @@ pub fn start(d: &mut [u8], output: &mut [u8], n: u8) -> Done
 }
 
 // 82h: the communication objects, mappings among them, to their defaults, Disable voltage, Pre-operational, boot-up.
-pub fn reset_communication(s: State, d: &mut [u8], output: &mut [u8]) -> Done
-    requires { ⌜ MayReset (s .node .id) (now d) (now output) ⌝ }
-    ensures { λ r. ⌜ Leaves (commanded resetCommunication s) (now (d .entry)) (now (output .entry)) r (now (d .exit)) (now (output .exit))
-        × (r .quiet ≡ false) ⌝ }
+pub fn reset_communication(parts: Parts, d: &mut [u8], output: &mut [u8]) -> Done
+    requires { ⌜ MayReset (parts .node .id) (now d) (now output) ⌝ }
+    ensures { λ r. ⌜ LeavesBy parts (λ s d. commanded resetCommunication s)
+        (now (d .entry)) (now (output .entry)) r (now (d .exit)) (now (output .exit)) ⌝ }
 {
-    let axis = s.axis;
-    let drive = axis.drive;
-    write_communication_defaults(d, s.node.id);
-    boot_up(output, s.node.id);
+    let node = parts.node;
+    let drive = parts.drive;
+    write_communication_defaults(d, node.id);
+    boot_up(output, node.id);
     Done {
         parts: Parts {
             node: Node {
-                id: s.node.id,
+                id: node.id,
                 nmt: NmtState::PreOperational,
-                voltage: s.node.voltage,
+                voltage: node.voltage,
                 heartbeat: 0,
             },
             drive: disabled(drive),

@@ -60,7 +60,8 @@ unfolding framed encoded
 framed-is-encoded i content h = rw (length-data content h) (ap (λ (bs : List ℕ). bytes 2 i ++ content .length ∷ bs) (h .zeros))
 
 -- laid at the start, that frame is sent
-pub laid-is-sent : (i : ℕ) (content : PdoData) (o : List ℕ) → IsData content → framed i content ++ drop frameSize o ≡ sentInto o (frameOf i content ∷ [])
+pub laid-is-sent : (i : ℕ) (content : PdoData) (o : List ℕ) → IsData content →
+    framed i content ++ drop frameSize o ≡ sentInto o (frameOf i content ∷ [])
 unfolding sentInto
 laid-is-sent i content o h = rw (framed-is-encoded i content h)
 

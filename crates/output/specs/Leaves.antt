@@ -43,11 +43,6 @@ remaps ws = any (λ w. isMapping (w .row .role)) ws
 abbrev pub partsOf : State → Parts
 partsOf s = record { node = s .node; drive = s .axis .drive; held = s .axis .held }
 
-abbrev pub withParts : Parts → State → State
-withParts p s =
-    let a = s .axis in
-    record { node = p .node; axis = record { drive = p .drive; plans = a .plans; ready = a .ready; held = p .held; paces = a .paces } }
-
 -- a state with those parts; the rest of it, which no service reads, is empty
 abbrev pub bare : Parts → State
 bare p = record { node = p .node; axis = record { drive = p .drive; plans = []; ready = []; held = p .held; paces = [] } }
@@ -88,3 +83,8 @@ pub record Calm (s : State) (e : Effect) : Type 0 where
 -- where it says that it was quiet, it was
 abbrev pub Rests : State → Effect → Done → Type 0
 Rests s e r = r .quiet ≡ true → Calm s e
+
+-- ---- THE PROMISE of a service that is handed the parts of the state alone: both, in every state with those parts
+
+abbrev pub LeavesBy : Parts → (State → List ℕ → Effect) → List ℕ → List ℕ → Done → List ℕ → List ℕ → Type 0
+LeavesBy parts f d o r d′ o′ = (s : State) → parts ≡ partsOf s → Leaves (f s d) d o r d′ o′ × Rests s (f s d) r

@@ -1,14 +1,10 @@
 // What a service leaves: the frames that it lays into the output, the parts of the state that it may change, and what is left to do at the
 // call's end. Proved against specs/Laying.antt and specs/Leaves.antt; proofs/Frames.antt ties the first to the output of document 01.
 
-mod changing; // the parts of the state, and the state with one part changed
+mod changing; // the parts of the state that a service may change
 
 pub use changing::becomes;
 pub use changing::parts_of;
-pub use changing::with_drive;
-pub use changing::with_held;
-pub use changing::with_nmt;
-pub use changing::with_paces;
 use drive::Drive;
 use rules_dictionary::PdoData;
 use state::Node;

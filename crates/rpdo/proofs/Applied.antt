@@ -32,12 +32,11 @@ use Rattle.mapping.proofs.Unpacked.{stored-is, control-is, mode-is, heartbeat-i
 use Rattle.output.specs.Laying.{emitted}
 use Rattle.output.specs.declared.Parts.{Parts}
 use Rattle.output.specs.declared.Done.{Done}
-use Rattle.output.specs.Leaves.{bare, isMapping, remaps, Leaves}
+use Rattle.output.specs.Leaves.{bare, isMapping, remaps, Leaves, LeavesBy}
 use Rattle.output.proofs.Left.{as-effect, left-alike, loud}
 use Rattle.emergency.specs.Emergencies.{emergencyOf}
 use Rattle.emergency.specs.Acts.{acts, controlActs}
 use Rattle.emergency.proofs.Written.{emergency-by, stored-acted, acts-alike}
-use Rattle.rpdo.specs.Traffic.{LeavesBy}
 use Rattle.rpdo.proofs.Leaving.{Behind, left-behind}
 
 -- rows of no PDO are no mapping's

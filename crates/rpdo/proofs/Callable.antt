@@ -2,10 +2,10 @@
 -- Assumes nothing.
 use Prim.Native.Nat.{ℕ, _≤_}
 use mathlib.Core.Path.{_≡_, refl}
-use mathlib.Core.List.{List}
+use mathlib.Core.List.{List, []}
 use borrow.Author.Tests.{leb-true}
 use lib.Dec.{leb}
-use lib.ListN.{length}
+use lib.ListN.{length, getD}
 use Rattle.state.specs.declared.State.{State}
 use Rattle.rules_dictionary.specs.TheNode.{firstNode, lastNode}
 use Rattle.rules_dictionary.specs.Plans.{mapped, planFor, plansOf}
@@ -13,8 +13,10 @@ use Rattle.rules_dictionary.proofs.Tests.{and-right, each-in}
 use Rattle.rules_services.specs.PdoTraffic.{sync}
 use Rattle.rules.specs.Calls.{outputLength}
 use Rattle.theorems.proofs.Lawful.{Lawful}
+use Rattle.form.specs.Form.{stateLength, stateOf}
 use Rattle.mapping.proofs.Unpacked.{legal-receives}
-use Rattle.rpdo.specs.Kept.{planAt, Kept}
+use Rattle.output.specs.Leaves.{partsOf}
+use Rattle.rpdo.specs.Kept.{Kept}
 use Rattle.rpdo.specs.Traffic.{syncOf}
 
 -- a SYNC is served by the length of its data
@@ -22,15 +24,18 @@ pub sync-by-length : (bs : List ℕ) (s : State) (d : List ℕ) → sync bs s d 
 unfolding sync syncOf
 sync-by-length bs s d = refl
 
--- what a lawful state with fresh plans keeps for PDO traffic
-pub lawful-kept : {s : State} {d o : List ℕ} → Lawful s d → s .axis .plans ≡ plansOf d → outputLength ≤ length o → Kept s d o
+-- what the bytes of a lawful state with fresh plans keep for PDO traffic
+pub lawful-kept : {state d o : List ℕ} → length state ≡ stateLength → Lawful (stateOf state) d → stateOf state .axis .plans ≡ plansOf d →
+    outputLength ≤ length o → Kept (partsOf (stateOf state)) state d o
 unfolding plansOf
-lawful-kept {s} {d} law fresh room =
+lawful-kept {state} {d} whole law fresh room =
+    let n = stateOf state .node .id in
     record {
+      whole = whole;
       long = law .long;
       room = room;
-      id = leb-true (s .node .id) lastNode (and-right (leb firstNode (s .node .id)) (leb (s .node .id) lastNode) (law .id));
+      id = leb-true n lastNode (and-right (leb firstNode n) (leb n lastNode) (law .id));
       plans = λ p i.
-          rw (fresh, each-in (λ q. planAt (plansOf d) q ≡ planFor (mapped d q)) i (refl, (refl, (refl, (refl, tt)))))
+          rw (fresh, each-in (λ q. getD (plansOf d) q (record { count = 0; moves = [] }) ≡ planFor (mapped d q)) i (refl, (refl, (refl, (refl, tt)))))
           (legal-receives (law .dictionary) i);
     }

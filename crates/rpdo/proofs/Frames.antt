@@ -27,13 +27,14 @@ use Rattle.theorems.proofs.PdoKept.{unpacked-same}
 use Rattle.mapping.specs.Received.{movesOf, sizes, movesLegal, Receives}
 use Rattle.mapping.proofs.Unpacked.{legal-is, length-is}
 use Rattle.output.specs.Laying.{IsData, dataOf, emitted}
+use Rattle.output.specs.Leaves.{LeavesBy}
 use Rattle.output.specs.declared.Parts.{Parts}
 use Rattle.output.specs.declared.Done.{Done}
 use Rattle.output.proofs.Frames.{length-data, is-data, frame-of-data, lent-back}
 use Rattle.emergency.specs.Emergencies.{emergencyOf}
 use Rattle.emergency.proofs.Written.{emergency-by}
 use Rattle.rpdo.specs.Kept.{Serves}
-use Rattle.rpdo.specs.Traffic.{says, judged, LeavesBy}
+use Rattle.rpdo.specs.Traffic.{says, judged}
 use Rattle.rpdo.proofs.Leaving.{renamed, left-behind}
 use Rattle.rpdo.proofs.Applied.{one-frame, keeps-applied}
 

@@ -1,23 +1,24 @@
 -- The receive PDOs by number, and which of them a frame on an identifier is for.
 -- Assumes nothing.
-use Prim.Native.Nat.{ℕ, zero, suc, _+_, _/_, _%_, _<_}
+use Prim.Native.Nat.{ℕ, zero, suc, _+_, _%_, _<_}
 use native.Mathlib.Omega.{arith}
 use mathlib.Core.Path.{_≡_, refl, sym, _∙_, ap, ap₂}
 use mathlib.Core.Bool.{Bool, true, false, _&&_, and-true}
 use mathlib.Core.List.{List, [], _∷_}
 use borrow.Author.Tests.{eq-eqb, ne-eqb}
-use lib.Dec.{eqb, ltb}
+use lib.Dec.{eqb}
 use lib.ListN.{drop}
 use Rattle.state.specs.declared.State.{State}
-use Rattle.rules_dictionary.specs.Table.{eachWay, receivePdos, identifier, mapCount}
+use Rattle.rules_dictionary.specs.Table.{eachWay, receivePdos, identifier}
 use Rattle.rules_dictionary.specs.Values.{read}
-use Rattle.rules_dictionary.specs.Legal.{isValid, frameIdentifier}
+use Rattle.rules_dictionary.specs.Legal.{frameIdentifier}
 use Rattle.rules_dictionary.specs.Members.{In, here, there}
 use Rattle.rules_services.specs.Effects.{Effect, becomes}
 use Rattle.state.specs.NmtStates.{isOperational}
 use Rattle.rules_services.specs.PdoTraffic.{works, listens, received, receivedBy}
 use Rattle.theorems.proofs.Booleans.{and-false-if}
 use Rattle.theorems.proofs.Writes.{idle}
+use Rattle.mapping.specs.Working.{isOpen}
 use Rattle.rpdo.specs.Traffic.{hears}
 
 pub receiver : (p : ℕ) → p < eachWay → In p receivePdos × (drop p receivePdos ≡ p ∷ drop (p + 1) receivePdos)
@@ -33,17 +34,13 @@ module _ (d : List ℕ) (p i w : ℕ) (is : w ≡ read d (identifier p)) where
   low : frameIdentifier (read d (identifier p)) ≡ w % 0x800
   low = ap frameIdentifier (sym is) ∙ omega arith
 
-  pub for-another : (w % 0x800 ≡ i → ⊥) → hears i d p ≡ false
+  pub for-another : (w % 0x800 ≡ i → ⊥) → false ≡ hears i d p
   unfolding hears
-  for-another n = and-false-if (isValid (read d (identifier p)) && ltb 0 (read d (mapCount p))) _ (λ e. rw (low, ne-eqb _ _ n))
+  for-another n = sym (and-false-if (isOpen d p) _ (λ e. rw (low, ne-eqb _ _ n)))
 
-  pub invalid : w / 0x80000000 % 2 ≡ 1 → hears i d p ≡ false
+  pub heard : w % 0x800 ≡ i → isOpen d p ≡ hears i d p
   unfolding hears
-  invalid e = rw (← is, eq-eqb _ _ e)
-
-  pub heard : w % 0x800 ≡ i → (w / 0x80000000 % 2 ≡ 1 → ⊥) → (c : ℕ) → c ≡ read d (mapCount p) → ltb 0 c ≡ hears i d p
-  unfolding hears
-  heard e n c k = rw (low, eq-eqb _ _ e, ← is, ne-eqb _ _ n, ← k) (sym (and-true (ltb 0 c)))
+  heard e = sym (ap (λ (b : Bool). isOpen d p && b) (rw (low, eq-eqb _ _ e)) ∙ and-true (isOpen d p))
 
 -- ---- the PDO that a frame is for
 

@@ -19,12 +19,12 @@ use Rattle.theorems.proofs.Writes.{stored-append}
 use Rattle.output.specs.Laying.{emitted}
 use Rattle.output.specs.declared.Parts.{Parts}
 use Rattle.output.specs.declared.Done.{Done}
-use Rattle.output.specs.Leaves.{partsOf, touches, remaps, Leaves, Rests, became}
+use Rattle.output.specs.Leaves.{touches, remaps, Leaves, Rests, became, LeavesBy}
 use Rattle.output.proofs.Frames.{emitted-then}
 use Rattle.output.proofs.Left.{left-as, calm-said}
 use Rattle.emergency.specs.Emergencies.{emergencyOf}
 use Rattle.emergency.proofs.Written.{emergency-by}
-use Rattle.rpdo.specs.Traffic.{says, LeavesBy}
+use Rattle.rpdo.specs.Traffic.{says}
 
 -- ---- the promise under another name of the effect
 
@@ -34,9 +34,8 @@ renamed {s} {d = d} {o} {r} {d′} {o′} q h = subst (λ (x : Effect). Leaves x
 
 -- ---- nothing done, and an emergency alone
 
-pub left-still : {s : State} {parts : Parts} {r : Done} {d o : List ℕ} → parts ≡ partsOf s → r ≡ became parts true →
-    Leaves (becomes s) d o r d o × Rests s (becomes s) r
-left-still {s} {parts} {d = d} {o} e is = rw is (left-as s parts true d o e, λ q. calm-said s [])
+pub left-still : {parts : Parts} {r : Done} {d o : List ℕ} → r ≡ became parts true → LeavesBy parts (λ s d₀. becomes s) d o r d o
+left-still {parts} {d = d} {o} is s e = rw is (left-as s parts true d o e, λ q. calm-said s [])
 
 pub left-said : (code : ℕ) {parts : Parts} {k : ℕ} {d o o′ : List ℕ} →
     (k ≡ length (emergencyOf code (parts .node) d)) × (o′ ≡ sentInto o (emergencyOf code (parts .node) d)) →

@@ -28,12 +28,12 @@ use Rattle.theorems.proofs.Writes.{no-pdo-alike, stored-append}
 use Rattle.output.specs.Laying.{emitted}
 use Rattle.output.specs.declared.Parts.{Parts}
 use Rattle.output.specs.declared.Done.{Done}
-use Rattle.output.specs.Leaves.{partsOf, Leaves}
+use Rattle.output.specs.Leaves.{partsOf, Leaves, LeavesBy}
 use Rattle.output.proofs.Frames.{lent-back}
 use Rattle.output.proofs.Left.{as-effect}
+use Rattle.form.specs.Form.{planIn}
 use Rattle.mapping.specs.Received.{Receives}
-use Rattle.rpdo.specs.Kept.{planAt, heldAt, Kept, Serves}
-use Rattle.rpdo.specs.Traffic.{LeavesBy}
+use Rattle.rpdo.specs.Kept.{heldAt, Kept, Serves}
 use Rattle.rpdo.proofs.Hearing.{receiver}
 use Rattle.rpdo.proofs.Leaving.{renamed, behind, Behind, left-behind}
 use Rattle.rpdo.proofs.Applied.{Keeps, keeps-applied, no-mapping}
@@ -99,9 +99,13 @@ pub record Underway (s : State) (d₀ o₀ : List ℕ) (p : ℕ) (r : Done) (d o
   pub rest : andThen d₀ done (releaseAll (drop p receivePdos)) ≡ on Synced (releaseAll receivePdos s d₀)
   pub keeps : Keeps p s done
 
-pub none-yet : (s : State) {parts : Parts} (d o : List ℕ) → parts ≡ partsOf s → Underway s d o 0 (synced parts 0 false) d o
+-- the same in every state with those parts
+abbrev pub UnderwayBy : Parts → List ℕ → List ℕ → ℕ → Done → List ℕ → List ℕ → Type 0
+UnderwayBy parts₀ d₀ o₀ p r d o = (s : State) → parts₀ ≡ partsOf s → Underway s d₀ o₀ p r d o
+
+pub none-yet : {parts : Parts} {d o : List ℕ} → UnderwayBy parts d o 0 (synced parts 0 false) d o
 unfolding andThen stored sentInto
-none-yet s d o e =
+none-yet s e =
     record {
       number = omega arith;
       same = refl;
@@ -111,8 +115,8 @@ none-yet s d o e =
       keeps = record { id = refl; few = omega arith; quiet = λ w i. absurd (none-in i) };
     }
 
-module _ {s : State} {d₀ o₀ : List ℕ} (k : Kept s d₀ o₀) {p : ℕ} (l : p < eachWay) {parts : Parts} {frames : ℕ} {touched : Bool} {d o : List ℕ}
-    (x : Underway s d₀ o₀ p (synced parts frames touched) d o) where
+module _ {parts₀ : Parts} {state d₀ o₀ : List ℕ} (k : Kept parts₀ state d₀ o₀) {p : ℕ} (l : p < eachWay) {s : State} {parts : Parts} {frames : ℕ}
+    {touched : Bool} {d o : List ℕ} (x : Underway s d₀ o₀ p (synced parts frames touched) d o) (was : parts₀ ≡ partsOf s) where
   abbrev e : Effect
   e = x .done
 
@@ -120,13 +124,13 @@ module _ {s : State} {d₀ o₀ : List ℕ} (k : Kept s d₀ o₀) {p : ℕ} (l 
   rest = rw (receiver p l .1) at (x .rest)
 
   -- what is kept stays kept
-  pub serves : Serves parts (planAt (s .axis .plans) p) p d
+  pub serves : Serves parts (planIn state p) p d
   serves =
       let i = receiver p l .0 in
       let pdos = no-pdo-alike (e .writes) d₀ (λ w j. x .keeps .quiet w j .0) (λ w j. x .keeps .quiet w j .1) in
       record {
         long = ap length (x .leaves .dictionary) ∙ length-stored (e .writes) d₀ ∙ k .long;
-        id = rw (x .leaves .parts, x .keeps .id) (k .id);
+        id = rw (x .leaves .parts, x .keeps .id) (rw was at (k .id));
         number = l;
         receives = rw (x .leaves .dictionary, mapped-alike d₀ (stored (e .writes) d₀) pdos (in-left transmitPdos i)) (k .plans p i);
       }

@@ -18,7 +18,7 @@ ghost use Rattle.rules_services.specs.Written.{applied};
 ghost use Rattle.rules.specs.Outcome.{frameSize};
 ghost use Rattle.mapping.specs.Moves.{MovesFit};
 ghost use Rattle.mapping.specs.Received.{Receives};
-ghost use Rattle.rpdo.specs.Traffic.{LeavesBy};
+ghost use Rattle.output.specs.Leaves.{LeavesBy};
 
 // The values of the rows that a receive PDO's plan is for, taken from those bytes, stored and acted on.
 pub fn apply(parts: Parts, plan: Plan, d: &mut [u8], output: &mut [u8], content: [u8; 8]) -> Done

@@ -9,7 +9,8 @@ ghost use lib.ListN.{length};
 ghost use Rattle.rules_dictionary.specs.Table.{dictionaryLength};
 ghost use Rattle.rules_dictionary.specs.TheNode.{lastNode};
 ghost use Rattle.rules.specs.Outcome.{frameSize};
-ghost use Rattle.rpdo.specs.Traffic.{says, LeavesBy};
+ghost use Rattle.output.specs.Leaves.{LeavesBy};
+ghost use Rattle.rpdo.specs.Traffic.{says};
 
 // An emergency and no more.
 pub fn refused(code: u16, parts: Parts, d: &[u8], output: &mut [u8]) -> Done

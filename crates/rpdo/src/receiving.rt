@@ -6,16 +6,15 @@ use crate::listening::hears;
 use dictionary::places;
 use dictionary::records;
 use emergency::emergency;
+use form::read_plan;
 use mapping::are_legal;
 use mapping::length_of;
 use output::Done;
 use output::FRAME_LENGTH;
 use output::Parts;
 use output::becomes;
-use output::parts_of;
 use rules_dictionary::PdoData;
 use rules_dictionary::Plan;
-use state::State;
 ghost use mathlib.Core.Path.{_≡_};
 ghost use Prim.Native.Nat.{_≤_};
 ghost use lib.ListN.{length, take};
@@ -26,9 +25,9 @@ ghost use Rattle.rules_services.specs.PdoTraffic.{mappedLength, received, recei
 ghost use Rattle.rules.specs.Calls.{outputLength};
 ghost use Rattle.rules.specs.Outcome.{frameSize};
 ghost use Rattle.output.specs.Laying.{IsData, dataOf};
-ghost use Rattle.output.specs.Leaves.{Leaves, Rests};
+ghost use Rattle.output.specs.Leaves.{LeavesBy};
 ghost use Rattle.rpdo.specs.Kept.{Kept, Serves};
-ghost use Rattle.rpdo.specs.Traffic.{judged, LeavesBy};
+ghost use Rattle.rpdo.specs.Traffic.{judged};
 
 // Emergency code: a value that SDO would refuse.
 const VALUE_REFUSED: u16 = 0x8200;
@@ -77,11 +76,9 @@ fn judge(
     if LAST_SYNCHRONOUS < records::transmission_type(d, p) {
         return apply(parts, plan, d, output, bytes);
     }
-    let node = parts.node;
-    let drive = parts.drive;
-    let mut held = parts.held;
-    held[p] = content;
-    becomes(Parts { node, drive, held }, true)
+    let mut next = parts;
+    next.held[p] = content;
+    becomes(next, true)
 }
 
 // A frame that receive PDO p listens to.
@@ -116,26 +113,30 @@ fn received(
 }
 
 // A frame on an identifier: for the first receive PDO that listens to it, if any. "A PDO works only in Operational".
-pub fn receive(s: State, d: &mut [u8], output: &mut [u8], identifier: u16, content: PdoData) -> Done
-    requires { ⌜ Kept s (now d) (now output) × IsData content ⌝ }
-    ensures { λ r. ⌜ Leaves (receivedBy receivePdos identifier (dataOf content) s (now (d .entry)))
-        (now (d .entry)) (now (output .entry)) r (now (d .exit)) (now (output .exit))
-        × Rests s (receivedBy receivePdos identifier (dataOf content) s (now (d .entry))) r ⌝ }
+// Of the state's bytes the plan is read, once that is known.
+pub fn receive(
+    parts: Parts,
+    state: &[u8],
+    d: &mut [u8],
+    output: &mut [u8],
+    identifier: u16,
+    content: PdoData,
+) -> Done
+    requires { ⌜ Kept parts (now state) (now d) (now output) × IsData content ⌝ }
+    ensures { λ r. ⌜ LeavesBy parts (receivedBy receivePdos identifier (dataOf content))
+        (now (d .entry)) (now (output .entry)) r (now (d .exit)) (now (output .exit)) ⌝ }
 {
-    let node = s.node;
+    let node = parts.node;
     let nmt = node.nmt;
     if !nmt.is_operational() {
-        return becomes(parts_of(s), true);
+        return becomes(parts, true);
     }
     let mut p: usize = 0;
     while p < places::EACH_WAY {
         if hears(d, p, identifier) {
-            // Read here and not before the loop: indexed by a variable they are copied whole.
-            let axis = s.axis;
-            let plans = axis.plans;
-            return received(parts_of(s), plans[p], d, output, p, content);
+            return received(parts, read_plan(state, p), d, output, p, content);
         }
         p += 1;
     }
-    becomes(parts_of(s), true)
+    becomes(parts, true)
 }

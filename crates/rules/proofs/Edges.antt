@@ -15,7 +15,8 @@ use Rattle.rules_dictionary.specs.declared.PdoData.{PdoData}
 use Rattle.state.specs.declared.State.{State}
 use Rattle.state.specs.declared.Pace.{Pace}
 use Rattle.rules_dictionary.specs.TheNode.{firstNode, lastNode}
-use Rattle.rules_dictionary.specs.Table.{table, deviceType, positionWindow, transmissionType, mapEntry, identifier, statusWord, modeDisplay, mode, controlWord, heartbeatTime, position, dictionaryLength, open-table}
+use Rattle.rules_dictionary.specs.Table.{table, deviceType, positionWindow, transmissionType, mapEntry, identifier, statusWord, modeDisplay, mode}
+use Rattle.rules_dictionary.specs.Table.{controlWord, heartbeatTime, position, dictionaryLength, open-table}
 use Rattle.rules_dictionary.specs.Values.{Write, write, store, stored, packedDefaults}
 use Rattle.drive.specs.SetPoints.{withStore, withMarks, withCause}
 use Rattle.rules_services.specs.Effects.{frame, writes, becomes, withNode, withDrive, withHeld, withPaces, withNmt, withHeartbeat}
@@ -72,13 +73,15 @@ unfolding open-rules
 eleven-bytes = refl
 
 one-after-another : sentInto (replicate 24 0xA5) (frame 0x085 (0x10 ∷ 0x82 ∷ []) ∷ frame 0x705 [] ∷ [])
-    ≡ 0x85 ∷ 0x00 ∷ 0x02 ∷ 0x10 ∷ 0x82 ∷ 0x00 ∷ 0x00 ∷ 0x00 ∷ 0x00 ∷ 0x00 ∷ 0x00 ∷ 0x05 ∷ 0x07 ∷ 0x00 ∷ 0x00 ∷ 0x00 ∷ 0x00 ∷ 0x00 ∷ 0x00 ∷ 0x00 ∷ 0x00 ∷ 0x00 ∷ 0xA5 ∷ 0xA5 ∷ []
+    ≡ 0x85 ∷ 0x00 ∷ 0x02 ∷ 0x10 ∷ 0x82 ∷ 0x00 ∷ 0x00 ∷ 0x00 ∷ 0x00 ∷ 0x00 ∷ 0x00
+    ∷ 0x05 ∷ 0x07 ∷ 0x00 ∷ 0x00 ∷ 0x00 ∷ 0x00 ∷ 0x00 ∷ 0x00 ∷ 0x00 ∷ 0x00 ∷ 0x00 ∷ 0xA5 ∷ 0xA5 ∷ []
 unfolding open-rules
 one-after-another = refl
 
 -- "At most 6 frames. Order: SDO reply; emergencies ..; TPDOs rising": a fault reset by SDO in Operational sends all six
 six-in-order : fromNothing (example7
-    ++ line (eventCall 3 (0x10 ∷ 0x23 ∷ 0x00 ∷ [])) 0 0x021F (emergency (0x10 ∷ 0x23 ∷ 0x01 ∷ 0x00 ∷ 0x00 ∷ 0x00 ∷ 0x00 ∷ 0x00 ∷ []) ∷ fourPdos 0x1F 0x02)
+    ++ line (eventCall 3 (0x10 ∷ 0x23 ∷ 0x00 ∷ [])) 0 0x021F
+    (emergency (0x10 ∷ 0x23 ∷ 0x01 ∷ 0x00 ∷ 0x00 ∷ 0x00 ∷ 0x00 ∷ 0x00 ∷ []) ∷ fourPdos 0x1F 0x02)
     ∷ line (eventCall 4 []) 0 0x0218 (fourPdos 0x18 0x02)
     ∷ line (eventCall 8 []) 0 0x0218 []
     ∷ write2 0x40 0x60 0x00 0x80 0x00 0x0250 (emergency (0x00 ∷ 0x00 ∷ 0x00 ∷ 0x00 ∷ 0x00 ∷ 0x00 ∷ 0x00 ∷ 0x00 ∷ []) ∷ fourPdos 0x50 0x02)
@@ -90,7 +93,8 @@ six-in-order = refl
 entering : fromNothing (example1
     ++ write1 0x00 0x18 0x02 0x00 0x0250 []
     ∷ write1 0x01 0x18 0x02 0x02 0x0250 []
-    ∷ line (nmt 0x01) 0 0x0250 (frame 0x385 (0x50 ∷ 0x02 ∷ 0x00 ∷ 0x00 ∷ 0x00 ∷ 0x00 ∷ []) ∷ frame 0x485 (0x50 ∷ 0x02 ∷ 0x00 ∷ 0x00 ∷ 0x00 ∷ 0x00 ∷ []) ∷ [])
+    ∷ line (nmt 0x01) 0 0x0250
+    (frame 0x385 (0x50 ∷ 0x02 ∷ 0x00 ∷ 0x00 ∷ 0x00 ∷ 0x00 ∷ []) ∷ frame 0x485 (0x50 ∷ 0x02 ∷ 0x00 ∷ 0x00 ∷ 0x00 ∷ 0x00 ∷ []) ∷ [])
     ∷ line (frameCall 0x080 []) 0 0x0250 (frame 0x185 (0x50 ∷ 0x02 ∷ []) ∷ [])
     ∷ line (frameCall 0x080 []) 0 0x0250 (frame 0x285 (0x50 ∷ 0x02 ∷ 0x00 ∷ []) ∷ [])
     ∷ line (frameCall 0x080 []) 0 0x0250 []
@@ -132,7 +136,8 @@ unfolding onto state dictionary open-edges
 broken-dictionary = refl
 
 -- "plans and ready frames as worked afresh": a legal word behind the count is no part of the plan, a changed value is of the frame
-stale : (onto (write (mapEntry 0 8) 0x60400010 ∷ []) ≡ true) × (onto (write (mapEntry 1 2) 0x607A0020 ∷ []) ≡ false) × (onto (write position 1 ∷ []) ≡ false)
+stale : (onto (write (mapEntry 0 8) 0x60400010 ∷ []) ≡ true) × (onto (write (mapEntry 1 2) 0x607A0020 ∷ []) ≡ false)
+    × (onto (write position 1 ∷ []) ≡ false)
 unfolding onto state dictionary open-edges
 stale = (refl, refl, refl)
 
@@ -165,12 +170,17 @@ waiting ws f =
     let e = ended nothing (packedDefaults 5 table) (writes ws (becomes (withNmt Operational (freshState 5)))) in
     sound (f (withPaces allIdle (e .state))) (e .dictionary)
 
-waits : (map (λ k. waiting (write (transmissionType 5) 3 ∷ []) (withPaces (idle ∷ counted k ∷ idle ∷ idle ∷ []))) (0 ∷ 2 ∷ 3 ∷ []) ≡ true ∷ true ∷ false ∷ [])
-    × (map (λ k. waiting (write (transmissionType 5) k ∷ []) (withPaces (idle ∷ due ∷ idle ∷ idle ∷ []))) (0 ∷ 1 ∷ 255 ∷ []) ≡ true ∷ false ∷ false ∷ [])
-    × (map (λ k. waiting (write (transmissionType 0) k ∷ []) (withHeld (one ∷ noData ∷ noData ∷ noData ∷ []))) (0 ∷ 240 ∷ 255 ∷ []) ≡ true ∷ true ∷ false ∷ [])
+waits : (map (λ k. waiting (write (transmissionType 5) 3 ∷ []) (withPaces (idle ∷ counted k ∷ idle ∷ idle ∷ []))) (0 ∷ 2 ∷ 3 ∷ [])
+    ≡ true ∷ true ∷ false ∷ [])
+    × (map (λ k. waiting (write (transmissionType 5) k ∷ []) (withPaces (idle ∷ due ∷ idle ∷ idle ∷ []))) (0 ∷ 1 ∷ 255 ∷ [])
+    ≡ true ∷ false ∷ false ∷ [])
+    × (map (λ k. waiting (write (transmissionType 0) k ∷ []) (withHeld (one ∷ noData ∷ noData ∷ noData ∷ []))) (0 ∷ 240 ∷ 255 ∷ [])
+    ≡ true ∷ true ∷ false ∷ [])
     × (waiting (write (transmissionType 1) 1 ∷ []) (withHeld (noData ∷ one ∷ noData ∷ noData ∷ [])) ≡ false)
-    × (waiting (write (transmissionType 1) 1 ∷ []) (withHeld (noData ∷ record { length = 3; bytes = 6 ∷ 0 ∷ 2 ∷ 0 ∷ 0 ∷ 0 ∷ 0 ∷ 0 ∷ [] } ∷ noData ∷ noData ∷ [])) ≡ false)
-    × (waiting (write (transmissionType 1) 1 ∷ []) (withHeld (noData ∷ record { length = 3; bytes = 6 ∷ 0 ∷ 3 ∷ 0 ∷ 0 ∷ 0 ∷ 0 ∷ 0 ∷ [] } ∷ noData ∷ noData ∷ [])) ≡ true)
+    × (waiting (write (transmissionType 1) 1 ∷ [])
+    (withHeld (noData ∷ record { length = 3; bytes = 6 ∷ 0 ∷ 2 ∷ 0 ∷ 0 ∷ 0 ∷ 0 ∷ 0 ∷ [] } ∷ noData ∷ noData ∷ [])) ≡ false)
+    × (waiting (write (transmissionType 1) 1 ∷ [])
+    (withHeld (noData ∷ record { length = 3; bytes = 6 ∷ 0 ∷ 3 ∷ 0 ∷ 0 ∷ 0 ∷ 0 ∷ 0 ∷ [] } ∷ noData ∷ noData ∷ [])) ≡ true)
     × (map (λ k. waiting (write heartbeatTime 3 ∷ []) (withHeartbeat k)) (2 ∷ 3 ∷ []) ≡ true ∷ false ∷ [])
 unfolding waiting one open-edges
 waits = (refl, refl, refl, refl, refl, refl, refl)

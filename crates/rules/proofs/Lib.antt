@@ -3,3 +3,4 @@ pub mod Examples
 pub mod Edges
 pub mod PowerUp
 pub mod AtEnd
+pub mod Encoded

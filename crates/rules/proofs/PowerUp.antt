@@ -15,7 +15,8 @@ use Rattle.rules_dictionary.specs.Values.{stored, packedDefaults}
 use Rattle.rules_services.specs.Nmt.{powerUp, freshState, bootUp}
 use Rattle.rules_services.specs.Effects.{sends, becomes}
 use Rattle.rules.specs.Outcome.{End, ended, driveAtEnd, settled}
-use Rattle.rules.specs.Sound.{sound, dictionarySound, constantsAsListed, valuesInRange, mappingsLegal, identifiersLegal, statusAsMade, modeAsMade, plansFresh, readyFresh, driveSound, heartbeatSound, waitingSound}
+use Rattle.rules.specs.Sound.{sound, dictionarySound, constantsAsListed, valuesInRange, mappingsLegal, identifiersLegal, statusAsMade}
+use Rattle.rules.specs.Sound.{modeAsMade, plansFresh, readyFresh, driveSound, heartbeatSound, waitingSound}
 use Rattle.rules.specs.Scripts.{open-rules}
 
 -- the dictionary that power-up leaves

@@ -73,5 +73,7 @@ fromNothing ls = givenBy answer ls
 
 -- opens every definition of the rules, where a proof computes
 unfoldable pub open-rules : Unit {0}
-unfolding open-numbers open-table open-values open-aborts open-legal open-plans open-drive-states open-set-points open-status-word open-effects open-emergency open-written open-sdo open-pdo-traffic open-nmt open-events open-outcome open-sound open-calls matches runs nothing givenBy fromNothing
+unfolding open-numbers open-table open-values open-aborts open-legal open-plans open-drive-states open-set-points open-status-word
+    open-effects open-emergency open-written open-sdo open-pdo-traffic open-nmt open-events
+    open-outcome open-sound open-calls matches runs nothing givenBy fromNothing
 open-rules = tt

@@ -12,10 +12,12 @@ use Rattle.rules_dictionary.specs.declared.PdoData.{PdoData}
 use Rattle.state.specs.declared.State.{State}
 use Rattle.rules_dictionary.specs.Numbers.{all, bit}
 use Rattle.rules_dictionary.specs.TheNode.{isNodeId}
-use Rattle.rules_dictionary.specs.Table.{Row, table, isConstant, pdos, receivePdos, transmitPdos, mapCount, statusWord, mode, modeDisplay, controlWord, heartbeatTime}
+use Rattle.rules_dictionary.specs.Table.{Row, table, isConstant, pdos, receivePdos, transmitPdos, mapCount, statusWord, mode, modeDisplay}
+use Rattle.rules_dictionary.specs.Table.{controlWord, heartbeatTime}
 use Rattle.rules_dictionary.specs.Values.{read, defaultOf, unpacked}
 use Rattle.rules_dictionary.specs.Aborts.{isGood}
-use Rattle.rules_dictionary.specs.Legal.{isBelow, isAbove, badChoice, entryVerdict, countVerdict, mapWords, identifiers, badIdentifier, modeNumber, isSynchronous, isCyclic}
+use Rattle.rules_dictionary.specs.Legal.{isBelow, isAbove, badChoice, entryVerdict, countVerdict, mapWords, identifiers, badIdentifier, modeNumber}
+use Rattle.rules_dictionary.specs.Legal.{isSynchronous, isCyclic}
 use Rattle.rules_dictionary.specs.Plans.{plansOf, readyOf, mapped, pdoData}
 use Rattle.drive.specs.DriveStates.{isFaulty}
 use Rattle.drive.specs.SetPoints.{positions, isEmpty, newSetPointBit}
@@ -136,5 +138,7 @@ sound s d =
 
 -- opens every definition of this module, where a proof computes
 unfoldable pub open-sound : Unit {0}
-unfolding constantsAsListed inRange valuesInRange mappingLegal mappingsLegal identifiersLegal statusAsMade modeAsMade plansFresh readyFresh storeInPlace takenInPlace causeInPlace countSound heartbeatSound dueSound paceSound heldSound dictionarySound driveSound waitingSound sound
+unfolding constantsAsListed inRange valuesInRange mappingLegal mappingsLegal identifiersLegal statusAsMade modeAsMade plansFresh readyFresh
+    storeInPlace takenInPlace causeInPlace countSound heartbeatSound dueSound paceSound heldSound
+    dictionarySound driveSound waitingSound sound
 open-sound = tt

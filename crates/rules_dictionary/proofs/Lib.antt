@@ -1,7 +1,9 @@
 pub mod Tests
+pub mod Padded
 pub mod Packing
 pub mod Defaults
 pub mod Rows
 pub mod Members
 pub mod LookUp
+pub mod Plans
 pub mod Edges

@@ -6,7 +6,7 @@ use mathlib.Core.Bool.{Bool, true, false, not, _&&_, _||_, false≢true}
 use mathlib.Core.Logic.{_⊎_, inl, inr}
 use mathlib.Core.List.{List, [], _∷_}
 use native.Mathlib.Omega.{arith}
-use borrow.Author.Tests.{ltb-true, eq-eqb, le-leb}
+use borrow.Author.Tests.{ltb-true, le-leb}
 use lib.Dec.{leb, ltb}
 use lib.ListN.{length, getD}
 use Rattle.rules_dictionary.specs.Numbers.{all}
@@ -15,7 +15,7 @@ use Rattle.rules_dictionary.specs.Table.{entries, pdos, communicationCou
 use Rattle.rules_dictionary.specs.Table.{mappingPlace, wordsPlace, communicationLength, mappingLength, recordPlace, open-table}
 use Rattle.rules_dictionary.specs.Members.{In, here, there}
 use Rattle.rules_dictionary.proofs.Members.{map-in}
-use Rattle.rules_dictionary.proofs.Tests.{and-left, and-right, or-left, or-right, allBelow, below, all-in, getD-in}
+use Rattle.rules_dictionary.proofs.Tests.{and-left, and-right, and-both, or-left, or-right, eqb-self, allBelow, below, all-in, getD-in}
 
 -- ---- by rank
 
@@ -41,8 +41,8 @@ differ-test : allDiffer table ≡ true
 unfolding table
 differ-test = refl
 
-same-self : (x : Row) → same x x ≡ true
-same-self x = rw (eq-eqb (x .index) (x .index) refl, eq-eqb (x .subindex) (x .subindex) refl) refl
+pub same-self : (x : Row) → same x x ≡ true
+same-self x = and-both _ _ (eqb-self (x .index)) (eqb-self (x .subindex))
 
 -- the first stands in front
 first-before : (x : Row) (xs : List Row) → bytesBefore x (x ∷ xs) ≡ 0
@@ -125,7 +125,6 @@ pub last-end : placeOf (rowAt (entries - 1)) + sizeOf (rowAt (entries - 1)) ≡ 
 unfolding placeOf bytesBefore table entries dictionaryLength
 last-end = refl
 
--- a place is a number of 16 bits
 -- a place is a number of 16 bits, and none of the greatest two
 pub short : dictionaryLength < 2 ^ 16 - 2
 unfolding dictionaryLength table

@@ -2,18 +2,18 @@
 -- Assumes nothing.
 use Prim.Native.Nat.{ℕ, zero, suc, _+_, _*_, _-_, _/_, _%_, _^_, _<_, _≤_}
 use native.Mathlib.Omega.{arith}
-use native.Mathlib.Nat.{pow-suc}
+use native.Mathlib.Nat.{pow-suc, pow-le-pow-right}
 use mathlib.Core.Path.{_≡_, refl, _∙_, ap, subst}
 use mathlib.Core.Bool.{Bool, true, false, _||_}
 use mathlib.Core.List.{List, [], _∷_, _++_, append-assoc}
 use borrow.Author.Tests.{leb-true, lt-ltb, ltb-true}
 use lib.Dec.{leb}
-use lib.ListN.{length, take, drop, set, length-drop}
+use lib.ListN.{length, take, drop, set, length-drop, length-take}
 use lib.Seq.{sets, length-sets, sets-eq, drop-set-lt, drop-set-add, take-set-le, take-at, drop-at, length-take-le}
 use Rattle.rules_dictionary.specs.Numbers.{value, bytes, part, all, isByte, areBytes}
 use Rattle.rules_dictionary.specs.Table.{Row, sizeOf, placeOf}
 use Rattle.rules_dictionary.specs.Values.{Write, field, read, store, stored}
-use Rattle.rules_dictionary.proofs.Tests.{and-left, and-right, and-both}
+use Rattle.rules_dictionary.proofs.Tests.{and-left, and-right, and-both, all-leading}
 use Rattle.rules_dictionary.proofs.Packing.{apart}
 use Rattle.rules_dictionary.proofs.Defaults.{length-bytes}
 
@@ -64,9 +64,7 @@ all-sets (v ∷ vs) d i h p =
     all-sets vs (set d i v) (suc i) (all-set d i v h (and-left (isByte v) (areBytes vs) p)) (and-right (isByte v) (areBytes vs) p)
 
 pub all-take : (n : ℕ) (d : List ℕ) → areBytes d ≡ true → areBytes (take n d) ≡ true
-all-take zero d h = refl
-all-take (suc n) [] h = refl
-all-take (suc n) (b ∷ bs) h = and-both _ _ (and-left (isByte b) (areBytes bs) h) (all-take n bs (and-right (isByte b) (areBytes bs) h))
+all-take n d h = all-leading isByte n d h
 
 pub all-drop : (n : ℕ) (d : List ℕ) → areBytes d ≡ true → areBytes (drop n d) ≡ true
 all-drop zero d h = h
@@ -75,6 +73,12 @@ all-drop (suc n) (b ∷ bs) h = all-drop n bs (and-right (isByte b) (areBytes bs
 
 pub part-bytes : (place size : ℕ) (d : List ℕ) → areBytes d ≡ true → areBytes (part place size d) ≡ true
 part-bytes place size d h = all-take size (drop place d) (all-drop place d h)
+
+-- so many leading bytes hold what fits them
+pub value-take : (k : ℕ) (bs : List ℕ) → areBytes bs ≡ true → value (take k bs) < 256 ^ k
+value-take k bs h =
+    let short : length (take k bs) ≤ k = rw length-take (omega arith) in
+    omega (arith, value-fits (take k bs) (all-take k bs h), pow-le-pow-right {n = 256} (omega arith) short)
 
 -- ---- a part that a store does not reach
 

@@ -1,4 +1,4 @@
--- From a test that computes to the fact that it tests: conjunctions, lists, numbers below a bound.
+-- From a test that computes to the fact that it tests: conjunctions, verdicts, lists, numbers below a bound.
 -- Assumes nothing.
 use Prim.Native.Nat.{ℕ, zero, suc, _<_, _≤_}
 use native.Mathlib.Decide.{ℕ-discrete}
@@ -6,9 +6,10 @@ use native.Mathlib.Omega.{arith}
 use mathlib.Core.Path.{_≡_, refl, _∙_, ap}
 use mathlib.Core.Bool.{Bool, true, false, _&&_, _||_, false≢true}
 use mathlib.Core.List.{List, [], _∷_}
-use borrow.Author.Tests.{leb-true}
-use lib.Dec.{leb}
-use lib.ListN.{length, getD}
+use borrow.Author.Tests.{leb-true, eq-eqb}
+use lib.Dec.{eqb, leb}
+use lib.ListN.{length, getD, take}
+use Rattle.rules_dictionary.specs.Aborts.{Verdict, good, bad, isGood}
 use Rattle.rules_dictionary.specs.Members.{In, here, there, Each}
 use Rattle.rules_dictionary.specs.Numbers.{all}
 use Rattle.rules_dictionary.specs.TheNode.{firstNode, lastNode, isNodeId}
@@ -37,6 +38,15 @@ pub or-none : (a b : Bool) → b ≡ false → (a || b) ≡ a
 or-none true b h = refl
 or-none false b h = h
 
+-- ---- numbers and verdicts
+
+pub eqb-self : (n : ℕ) → eqb n n ≡ true
+eqb-self n = eq-eqb n n refl
+
+pub is-good : (v : Verdict) → isGood v ≡ true → v ≡ good
+is-good good h = refl
+is-good (bad a) h = absurd (false≢true h)
+
 -- ---- lists
 
 module _ {ℓ} {A : Type ℓ} (f : A → Bool) where
@@ -44,11 +54,23 @@ module _ {ℓ} {A : Type ℓ} (f : A → Bool) where
   all-in (here {xs = ys}) h = and-left _ (all f ys) h
   all-in (there {y = y} {xs = ys} i) h = all-in i (and-right (f y) (all f ys) h)
 
+  -- the leading ones of those that all pass
+  pub all-leading : (n : ℕ) (xs : List A) → all f xs ≡ true → all f (take n xs) ≡ true
+  all-leading zero xs h = refl
+  all-leading (suc n) [] h = refl
+  all-leading (suc n) (x ∷ xs) h = and-both _ _ (and-left (f x) (all f xs) h) (all-leading n xs (and-right (f x) (all f xs) h))
+
 -- the element of a number stands in the list
 pub getD-in {ℓ} : {A : Type ℓ} (xs : List A) (i : ℕ) (e : A) → i < length xs → In (getD xs i e) xs
 getD-in [] i e h = absurd (omega arith)
 getD-in (x ∷ xs) zero e h = here
 getD-in (x ∷ xs) (suc i) e h = there (getD-in xs i e (omega arith))
+
+-- .. whatever would stand for none
+pub getD-any {ℓ} : {A : Type ℓ} (xs : List A) (i : ℕ) (d e : A) → i < length xs → getD xs i d ≡ getD xs i e
+getD-any [] i d e h = absurd (omega arith)
+getD-any (x ∷ xs) zero d e h = refl
+getD-any (x ∷ xs) (suc i) d e h = getD-any xs i d e (omega arith)
 
 abbrev Some {ℓ} : {A : Type ℓ} → List A → Type 0
 Some [] = ⊥

@@ -1,11 +1,27 @@
 // Document 01, 'The node' and 'The dictionary', and what of 'SDO' and 'PDO traffic' follows from the dictionary alone: definitions and
 // their laws, in specs/ and proofs/. Here stand the types that they are about.
 
+ghost use mathlib.Core.Path.{_≡_};
+ghost use Rattle.rules_dictionary.specs.Legal.{modeNumber};
+
 // The modes of operation: 0, 1 and 3.
 pub enum Mode {
     NoMode,
     ProfilePosition,
     ProfileVelocity,
+}
+
+impl Mode {
+    // Its number in 6060h and 6061h.
+    pub fn number(self) -> u8
+        ensures { λ r. ⌜ r ≡ modeNumber self ⌝ }
+    {
+        match self {
+            Mode::NoMode => 0,
+            Mode::ProfilePosition => 1,
+            Mode::ProfileVelocity => 3,
+        }
+    }
 }
 
 // Who writes a row's value: nobody, the node, or an SDO or PDO too.

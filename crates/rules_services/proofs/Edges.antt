@@ -9,14 +9,17 @@ use lib.ListN.{length}
 use Rattle.state.specs.declared.NmtState.{NmtState}
 use Rattle.state.specs.declared.NmtState.the-variants.{PreOperational, Operational, Stopped}
 use Rattle.drive.specs.declared.DriveState.{DriveState}
-use Rattle.drive.specs.declared.DriveState.the-variants.{NotReady, SwitchOnDisabled, ReadyToSwitchOn, OperationEnabled, FaultReactionActive, Fault as InFault}
+use Rattle.drive.specs.declared.DriveState.the-variants.{NotReady, SwitchOnDisabled, ReadyToSwitchOn, OperationEnabled, FaultReactionActive}
+use Rattle.drive.specs.declared.DriveState.the-variants.{Fault as InFault}
 use Rattle.state.specs.declared.State.{State}
 use Rattle.state.specs.declared.Pace.{Pace}
 use Rattle.state.specs.declared.Occasion.the-variants.{Plain, Synced, Ticked}
 use Rattle.rules_dictionary.specs.Numbers.{bytes, value, part, open-numbers}
-use Rattle.rules_dictionary.specs.Table.{table, errorRegister, errorCode, controlWord, heartbeatTime, targetPosition, position, velocity, transmissionType, mapEntry, mapCount, mappingWord, identifier, open-table}
+use Rattle.rules_dictionary.specs.Table.{table, errorRegister, errorCode, controlWord, heartbeatTime, targetPosition, position, velocity}
+use Rattle.rules_dictionary.specs.Table.{transmissionType, mapEntry, mapCount, mappingWord, identifier, open-table}
 use Rattle.rules_dictionary.specs.Values.{write, store, stored, read, open-values, packedDefaults}
-use Rattle.rules_dictionary.specs.Aborts.{abortCode, unknownCommand, noObject, noSubindex, noWriting, tooLong, tooShort, wrongTime, belowRange, aboveRange, badValue, open-aborts}
+use Rattle.rules_dictionary.specs.Aborts.{abortCode, unknownCommand, noObject, noSubindex, noWriting, tooLong, tooShort, wrongTime, belowRange}
+use Rattle.rules_dictionary.specs.Aborts.{aboveRange, badValue, open-aborts}
 use Rattle.rules_dictionary.specs.Legal.{open-legal}
 use Rattle.rules_dictionary.specs.Plans.{open-plans}
 use Rattle.drive.specs.DriveStates.{open-drive-states}
@@ -29,7 +32,8 @@ use Rattle.rules_services.specs.Sdo.{sdo, open-sdo}
 use Rattle.rules_services.specs.PdoTraffic.{received, sync, paced, paceOf, works, noData, open-pdo-traffic}
 use Rattle.rules_services.specs.Nmt.{freshState, nmt, tick, open-nmt}
 use Rattle.rules_services.specs.declared.Told.the-variants.{Happened, Bad}
-use Rattle.rules_services.specs.declared.Event.the-variants.{Fault, Voltage, Started, QuickStopDone, ReactionDone, SetPointReached, CauseGone, Feedback, Tick}
+use Rattle.rules_services.specs.declared.Event.the-variants.{Fault, Voltage, Started, QuickStopDone, ReactionDone, SetPointReached, CauseGone}
+use Rattle.rules_services.specs.declared.Event.the-variants.{Feedback, Tick}
 use Rattle.rules_services.specs.Events.{eventOf, isInPlace, happens, open-events}
 
 -- ---- node 5
@@ -50,7 +54,8 @@ stopped : State
 stopped = node Stopped SwitchOnDisabled
 
 unfoldable open-edges : Unit {0}
-unfolding fresh node preOperational operational stopped packedDefaults open-numbers open-table open-values open-aborts open-legal open-plans open-drive-states open-set-points open-status-word open-effects open-emergency open-written open-sdo open-pdo-traffic open-nmt open-events
+unfolding fresh node preOperational operational stopped packedDefaults open-numbers open-table open-values open-aborts open-legal open-plans
+    open-drive-states open-set-points open-status-word open-effects open-emergency open-written open-sdo open-pdo-traffic open-nmt open-events
 open-edges = tt
 
 -- ---- SDO
@@ -68,7 +73,8 @@ abortOf (f ∷ fs) = abortIn (f .content)
 
 -- "4Fh, 4Bh, 43h for 1, 2, 4 bytes"
 uploads : map (λ rq. sdo rq preOperational fresh .sent)
-    ((0x40 ∷ 0x00 ∷ 0x14 ∷ 0x02 ∷ 0x00 ∷ 0x00 ∷ 0x00 ∷ 0x00 ∷ []) ∷ (0x40 ∷ 0x17 ∷ 0x10 ∷ 0x00 ∷ 0x00 ∷ 0x00 ∷ 0x00 ∷ 0x00 ∷ []) ∷ (0x5F ∷ 0x00 ∷ 0x10 ∷ 0x00 ∷ 0xAA ∷ 0x00 ∷ 0x00 ∷ 0x00 ∷ []) ∷ [])
+    ((0x40 ∷ 0x00 ∷ 0x14 ∷ 0x02 ∷ 0x00 ∷ 0x00 ∷ 0x00 ∷ 0x00 ∷ []) ∷ (0x40 ∷ 0x17 ∷ 0x10 ∷ 0x00 ∷ 0x00 ∷ 0x00 ∷ 0x00 ∷ 0x00 ∷ [])
+    ∷ (0x5F ∷ 0x00 ∷ 0x10 ∷ 0x00 ∷ 0xAA ∷ 0x00 ∷ 0x00 ∷ 0x00 ∷ []) ∷ [])
     ≡ reply (0x4F ∷ 0x00 ∷ 0x14 ∷ 0x02 ∷ 0xFF ∷ 0x00 ∷ 0x00 ∷ 0x00 ∷ []) ∷ reply (0x4B ∷ 0x17 ∷ 0x10 ∷ 0x00 ∷ 0x00 ∷ 0x00 ∷ 0x00 ∷ 0x00 ∷ [])
     ∷ reply (0x43 ∷ 0x00 ∷ 0x10 ∷ 0x00 ∷ 0x92 ∷ 0x01 ∷ 0x02 ∷ 0x00 ∷ []) ∷ []
 unfolding open-edges
@@ -111,7 +117,8 @@ invalid : List ℕ
 invalid = store (identifier 0) 0x80000205 fresh
 
 mapping-times : (download preOperational invalid 0x2F 0x1600 0 0 ≡ 0) × (download stopped invalid 0x2F 0x1600 0 0 ≡ abortCode wrongTime)
-    × (download preOperational invalid 0x23 0x1600 1 0 ≡ abortCode wrongTime) × (download preOperational (store (mapCount 0) 0 invalid) 0x23 0x1600 1 0 ≡ 0)
+    × (download preOperational invalid 0x23 0x1600 1 0 ≡ abortCode wrongTime)
+    × (download preOperational (store (mapCount 0) 0 invalid) 0x23 0x1600 1 0 ≡ 0)
 unfolding invalid download abortOf open-edges
 mapping-times = (refl, refl, refl, refl)
 
@@ -142,7 +149,8 @@ unfolding five open-edges
 too-long = (refl, refl)
 
 -- "any value SDO would refuse drops the whole frame with 8200h, after 8220h if both"
-bad-value : (received 1 (0x06 ∷ 0x00 ∷ 0x02 ∷ []) operational fresh ≡ record { state = operational; writes = []; sent = emcy 0x00 0x82 ∷ []; occasion = Plain })
+bad-value : (received 1 (0x06 ∷ 0x00 ∷ 0x02 ∷ []) operational fresh
+    ≡ record { state = operational; writes = []; sent = emcy 0x00 0x82 ∷ []; occasion = Plain })
     × (received 1 (0x06 ∷ 0x00 ∷ 0x02 ∷ 0x00 ∷ []) operational fresh .sent ≡ emcy 0x20 0x82 ∷ emcy 0x00 0x82 ∷ [])
 unfolding open-edges
 bad-value = (refl, refl)
@@ -157,7 +165,8 @@ heldWord w = withHeld (record { length = 2; bytes = w ∷ 0 ∷ 0 ∷ 0 ∷ 0 �
 held-until-sync : (received 0 (0x06 ∷ 0x00 ∷ []) operational cyclicReceive ≡ becomes (heldWord 0x06))
     × (received 0 (0x06 ∷ 0x00 ∷ 0x77 ∷ []) operational cyclicReceive .state ≡ heldWord 0x06)
     × (received 0 (0x07 ∷ 0x00 ∷ []) (heldWord 0x06) cyclicReceive ≡ becomes (heldWord 0x07))
-    × (sync [] (heldWord 0x06) cyclicReceive ≡ record { state = node Operational ReadyToSwitchOn; writes = write controlWord 0x06 ∷ []; sent = []; occasion = Synced })
+    × (sync [] (heldWord 0x06) cyclicReceive
+    ≡ record { state = node Operational ReadyToSwitchOn; writes = write controlWord 0x06 ∷ []; sent = []; occasion = Synced })
 unfolding cyclicReceive heldWord open-edges
 held-until-sync = (refl, refl, refl, refl)
 
@@ -177,7 +186,8 @@ unfolding open-edges
 sync-lengths = (refl, refl, refl, refl)
 
 -- "A PDO works only in Operational, valid, with something mapped."
-works-only : (works Operational fresh 0 ≡ true) × (works PreOperational fresh 0 ≡ false) × (works Operational (store (identifier 0) 0x80000205 fresh) 0 ≡ false)
+works-only : (works Operational fresh 0 ≡ true) × (works PreOperational fresh 0 ≡ false)
+    × (works Operational (store (identifier 0) 0x80000205 fresh) 0 ≡ false)
     × (works Operational (store (mapCount 0) 0 fresh) 0 ≡ false)
 unfolding open-edges
 works-only = (refl, refl, refl, refl)
@@ -187,13 +197,15 @@ kept count due = record { count = count; due = due }
 
 -- type 3: two SYNCs counted, the third sends; a change sends nothing
 third-sync-sends : (paceOf 3 Synced false (kept 0 false) ≡ paced false 1 false) × (paceOf 3 Synced true (kept 1 false) ≡ paced false 2 false)
-    × (paceOf 3 Synced false (kept 2 false) ≡ paced true 0 false) × (paceOf 3 Plain true (kept 2 false) ≡ paced false 2 false) × (paceOf 1 Synced false (kept 0 false) ≡ paced true 0 false)
+    × (paceOf 3 Synced false (kept 2 false) ≡ paced true 0 false) × (paceOf 3 Plain true (kept 2 false) ≡ paced false 2 false)
+    × (paceOf 1 Synced false (kept 0 false) ≡ paced true 0 false)
 unfolding open-edges
 third-sync-sends = (refl, refl, refl, refl, refl)
 
 -- type 0: due from a change or from entering on, sent at SYNC alone, once
 due-until-sync : (paceOf 0 Plain true (kept 0 false) ≡ paced false 0 true) × (paceOf 0 Plain false (kept 0 true) ≡ paced false 0 true)
-    × (paceOf 0 Synced false (kept 0 true) ≡ paced true 0 false) × (paceOf 0 Synced true (kept 0 false) ≡ paced true 0 false) × (paceOf 0 Synced false (kept 0 false) ≡ paced false 0 false)
+    × (paceOf 0 Synced false (kept 0 true) ≡ paced true 0 false) × (paceOf 0 Synced true (kept 0 false) ≡ paced true 0 false)
+    × (paceOf 0 Synced false (kept 0 false) ≡ paced false 0 false)
 unfolding open-edges
 due-until-sync = (refl, refl, refl, refl, refl)
 
@@ -221,8 +233,10 @@ unfolding heldWord open-edges
 nmt-leaves = (refl, refl)
 
 -- "02h and 82h also act as Disable voltage": not 80h; the fault states do not move
-nmt-disables : (nmt (to5 0x02) (node Operational OperationEnabled) ≡ becomes stopped) × (nmt (to5 0x82) (node Operational OperationEnabled) .state ≡ preOperational)
-    × (nmt (to5 0x80) (node Operational OperationEnabled) ≡ becomes (node PreOperational OperationEnabled)) × (nmt (to5 0x02) (node Operational InFault) ≡ becomes (node Stopped InFault))
+nmt-disables : (nmt (to5 0x02) (node Operational OperationEnabled) ≡ becomes stopped)
+    × (nmt (to5 0x82) (node Operational OperationEnabled) .state ≡ preOperational)
+    × (nmt (to5 0x80) (node Operational OperationEnabled) ≡ becomes (node PreOperational OperationEnabled))
+    × (nmt (to5 0x02) (node Operational InFault) ≡ becomes (node Stopped InFault))
 unfolding open-edges
 nmt-disables = (refl, refl, refl, refl)
 
@@ -231,7 +245,8 @@ spoilt : List ℕ
 spoilt = stored (write errorRegister 0x81 ∷ write heartbeatTime 9 ∷ write errorCode 0x2310 ∷ write (mapCount 7) 1 ∷ []) fresh
 
 reset-writes : (length (nmt (to5 0x82) operational .writes) ≡ 102) × (nmt (to5 0x82) operational .sent ≡ frame 0x705 (0x00 ∷ []) ∷ [])
-    × (map (read (stored (nmt (to5 0x82) operational .writes) spoilt)) (errorRegister ∷ heartbeatTime ∷ errorCode ∷ mapCount 7 ∷ []) ≡ 0x81 ∷ 0 ∷ 0x2310 ∷ 2 ∷ [])
+    × (map (read (stored (nmt (to5 0x82) operational .writes) spoilt)) (errorRegister ∷ heartbeatTime ∷ errorCode ∷ mapCount 7 ∷ [])
+    ≡ 0x81 ∷ 0 ∷ 0x2310 ∷ 2 ∷ [])
 unfolding spoilt open-edges
 reset-writes = (refl, refl, refl)
 
@@ -249,14 +264,16 @@ heartbeats = (refl, refl, refl, refl, refl, refl)
 -- ---- emergencies and events
 
 -- "none while Stopped"
-emergencies : (emergency 0x8210 operational (store errorRegister 0x03 fresh) ≡ frame 0x085 (0x10 ∷ 0x82 ∷ 0x03 ∷ 0x00 ∷ 0x00 ∷ 0x00 ∷ 0x00 ∷ 0x00 ∷ []) ∷ [])
+emergencies : (emergency 0x8210 operational (store errorRegister 0x03 fresh)
+    ≡ frame 0x085 (0x10 ∷ 0x82 ∷ 0x03 ∷ 0x00 ∷ 0x00 ∷ 0x00 ∷ 0x00 ∷ 0x00 ∷ []) ∷ [])
     × (emergency 0x8210 stopped fresh ≡ [])
 unfolding open-edges
 emergencies = (refl, refl)
 
 -- "event number unknown, wrong argument size, voltage flag not 0/1, fault code 0"
 events-told : (map (λ k. eventOf k []) (0 ∷ 10 ∷ 3 ∷ []) ≡ Bad ∷ Bad ∷ Bad ∷ [])
-    × (eventOf 1 (0 ∷ []) ≡ Bad) × (eventOf 9 (0 ∷ []) ≡ Happened (Voltage false)) × (eventOf 9 (1 ∷ []) ≡ Happened (Voltage true)) × (eventOf 9 (2 ∷ []) ≡ Bad)
+    × (eventOf 1 (0 ∷ []) ≡ Bad) × (eventOf 9 (0 ∷ []) ≡ Happened (Voltage false)) × (eventOf 9 (1 ∷ []) ≡ Happened (Voltage true))
+    × (eventOf 9 (2 ∷ []) ≡ Bad)
     × (eventOf 3 (0 ∷ 0 ∷ 1 ∷ []) ≡ Bad) × (eventOf 3 (0 ∷ 1 ∷ 2 ∷ []) ≡ Happened (Fault 256 2))
 unfolding open-edges
 events-told = (refl, refl, refl, refl, refl, refl, refl)
@@ -296,12 +313,14 @@ unfolding open-edges
 reset-by-control = refl
 
 -- event 5 writes 6064h and 606Ch, and no more
-feedback-writes : happens (Feedback 7 9) operational fresh ≡ record { state = operational; writes = write position 7 ∷ write velocity 9 ∷ []; sent = []; occasion = Plain }
+feedback-writes : happens (Feedback 7 9) operational fresh
+    ≡ record { state = operational; writes = write position 7 ∷ write velocity 9 ∷ []; sent = []; occasion = Plain }
 unfolding open-edges
 feedback-writes = refl
 
 -- what a call is to its own end: a SYNC that is served, a tick, any other
-occasions : (sync [] operational fresh .occasion ≡ Synced) × (sync [] preOperational fresh .occasion ≡ Plain) × (happens Tick operational fresh .occasion ≡ Ticked)
+occasions : (sync [] operational fresh .occasion ≡ Synced) × (sync [] preOperational fresh .occasion ≡ Plain)
+    × (happens Tick operational fresh .occasion ≡ Ticked)
     × (happens CauseGone operational fresh .occasion ≡ Plain)
 unfolding open-edges
 occasions = (refl, refl, refl, refl)

@@ -10,7 +10,8 @@ use Rattle.drive.specs.declared.DriveState.the-variants.{SwitchOnDisabled, Faul
 use Rattle.state.specs.declared.State.{State}
 use Rattle.state.specs.declared.Occasion.the-variants.{Ticked}
 use Rattle.rules_services.specs.declared.Event.{Event}
-use Rattle.rules_services.specs.declared.Event.the-variants.{Started, QuickStopDone, Fault, ReactionDone, Feedback, SetPointReached, Tick, CauseGone, Voltage}
+use Rattle.rules_services.specs.declared.Event.the-variants.{Started, QuickStopDone, Fault, ReactionDone, Feedback, SetPointReached, Tick}
+use Rattle.rules_services.specs.declared.Event.the-variants.{CauseGone, Voltage}
 use Rattle.rules_services.specs.declared.Told.{Told}
 use Rattle.rules_services.specs.declared.Told.the-variants.{Happened, Bad}
 use Rattle.rules_dictionary.specs.Numbers.{value, part}

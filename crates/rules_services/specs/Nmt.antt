@@ -2,7 +2,7 @@
 -- Assumes nothing.
 use Prim.Native.Nat.{ℕ, suc, _+_}
 use mathlib.Core.List.{List, [], _∷_}
-use mathlib.Core.Bool.{Bool, false, cond, not, _&&_, _||_}
+use mathlib.Core.Bool.{false, cond, _&&_, _||_}
 use lib.Dec.{eqb, ltb}
 use lib.ListN.{getD, length}
 use Rattle.state.specs.declared.NmtState.{NmtState}
@@ -12,8 +12,8 @@ use Rattle.rules_dictionary.specs.declared.Mode.the-variants.{NoMode}
 use Rattle.drive.specs.declared.DriveState.the-variants.{NotReady}
 use Rattle.drive.specs.declared.Store.the-variants.{Empty}
 use Rattle.state.specs.declared.State.{State}
-use Rattle.rules_dictionary.specs.Numbers.{between, filter}
-use Rattle.rules_dictionary.specs.Table.{Row, table, same, errorRegister, heartbeatTime, isReset}
+use Rattle.rules_dictionary.specs.Numbers.{filter}
+use Rattle.rules_dictionary.specs.Table.{table, heartbeatTime, isReset}
 use Rattle.rules_dictionary.specs.Values.{read, toDefaults}
 use Rattle.drive.specs.declared.Command.the-variants.{DisableVoltage}
 use Rattle.drive.specs.DriveStates.{next}

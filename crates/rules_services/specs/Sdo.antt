@@ -10,9 +10,11 @@ use Rattle.state.specs.declared.State.{State}
 use Rattle.rules_dictionary.specs.Numbers.{bit, bits, bytes, value, part}
 use Rattle.rules_dictionary.specs.declared.Role.{Role}
 use Rattle.rules_dictionary.specs.declared.Role.the-variants.{Plain, ModeOfOperation, PdoIdentifier, PdoType, MappingCount, MappingEntry}
-use Rattle.rules_dictionary.specs.Table.{Row, ValueType, u8, u16, u32, i8, i32, isWritable, sizeOf, identifier, mapCount, Found, found, noObject as missing, noSubindex as missingSubindex, lookup}
+use Rattle.rules_dictionary.specs.Table.{Row, ValueType, u8, u16, u32, i8, i32, isWritable, sizeOf, identifier, mapCount, Found, found}
+use Rattle.rules_dictionary.specs.Table.{noObject as missing, noSubindex as missingSubindex, lookup}
 use Rattle.rules_dictionary.specs.Values.{read, write}
-use Rattle.rules_dictionary.specs.Aborts.{Abort, abortCode, Verdict, good, bad, test, firstOf, unknownCommand, noObject, noSubindex, noWriting, tooLong, tooShort, wrongTime}
+use Rattle.rules_dictionary.specs.Aborts.{Abort, abortCode, Verdict, good, bad, test, firstOf, unknownCommand, noObject, noSubindex, noWriting}
+use Rattle.rules_dictionary.specs.Aborts.{tooLong, tooShort, wrongTime}
 use Rattle.rules_dictionary.specs.Legal.{valueVerdict, isValid}
 use Rattle.state.specs.NmtStates.{isPreOperational}
 use Rattle.rules_services.specs.declared.SdoCommand.{SdoCommand}

@@ -21,7 +21,6 @@ use Rattle.dictionary.specs.Entries.{entryOf}
 use Rattle.output.specs.Laying.{IsData, frameOf}
 use Rattle.output.proofs.Frames.{is-data, frame-of-data}
 use Rattle.output.specs.declared.Parts.{Parts}
-use Rattle.output.specs.Leaves.{withParts}
 use Rattle.output.proofs.Left.{calm-said}
 use Rattle.sdo.specs.Requests.{replyBytes, replyOf, uploadedBy}
 use Rattle.sdo.specs.Serving.{Says}
@@ -73,7 +72,7 @@ uploaded-by e x is = ap (λ (y : Entry). uploadedBy (y .size)) is ∙ go (x .typ
 pub replied : (c v : ℕ) (rq : List ℕ) (p : Parts) (o o′ : List ℕ) → o′ ≡ sentInto o (replyOf c v rq (p .node .id)) →
     Says c v rq p o (record { parts = p; frames = 1; touched = false; remapped = false; occasion = Plain; quiet = true }) o′
 unfolding reply stored
-replied c v rq p o o′ h d s = (
-  record { parts = refl; frames = refl; touched = refl; remapped = refl; occasion = refl; dictionary = refl; output = h },
-  λ q. calm-said (withParts p s) (reply c rq (withParts p s) (bytes dataSize v)),
+replied c v rq p o o′ h d s e = (
+  record { parts = e; frames = refl; touched = refl; remapped = refl; occasion = refl; dictionary = refl; output = rw e at h },
+  λ q. calm-said s (reply c rq s (bytes dataSize v)),
 )

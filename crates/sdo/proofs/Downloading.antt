@@ -17,7 +17,7 @@ use Rattle.rules_dictionary.specs.Values.{write, read, store, stored}
 use Rattle.rules_dictionary.specs.Legal.{suits, valueVerdict}
 use Rattle.rules_dictionary.specs.Members.{In}
 use Rattle.rules_dictionary.specs.Aborts.{Test, Verdict, good, bad, test, firstOf, noWriting}
-use Rattle.rules_dictionary.proofs.Tests.{all-in}
+use Rattle.rules_dictionary.proofs.Tests.{is-good, all-in}
 use Rattle.rules_services.specs.Effects.{Effect, Frame, becomes, sends, writes, withDrive, withHeartbeat}
 use Rattle.rules_services.specs.Sdo as sdo
 use Rattle.rules_services.specs.Written.{wrote, applied, countRestarted, faultReset}
@@ -31,15 +31,15 @@ use Rattle.output.specs.Laying.{emitted}
 use Rattle.output.proofs.Frames.{emitted-then, lent-back}
 use Rattle.output.specs.declared.Parts.{Parts}
 use Rattle.output.specs.declared.Done.{Done}
-use Rattle.output.specs.Leaves.{bare, withParts, isMapping, Leaves}
+use Rattle.output.specs.Leaves.{partsOf, bare, isMapping, Leaves, LeavesBy}
 use Rattle.output.proofs.Left.{left-alike, loud}
 use Rattle.emergency.specs.Acts.{acts, controlActs, modeActs}
 use Rattle.emergency.proofs.Written.{stored-acted, acts-alike}
 use Rattle.sdo.specs.declared.Offer.{Offer}
 use Rattle.sdo.specs.Verdicts.{verdictCode, roleVerdict, valueVerdictOf}
 use Rattle.sdo.specs.Requests.{objectAsked, replyOf, offeredBy, offerVerdictOf}
-use Rattle.sdo.specs.Serving.{said, Says, Serves, Applies, restartedIf}
-use Rattle.sdo.proofs.Verdicts.{good-code, is-good}
+use Rattle.sdo.specs.Serving.{said, Says, Applies, restartedIf}
+use Rattle.sdo.proofs.Verdicts.{good-code}
 
 -- ---- the verdict
 
@@ -67,15 +67,15 @@ module _ (rq : List ℕ) (p : Parts) (d : List ℕ) {e : Entry} (st : Stands (sd
   abbrev verdict : Verdict
   verdict = offerVerdictOf (p .node .nmt) d e t
 
-  asked-is : (s : State) → s .node .nmt ≡ p .node .nmt → objectAsked true rq s d ≡ sdo.judged verdict rq (sdo.expedited rq (st .row)) s d
+  asked-is : (s : State) → p ≡ partsOf s → objectAsked true rq s d ≡ sdo.judged verdict rq (sdo.expedited rq (st .row)) s d
   unfolding sdo.toObject sdo.toRow
-  asked-is s n =
+  asked-is s q =
+      let n : p .node .nmt ≡ s .node .nmt = ap (λ (y : Parts). y .node .nmt) q in
       let over : Entry → Verdict = λ y. offerVerdictOf (p .node .nmt) d y (offeredBy rq (y .size)) in
-      rw (st .finds, n, ← offer-of-row rq (p .node .nmt) d (st .row), ← ap over (st .is-entry), ← offered)
+      rw (st .finds, ← n, ← offer-of-row rq (p .node .nmt) d (st .row), ← ap over (st .is-entry), ← offered)
 
-  pub download-refused : {o o′ : List ℕ} {r : Done} → (code ≡ 0 → ⊥) → Says sdo.aborted code rq p o r o′ → Serves (objectAsked true rq) p d o r d o′
-  download-refused n h s =
-      rw (asked-is (withParts p s) refl, refused verdict rq (sdo.expedited rq (st .row)) (withParts p s) d (λ z. n (is ∙ z)), ← is) (h d s)
+  pub download-refused : {o o′ : List ℕ} {r : Done} → (code ≡ 0 → ⊥) → Says sdo.aborted code rq p o r o′ → LeavesBy p (objectAsked true rq) d o r d o′
+  download-refused n h s q = rw (asked-is s q, refused verdict rq (sdo.expedited rq (st .row)) s d (λ z. n (is ∙ z)), ← is) (h d s q)
 
   module _ (zero : code ≡ 0) where
     fine : verdict ≡ good
@@ -85,11 +85,11 @@ module _ (rq : List ℕ) (p : Parts) (d : List ℕ) {e : Entry} (st : Stands (sd
     unfolding offerVerdictOf
     download-writable = good-writable (isWritable (e .access)) _ _ fine
 
-    pub download-applied : {o d′ o′ : List ℕ} {r : Done} → Applies rq e (t .value) p d o r d′ o′ → Serves (objectAsked true rq) p d o r d′ o′
+    pub download-applied : {o d′ o′ : List ℕ} {r : Done} → Applies rq e (t .value) p d o r d′ o′ → LeavesBy p (objectAsked true rq) d o r d′ o′
     unfolding sdo.judged sdo.askedValue
-    download-applied h s =
+    download-applied h s q =
         let v = ap (λ (u : Offer). u .value) offered ∙ ap (λ (y : Entry). value (part sdo.dataPlace (y .size) rq)) (st .is-entry) in
-        rw (asked-is (withParts p s) refl, fine, ← v) (h st s)
+        rw (asked-is s q, fine, ← v) (h st s q)
 
 -- ---- a value stored and acted on
 
@@ -149,32 +149,26 @@ behindReply m r =
     record { parts = r .parts; frames = r .frames + 1; touched = r .touched; remapped = m || r .remapped; occasion = r .occasion; quiet = false }
 
 -- the count restarted
-restarts : (b : Bool) (p : Parts) (s : State) → cond b (withHeartbeat 0 (withParts p s)) (withParts p s) ≡ withParts (restartedIf b p) s
-restarts true p s = refl
-restarts false p s = refl
+restarts : (b : Bool) (s : State) → restartedIf b (partsOf s) ≡ partsOf (cond b (withHeartbeat 0 s) s)
+restarts true s = refl
+restarts false s = refl
 
 module _ (rq : List ℕ) (p : Parts) (d o : List ℕ) {e : Entry} (st : Stands (sdo.askedIndex rq) (sdo.askedSubindex rq) e) (v : ℕ)
     (may : isWritable (e .access) ≡ true) where
   x : Row
   x = st .row
 
-  -- what follows from the value, in a state of which the count is restarted
+  -- what follows from the value, the count restarted where it is of 1017h
   abbrev acting : State → Effect
   acting s =
       acts (read d controlWord) (eqb (placeOf x) (placeOf mode)) (eqb (placeOf x) (placeOf controlWord))
-      (withParts (restartedIf (eqb (placeOf x) (placeOf heartbeatTime)) p) s) (store x v d)
+      (cond (eqb (placeOf x) (placeOf heartbeatTime)) (withHeartbeat 0 s) s) (store x v d)
 
-  is-applied : (s : State) → applied (write x v ∷ []) (withParts p s) d ≡ writes (write x v ∷ []) (acting s)
+  is-applied : (s : State) → applied (write x v ∷ []) s d ≡ writes (write x v ∷ []) (acting s)
   unfolding stored countRestarted x isAt open-table
   is-applied s =
       let i = st .listed in
-      stored-acted (write x v ∷ []) (withParts p s) d
-      ∙ rw (
-        wrote-at mode refl i v,
-        wrote-at controlWord refl i v,
-        wrote-at heartbeatTime refl i v,
-        restarts (eqb (placeOf x) (placeOf heartbeatTime)) p s,
-      )
+      stored-acted (write x v ∷ []) s d ∙ rw (wrote-at mode refl i v, wrote-at controlWord refl i v, wrote-at heartbeatTime refl i v)
 
   -- THE LAW of a good value: behind the reply, in the output from the next frame on, it is acted on
   pub apply-left : {m : Bool} {old : ℕ} {next : Parts} {r : Done} {d₁ o₁ d′ back : List ℕ} → m ≡ isMapping (e .role) →
@@ -182,14 +176,16 @@ module _ (rq : List ℕ) (p : Parts) (d o : List ℕ) {e : Entry} (st : Stands (
       next ≡ restartedIf (eqb (e .place) (placeOf heartbeatTime)) p →
       Leaves (acts old (eqb (e .place) (placeOf mode)) (eqb (e .place) (placeOf controlWord)) (bare next) d₁) d₁
       (take (length o₁ - frameSize) (drop frameSize o₁)) r d′ back →
-      Serves (λ s d. sends (sdo.reply sdo.downloaded rq s (bytes sdo.dataSize 0)) (applied (write (st .row) v ∷ []) s d)) p d o
+      LeavesBy p (λ s d. sends (sdo.reply sdo.downloaded rq s (bytes sdo.dataSize 0)) (applied (write (st .row) v ∷ []) s d)) d o
       (behindReply m r) d′ (take frameSize o₁ ++ (back ++ drop (length o₁ - frameSize) (drop frameSize o₁)))
   unfolding x stored sdo.reply emitted
-  apply-left {m} {old} {next} {r} {d₁} {o₁} {d′} {back} named put told was restarted h s =
+  apply-left {m} {old} {next} {r} {d₁} {o₁} {d′} {back} named put told was restarted h s q =
       let k = length o₁ - frameSize in
       let at : e .place ≡ placeOf x = ap (λ (y : Entry). y .place) (st .is-entry) in
+      let b = eqb (e .place) (placeOf heartbeatTime) in
+      let same = restarted ∙ ap (restartedIf b) q ∙ restarts b s in
       let f : Leaves (acting s) (store x v d) (take k (drop frameSize o₁)) r d′ back =
-      rw (restarted, was, put, st .writes v d, at) at (left-alike (acts-alike old _ _ (withParts next s) d₁) h) in
+      rw (was, put, st .writes v d, at) at (left-alike (acts-alike old _ _ (cond b (withHeartbeat 0 s) s) d₁) (rw same at h)) in
       rw (is-applied s) (
         record {
           parts = f .parts;
@@ -198,8 +194,8 @@ module _ (rq : List ℕ) (p : Parts) (d o : List ℕ) {e : Entry} (st : Stands (
           remapped = rw (named, f .remapped, ← ap (λ (y : Entry). isMapping (y .role)) (st .is-entry)) refl;
           occasion = f .occasion;
           dictionary = f .dictionary;
-          output = lent-back o₁ back (acting s .sent) 1 k (omega arith) (f .output) ∙ ap (emitted 1 (acting s .sent)) told
-              ∙ emitted-then 0 (replyOf sdo.downloaded 0 rq (p .node .id)) (acting s .sent) o (omega arith);
+          output = lent-back o₁ back (acting s .sent) 1 k (omega arith) (f .output) ∙ ap (emitted 1 (acting s .sent)) (rw q at told)
+              ∙ emitted-then 0 (replyOf sdo.downloaded 0 rq (s .node .id)) (acting s .sent) o (omega arith);
         },
         loud _ _ (behindReply m r) refl,
       )

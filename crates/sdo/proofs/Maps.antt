@@ -16,13 +16,13 @@ use Rattle.rules_dictionary.specs.Table.{Direction, directionOf, eachWay, mostM
 use Rattle.rules_dictionary.specs.Table.{wordLength, Found, found, noObject, noSubindex, lookup, sizeOf}
 use Rattle.rules_dictionary.specs.Aborts.{good, bad, isGood, firstOf, test, notMappable, overLength}
 use Rattle.rules_dictionary.specs.Legal.{suits, targetVerdict, entryVerdict, countVerdict, mostBits}
+use Rattle.dictionary.specs.Entries.{presenceOf}
 use Rattle.mapping.specs.Words.{wordMove, wayOf, namesOne}
 use Rattle.mapping.specs.Slots.{wordsFrom}
-use Rattle.rules_dictionary.proofs.Tests.{or-right, or-none}
+use Rattle.rules_dictionary.proofs.Tests.{or-right, or-none, is-good}
 use Rattle.mapping.proofs.Naming.{verdict}
 use Rattle.mapping.proofs.Legality.{way-of}
 use Rattle.sdo.specs.Verdicts.{verdictCode, unnamed, wordsVerdict}
-use Rattle.sdo.proofs.Verdicts.{is-good}
 
 -- ---- a mapping word
 
@@ -36,7 +36,7 @@ word-named p w m e h =
     let n : namesOne (directionOf p) w ≡ true = rw (← way-of p, ← e, ne-eqb (m .size) 0 h) refl in
     sym (ap verdictCode (is-good (entryVerdict p w) (verdict p w ∙ or-right (eqb w 0) (namesOne (directionOf p) w) n)))
 
-target-refused : (way : Direction) (w : ℕ) (f : Found) → isGood (targetVerdict way w f) ≡ false → targetVerdict way w f ≡ unnamed f
+target-refused : (way : Direction) (w : ℕ) (f : Found) → isGood (targetVerdict way w f) ≡ false → targetVerdict way w f ≡ unnamed (presenceOf f)
 unfolding targetVerdict firstOf
 target-refused way w (found x) h = go (not (suits way (x .mappable)) || not (eqb (wordLength w) (8 * sizeOf x))) h
   where
@@ -48,14 +48,14 @@ target-refused way w noSubindex h = refl
 
 -- another is refused by what its index and subindex find
 pub word-refused : (p w : ℕ) (m : Move) → m ≡ wordMove (wayOf (leb eachWay p)) w → m .size ≡ 0 → (w ≡ 0 → ⊥) →
-    verdictCode (unnamed (lookup (wordIndex w) (wordSubindex w))) ≡ verdictCode (entryVerdict p w)
+    verdictCode (unnamed (presenceOf (lookup (wordIndex w) (wordSubindex w)))) ≡ verdictCode (entryVerdict p w)
 unfolding entryVerdict
 word-refused p w m e h z =
     let n : namesOne (directionOf p) w ≡ false = rw (← way-of p, ← e, eq-eqb (m .size) 0 h) refl in
     go (eqb w 0) (verdict p w ∙ or-none (eqb w 0) (namesOne (directionOf p) w) n ∙ ne-eqb w 0 z)
   where
     go : (b : Bool) → isGood (elim b [ true ↦ good | false ↦ targetVerdict (directionOf p) w (lookup (wordIndex w) (wordSubindex w)) ]) ≡ false →
-        verdictCode (unnamed (lookup (wordIndex w) (wordSubindex w)))
+        verdictCode (unnamed (presenceOf (lookup (wordIndex w) (wordSubindex w))))
         ≡ verdictCode (elim b [ true ↦ good | false ↦ targetVerdict (directionOf p) w (lookup (wordIndex w) (wordSubindex w)) ])
     go true h = absurd (true≢false h)
     go false h = ap verdictCode (sym (target-refused (directionOf p) w (lookup (wordIndex w) (wordSubindex w)) h))

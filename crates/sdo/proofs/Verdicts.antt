@@ -36,10 +36,6 @@ good-code (bad a) = go a
     go notMappable = refl
     go overLength = refl
 
-pub is-good : (v : Verdict) → isGood v ≡ true → v ≡ good
-is-good good h = refl
-is-good (bad a) h = absurd (false≢true h)
-
 -- the PDO of a row of the table is one of the eight: one computed test
 pdo-below : {x : Row} → In x table → IsPdo (pdoOf (entryOf x .role))
 unfolding table

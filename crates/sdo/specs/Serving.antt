@@ -1,4 +1,4 @@
--- What the SDO server needs, and what it leaves: `Leaves` and `Rests` of `output`, in every state that has the parts that the code is handed.
+-- What the SDO server needs, and what it leaves: `LeavesBy` of `output`, of a reply alone and of a value stored and acted on.
 -- Assumes nothing.
 use Prim.Native.Nat.{ℕ, _≤_}
 use mathlib.Core.Path.{_≡_}
@@ -19,7 +19,7 @@ use Rattle.dictionary.specs.declared.Entry.{Entry}
 use Rattle.dictionary.specs.Entries.{Stands}
 use Rattle.output.specs.declared.Parts.{Parts}
 use Rattle.output.specs.declared.Done.{Done}
-use Rattle.output.specs.Leaves.{withParts, Leaves, Rests}
+use Rattle.output.specs.Leaves.{LeavesBy}
 
 -- what a request needs: a dictionary and an output of their lengths, and a node-ID
 pub record Servable (n : Node) (d o : List ℕ) : Type 0 where
@@ -27,23 +27,18 @@ pub record Servable (n : Node) (d o : List ℕ) : Type 0 where
   pub room : outputLength ≤ length o
   pub id : n .id ≤ lastNode
 
--- what is left of a service, in whatever state has those parts
-abbrev pub Serves : (State → List ℕ → Effect) → Parts → List ℕ → List ℕ → Done → List ℕ → List ℕ → Type 0
-Serves f p d o r d′ o′ =
-    (s : State) → Leaves (f (withParts p s) d) d o r d′ o′ × Rests (withParts p s) (f (withParts p s) d) r
-
 -- a reply with that value, and nothing else
 abbrev pub said : ℕ → ℕ → List ℕ → State → Effect
 said c v rq s = sends (reply c rq s (bytes dataSize v)) (becomes s)
 
 abbrev pub Says : ℕ → ℕ → List ℕ → Parts → List ℕ → Done → List ℕ → Type 0
-Says c v rq p o r o′ = (d : List ℕ) → Serves (λ s d. said c v rq s) p d o r d o′
+Says c v rq p o r o′ = (d : List ℕ) → LeavesBy p (λ s d. said c v rq s) d o r d o′
 
 -- the reply, and then the value stored in the row that the entry is of, and acted on
 abbrev pub Applies : List ℕ → Entry → ℕ → Parts → List ℕ → List ℕ → Done → List ℕ → List ℕ → Type 0
 Applies rq e v p d o r d′ o′ =
     (st : Stands (askedIndex rq) (askedSubindex rq) e) →
-    Serves (λ s d. sends (reply downloaded rq s (bytes dataSize 0)) (applied (write (st .row) v ∷ []) s d)) p d o r d′ o′
+    LeavesBy p (λ s d. sends (reply downloaded rq s (bytes dataSize 0)) (applied (write (st .row) v ∷ []) s d)) d o r d′ o′
 
 -- the heartbeat's count restarted where that is so
 abbrev pub restartedIf : Bool → Parts → Parts

@@ -13,6 +13,8 @@ use Rattle.rules_dictionary.specs.Legal.{reservedBits, transmits, mostBits, oth
 use Rattle.rules_dictionary.specs.declared.Role.{Role}
 use Rattle.rules_dictionary.specs.declared.Role.the-variants.{Plain, ModeOfOperation, PdoIdentifier, PdoType, MappingCount, MappingEntry}
 use Rattle.dictionary.specs.declared.Entry.{Entry}
+use Rattle.dictionary.specs.declared.Presence.{Presence}
+use Rattle.dictionary.specs.declared.Presence.the-variants.{Listed, NoObject, NoSubindex}
 
 abbrev pub verdictCode : Verdict → ℕ
 verdictCode good = 0
@@ -58,11 +60,11 @@ takes p q w v = not (eqb q p) && isValid v && eqb (frameIdentifier w) (frameIden
 
 -- ---- mappings
 
--- why a mapping word that names no object is refused, by what its index and subindex find
-abbrev pub unnamed : rows.Found → Verdict
-unnamed (rows.found x) = bad notMappable
-unnamed rows.noObject = bad noObject
-unnamed rows.noSubindex = bad noSubindex
+-- why a mapping word that names no object is refused, by whether a row stands at its index and subindex
+abbrev pub unnamed : Presence → Verdict
+unnamed Listed = bad notMappable
+unnamed NoObject = bad noObject
+unnamed NoSubindex = bad noSubindex
 
 -- words that are to be mapped, with so many bits before them
 unfoldable pub wordsVerdict : ℕ → List ℕ → Verdict

@@ -5,9 +5,9 @@ ghost use lib.Dec.{eqb};
 ghost use Rattle.rules_dictionary.specs.Table.{heartbeatTime, placeOf, isWritable};
 ghost use Rattle.rules_services.specs.Sdo.{askedIndex, askedSubindex};
 ghost use Rattle.dictionary.specs.Entries.{Stands};
-ghost use Rattle.output.specs.Leaves.{isMapping};
+ghost use Rattle.output.specs.Leaves.{isMapping, LeavesBy};
 ghost use Rattle.sdo.specs.Requests.{objectAsked};
-ghost use Rattle.sdo.specs.Serving.{restartedIf, Servable, Serves, Applies};
+ghost use Rattle.sdo.specs.Serving.{restartedIf, Servable, Applies};
 use crate::aborts::GOOD;
 use crate::offers::offer_verdict;
 use crate::replies::ABORTED;
@@ -56,7 +56,8 @@ fn restarted(parts: Parts, place: usize) -> Parts
 // A good value for a writable entry: the reply, the value stored, and then what follows from it. Of a mapping that is its PDO's plan, at the
 // call's end.
 fn apply(request: [u8; 8], e: Entry, v: u32, parts: Parts, d: &mut [u8], output: &mut [u8]) -> Done
-    requires { ⌜ Servable (parts .node) (now d) (now output) × (Stands (askedIndex request) (askedSubindex request) e × (isWritable (e .access) ≡ true)) ⌝ }
+    requires { ⌜ Servable (parts .node) (now d) (now output)
+        × (Stands (askedIndex request) (askedSubindex request) e × (isWritable (e .access) ≡ true)) ⌝ }
     ensures { λ r. ⌜ Applies request e v parts (now (d .entry)) (now (output .entry)) r (now (d .exit)) (now (output .exit)) ⌝ }
 {
     let place = e.place as usize;
@@ -82,7 +83,7 @@ fn apply(request: [u8; 8], e: Entry, v: u32, parts: Parts, d: &mut [u8], output:
 // A download to an entry.
 pub fn download(request: [u8; 8], e: Entry, parts: Parts, d: &mut [u8], output: &mut [u8]) -> Done
     requires { ⌜ Servable (parts .node) (now d) (now output) × Stands (askedIndex request) (askedSubindex request) e ⌝ }
-    ensures { λ r. ⌜ Serves (objectAsked true request) parts (now (d .entry)) (now (output .entry)) r (now (d .exit)) (now (output .exit)) ⌝ }
+    ensures { λ r. ⌜ LeavesBy parts (objectAsked true request) (now (d .entry)) (now (output .entry)) r (now (d .exit)) (now (output .exit)) ⌝ }
 {
     let offer = expedited(request, e.size);
     let node = parts.node;

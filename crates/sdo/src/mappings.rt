@@ -4,11 +4,11 @@ use crate::aborts::NO_OBJECT;
 use crate::aborts::NO_SUBINDEX;
 use crate::aborts::NOT_MAPPABLE;
 use crate::aborts::OVER_LENGTH;
-use dictionary::Found;
-use dictionary::find;
+use dictionary::Presence;
 use dictionary::places;
 use dictionary::read4;
 use dictionary::records;
+use dictionary::seek;
 use mapping::move_of;
 ghost use mathlib.Core.Path.{_≡_};
 ghost use Prim.Native.Nat.{_+_, _*_, _^_, _<_, _≤_};
@@ -16,6 +16,7 @@ ghost use lib.ListN.{length};
 ghost use Rattle.rules_dictionary.specs.Table.{mostMoves, wordIndex, wordSubindex, wordLength, lookup, dictionaryLength};
 ghost use Rattle.rules_dictionary.specs.Legal.{entryVerdict, countVerdict, mapWords};
 ghost use Rattle.dictionary.specs.Sizes.{IsPdo};
+ghost use Rattle.dictionary.specs.Entries.{presenceOf};
 ghost use Rattle.mapping.specs.Slots.{wordsFrom};
 ghost use Rattle.sdo.specs.Verdicts.{verdictCode, unnamed};
 
@@ -27,12 +28,12 @@ const MOST_BITS: u32 = 64;
 
 // Why a mapping word that names no object of its PDO's direction is refused.
 fn unnamed_verdict(w: u32) -> u32
-    ensures { λ r. ⌜ r ≡ verdictCode (unnamed (lookup (wordIndex w) (wordSubindex w))) ⌝ }
+    ensures { λ r. ⌜ r ≡ verdictCode (unnamed (presenceOf (lookup (wordIndex w) (wordSubindex w)))) ⌝ }
 {
-    match find((w / 0x1_0000 % 0x1_0000) as u16, (w / 0x100 % 0x100) as u8) {
-        Found::Entry(_) => NOT_MAPPABLE,
-        Found::NoObject => NO_OBJECT,
-        Found::NoSubindex => NO_SUBINDEX,
+    match seek((w / 0x1_0000 % 0x1_0000) as u16, (w / 0x100 % 0x100) as u8) {
+        Presence::Listed => NOT_MAPPABLE,
+        Presence::NoObject => NO_OBJECT,
+        Presence::NoSubindex => NO_SUBINDEX,
     }
 }
 

@@ -1,8 +1,8 @@
 // Requests of eight bytes: the command, the object, and what is asked of it.
 ghost use Rattle.rules_services.specs.Sdo.{sdo};
-ghost use Rattle.output.specs.Leaves.{Leaves, Rests};
+ghost use Rattle.output.specs.Leaves.{LeavesBy};
 ghost use Rattle.sdo.specs.Requests.{objectAsked};
-ghost use Rattle.sdo.specs.Serving.{Servable, Serves};
+ghost use Rattle.sdo.specs.Serving.{Servable};
 use crate::aborts::NO_OBJECT;
 use crate::aborts::NO_SUBINDEX;
 use crate::aborts::UNKNOWN_COMMAND;
@@ -20,14 +20,12 @@ use dictionary::read2;
 use output::Done;
 use output::Parts;
 use output::becomes;
-use output::parts_of;
 use rules_services::SdoCommand;
-use state::State;
 
 // The object of a request, written or read.
 fn to_object(writing: bool, request: [u8; 8], parts: Parts, d: &mut [u8], output: &mut [u8]) -> Done
     requires { ⌜ Servable (parts .node) (now d) (now output) ⌝ }
-    ensures { λ r. ⌜ Serves (objectAsked writing request) parts (now (d .entry)) (now (output .entry)) r (now (d .exit)) (now (output .exit)) ⌝ }
+    ensures { λ r. ⌜ LeavesBy parts (objectAsked writing request) (now (d .entry)) (now (output .entry)) r (now (d .exit)) (now (output .exit)) ⌝ }
 {
     let found = find(read2(&request, INDEX_PLACE), request[SUBINDEX_PLACE]);
     match found {
@@ -43,11 +41,10 @@ fn to_object(writing: bool, request: [u8; 8], parts: Parts, d: &mut [u8], output
 }
 
 // One request of eight bytes, served.
-pub fn serve(request: [u8; 8], s: State, d: &mut [u8], output: &mut [u8]) -> Done
-    requires { ⌜ Servable (s .node) (now d) (now output) ⌝ }
-    ensures { λ r. ⌜ Leaves (sdo request s (now (d .entry))) (now (d .entry)) (now (output .entry)) r (now (d .exit)) (now (output .exit)) × Rests s (sdo request s (now (d .entry))) r ⌝ }
+pub fn serve(request: [u8; 8], parts: Parts, d: &mut [u8], output: &mut [u8]) -> Done
+    requires { ⌜ Servable (parts .node) (now d) (now output) ⌝ }
+    ensures { λ r. ⌜ LeavesBy parts (sdo request) (now (d .entry)) (now (output .entry)) r (now (d .exit)) (now (output .exit)) ⌝ }
 {
-    let parts = parts_of(s);
     let command = command_of(request[COMMAND_PLACE]);
     let writing = match command {
         SdoCommand::Download => true,

@@ -3,8 +3,9 @@ ghost use mathlib.Core.Path.{_≡_};
 ghost use mathlib.Core.Bool.{false};
 ghost use Rattle.rules_services.specs.Sdo.{askedIndex, askedSubindex};
 ghost use Rattle.dictionary.specs.Entries.{Stands};
+ghost use Rattle.output.specs.Leaves.{LeavesBy};
 ghost use Rattle.sdo.specs.Requests.{objectAsked, uploadedBy};
-ghost use Rattle.sdo.specs.Serving.{Servable, Serves};
+ghost use Rattle.sdo.specs.Serving.{Servable};
 use crate::replies::answer;
 use dictionary::Entry;
 use dictionary::read;
@@ -25,7 +26,7 @@ fn uploaded(size: u8) -> u8
 // An upload of an entry.
 pub fn upload(request: [u8; 8], e: Entry, parts: Parts, d: &[u8], output: &mut [u8]) -> Done
     requires { ⌜ Servable (parts .node) (now d) (now output) × Stands (askedIndex request) (askedSubindex request) e ⌝ }
-    ensures { λ r. ⌜ Serves (objectAsked false request) parts (now (d .entry)) (now (output .entry)) r (now (d .entry)) (now (output .exit)) ⌝ }
+    ensures { λ r. ⌜ LeavesBy parts (objectAsked false request) (now (d .entry)) (now (output .entry)) r (now (d .entry)) (now (output .exit)) ⌝ }
 {
     let size = e.size;
     let v = read(d, e.place as usize, size);

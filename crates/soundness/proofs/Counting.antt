@@ -5,12 +5,14 @@ use native.Mathlib.Omega.{arith}
 use mathlib.Core.Path.{_≡_, refl, sym, _∙_}
 use mathlib.Core.Bool.{Bool, true, false, cond, _&&_, and-false}
 use mathlib.Core.List.{List}
-use borrow.Author.Tests.{ne-eqb, le-leb, lt-leb, le-ltb}
+use borrow.Author.Tests.{eqb-true, ne-eqb, le-leb, lt-leb, le-ltb}
 use lib.Dec.{eqb, leb, ltb}
 use Rattle.state.specs.declared.NmtState.{NmtState}
 use Rattle.rules_dictionary.specs.Legal.{isCyclic, lastSynchronous}
+use Rattle.rules_dictionary.proofs.Tests.{and-left, and-right}
 use Rattle.rules_services.specs.PdoTraffic.{works, typeOf}
-use Rattle.rules.specs.Sound.{countSound}
+use Rattle.rules.specs.Sound.{countSound, dueSound, paceSound}
+use Rattle.form.specs.Form.{flagOf}
 
 module _ (m : NmtState) (d : List ℕ) (p : ℕ) where
   pub no-count : countSound m d p 0 ≡ true
@@ -41,3 +43,8 @@ module _ (m : NmtState) (d : List ℕ) (p : ℕ) where
         go : (t : ℕ) → cond (leb 1 t && true) (ltb count t) (eqb count 0) ≡ ltb count t
         go zero = ne-eqb count 0 some ∙ sym (le-ltb count 0 (omega arith))
         go (suc t) = rw (le-leb 1 (suc t) (omega arith))
+
+  -- nothing is counted, nor is the PDO due
+  pub idle : (count mark : ℕ) → (eqb count 0 && eqb mark 0) ≡ true → paceSound m d p (record { count = count; due = flagOf mark }) ≡ true
+  unfolding paceSound dueSound
+  idle count mark h = rw (eqb-true count 0 (and-left (eqb count 0) _ h), eqb-true mark 0 (and-right (eqb count 0) _ h), no-count)

@@ -1,33 +1,46 @@
 -- THE LAWS FOR CALLERS: kept plans and ready frames that passed their tests are those of the dictionary.
 -- Assumes nothing.
-use Prim.Native.Nat.{ℕ, _<_}
-use mathlib.Core.Path.{_≡_, refl, ap₂, subst}
+use Prim.Native.Nat.{ℕ, _+_, _*_, _<_}
+use native.Mathlib.Omega.{arith}
+use mathlib.Core.Path.{_≡_, refl, _∙_, ap, ap₂}
 use mathlib.Core.Bool.{Bool, true, false≢true}
 use mathlib.Core.List.{List, [], _∷_}
 use borrow.Author.Tests.{eqb-true}
 use lib.Dec.{eqb}
-use lib.ListN.{getD}
-use Rattle.rules_dictionary.specs.declared.Plan.{Plan}
 use Rattle.rules_dictionary.specs.declared.PdoData.{PdoData}
 use Rattle.state.specs.declared.State.{State}
-use Rattle.rules_dictionary.specs.Table.{pdos}
+use Rattle.rules_dictionary.specs.Table.{eachWay}
 use Rattle.rules_dictionary.specs.Plans.{plansOf, readyOf}
 use Rattle.rules_dictionary.proofs.Tests.{and-left, and-right}
 use Rattle.rules.specs.Outcome.{sameBy, samePlan, sameData}
 use Rattle.rules.specs.Sound.{plansFresh, readyFresh}
-use Rattle.theorems.proofs.Lawful.{pairwise-at}
-use Rattle.mapping.proofs.Worked.{Tested, tested, same-plan}
-use Rattle.soundness.specs.Kept.{planKept, plansKept}
-use Rattle.soundness.proofs.Pairs.{pdo-at}
+use Rattle.form.specs.Form.{planPlace, planAt, planIn, dataAt}
+use Rattle.form.specs.Own.{planOwn}
+use Rattle.form.proofs.OneForm.{plan-stands}
+use Rattle.mapping.specs.Kept.{planKeptIn, framePlace, readyKeptIn}
+use Rattle.mapping.proofs.Worked.{tested, same-plan}
+use Rattle.soundness.specs.Kept.{planKept, plansKeptIn, frameKept}
+use Rattle.soundness.proofs.Every.{every-in, plans-by-pdo}
 
--- each of the plans, where all are kept
-module _ (d : List ℕ) (plans : List Plan) (z : Plan) (k : ℕ) (h : k < 8) (kept : plansKept d plans ≡ true) where
-  pub kept-at : planKept d k (getD plans k z) ≡ true
-  unfolding plansKept
-  kept-at = subst (λ (p : ℕ). planKept d p (getD plans k z) ≡ true) (pdo-at k h) (pairwise-at (planKept d) 0 z pdos plans kept k h)
+-- each of the plans that a state's bytes keep, where all are kept
+module _ (bs d : List ℕ) (p : ℕ) (h : p < 2 * eachWay) (kept : plansKeptIn bs d ≡ true) where
+  pub kept-at : planKeptIn bs d p ≡ true
+  kept-at = every-in (planKeptIn bs d) p (plans-by-pdo bs d ∙ kept) h
 
-  pub tested-at : Tested d k (getD plans k z)
-  tested-at = tested d k (getD plans k z) kept-at
+  plan-at : planKept d p (planAt (planPlace p) bs) ≡ true
+  unfolding planKeptIn
+  plan-at = and-right (planOwn (planPlace p) bs) _ kept-at
+
+  pub plan-in : planKept d p (planIn bs p) ≡ true
+  plan-in = rw (plan-stands bs p h) plan-at
+
+-- a ready frame that its plan gives is the one that its mapping gives
+pub frame-at : (bs d : List ℕ) (t : ℕ) → t < eachWay → plansKeptIn bs d ≡ true →
+    readyKeptIn bs d t ≡ frameKept d (eachWay + t) (dataAt (framePlace t) bs)
+unfolding readyKeptIn
+frame-at bs d t h kept =
+    let p = eachWay + t in
+    ap (sameData (dataAt (framePlace t) bs)) (tested d p (planAt (planPlace p) bs) (plan-at bs d p (omega arith) kept) .ready)
 
 -- ---- lists that are the same, element by element, are equal
 

@@ -3,19 +3,20 @@
 use Prim.Native.Nat.{ℕ, zero, suc, _+_, _-_, _*_, _/_, _%_, _^_, _<_, _≤_}
 use native.Mathlib.Omega.{arith}
 use mathlib.Core.Path.{_≡_, refl, _∙_}
-use mathlib.Core.Bool.{Bool, true, false, cond, not, _&&_, _||_, Bool·beq}
-use borrow.Author.Tests.{eqb-true, eqb-false, eq-eqb, ne-eqb, leb-true, le-leb, not-false}
-use lib.Dec.{eqb, leb}
-use Rattle.rules_dictionary.specs.Numbers.{bit, between}
+use mathlib.Core.Bool.{Bool, true, false, cond, not, _&&_, _||_, and-true, and-assoc, Bool·beq}
+use borrow.Author.Tests.{eqb-true, eqb-false, eq-eqb, ne-eqb, leb-true, le-leb, ltb-true, ltb-false, lt-ltb, le-ltb, not-false}
+use lib.Bits.{bitOr, or-lt, or-add-and, and-le-l, and-le-r}
+use lib.Dec.{eqb, leb, ltb}
+use Rattle.rules_dictionary.specs.Numbers.{all, bit, between}
 use Rattle.rules_dictionary.specs.Table.{Direction, receive, transmit, byDirection, directionOf}
 use Rattle.rules_dictionary.specs.Legal.{isValid, frameIdentifier, reservedBits, transmits, transmitBit, invalidBit, identifierBits, firstIdentifier}
 use Rattle.rules_dictionary.specs.Legal.{lastIdentifier}
 use Rattle.rules_dictionary.proofs.Tests.{and-left, and-right, and-both}
 use Rattle.theorems.proofs.Booleans.{clash, or-false-right, and-then-false}
 use Rattle.theorems.proofs.Dictionary.{badAlone}
-use Rattle.soundness.specs.Keys.{transmitWay, wayOf, illegalKey, pastLast, wordKey, isLegalKey}
+use Rattle.soundness.specs.Keys.{transmitWay, wayOf, illegalKey, pastLast, wordKey, isLegalKey, four}
 
-pub inside : (low high v : ℕ) → low ≤ v → v ≤ high → between low high v ≡ true
+inside : (low high v : ℕ) → low ≤ v → v ≤ high → between low high v ≡ true
 inside low high v a b = and-both _ _ (le-leb low v a) (le-leb v high b)
 
 outside : (low high v : ℕ) → (low ≤ v → v ≤ high → ⊥) → between low high v ≡ false
@@ -113,8 +114,22 @@ legal-alone p w h = go (badAlone p w) (isValid w)
   where
     go : (b v : Bool) → isLegalKey (cond b illegalKey (cond v (frameIdentifier w - firstIdentifier) (pastLast + p))) ≡ not b
     go true v = refl
-    go false true = rw (ne-eqb illegalKey (frameIdentifier w - firstIdentifier) (λ e. omega arith))
-    go false false = rw (ne-eqb illegalKey (pastLast + p) (λ e. omega arith))
+    go false true = lt-ltb (frameIdentifier w - firstIdentifier) illegalKey (omega arith)
+    go false false = lt-ltb (pastLast + p) illegalKey (omega arith)
+
+-- keys are legal just where their bits together are
+or-legal : (a b : ℕ) → isLegalKey (bitOr a b) ≡ (isLegalKey a && isLegalKey b)
+or-legal a b = go (isLegalKey a) (isLegalKey b) refl refl
+  where
+    go : (p q : Bool) → isLegalKey a ≡ p → isLegalKey b ≡ q → isLegalKey (bitOr a b) ≡ (p && q)
+    go true true h i = lt-ltb _ _ (or-lt (1 + identifierBits) a b (ltb-true a illegalKey h) (ltb-true b illegalKey i))
+    go true false h i = le-ltb (bitOr a b) illegalKey (omega (arith, ltb-false b illegalKey i, or-add-and a b, and-le-l a b))
+    go false q h i = le-ltb (bitOr a b) illegalKey (omega (arith, ltb-false a illegalKey h, or-add-and a b, and-le-r a b))
+
+pub all-legal : (a b c d e f g h : ℕ) →
+    isLegalKey (bitOr (bitOr (bitOr a b) (bitOr c d)) (bitOr (bitOr e f) (bitOr g h)))
+    ≡ (all isLegalKey (four a b c d) && all isLegalKey (four e f g h))
+all-legal a b c d e f g h = simp (or-legal, and-assoc, and-true)
 
 -- a valid legal word's identifier is not below the first
 from-first : (p w : ℕ) → badAlone p w ≡ false → isValid w ≡ true → firstIdentifier ≤ frameIdentifier w

@@ -96,7 +96,7 @@ module _ (d : List ℕ) (long : length d ≡ dictionaryLength) (bytes : areBytes
       all-of (λ p. not (badIdentifier (identifiers d) p (getD (identifiers d) p 0))) pdos (λ p i.
       false-not _ (subst (λ (w : ℕ). badIdentifier (identifiers d) p w ≡ false) (sym (at-word i)) (fits-back word (word p) i (g p i) refl)))
 
-  pub keys-legal : (all isLegalKey (keys d) && distinct (keys d)) ≡ identifiersLegal d
+  keys-legal : (all isLegalKey (keys d) && distinct (keys d)) ≡ identifiersLegal d
   keys-legal = both-ways _ _ (λ h. fits-legal (from-keys h)) (λ h. to-keys (legal-fits h))
 
   -- the same, tested by direction

@@ -2,12 +2,8 @@ pub mod RowTests
 pub mod Distinct
 pub mod KeyMeaning
 pub mod KeysLegal
-pub mod InOrder
 pub mod Counting
-pub mod Pairs
+pub mod Every
 pub mod Fresh
 pub mod Holding
-pub mod Pending
 pub mod Parts
-pub mod Elements
-pub mod Usually

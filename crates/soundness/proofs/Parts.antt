@@ -1,11 +1,14 @@
 -- Soundness is the conjunction of the parts that the code tests.
 -- Assumes nothing.
-use Prim.Native.Nat.{ℕ}
+use Prim.Native.Nat.{ℕ, _<_}
 use mathlib.Core.Path.{_≡_, refl, sym, _∙_, ap}
 use mathlib.Core.Bool.{Bool, true, false, not, _&&_, and-assoc, and-comm, and-false}
 use mathlib.Core.List.{List, [], _∷_, map}
 use borrow.Author.Tests.{ltb-false, le-leb, not-true}
 use lib.Dec.{leb}
+use lib.ListN.{length, getD}
+use Rattle.drive.specs.declared.Drive.{Drive}
+use Rattle.state.specs.declared.Node.{Node}
 use Rattle.state.specs.declared.State.{State}
 use Rattle.rules_dictionary.specs.Numbers.{all}
 use Rattle.rules_dictionary.specs.TheNode.{isNodeId}
@@ -16,10 +19,14 @@ use Rattle.rules_dictionary.specs.Plans.{mapped, planFor, plansOf, readyFor, re
 use Rattle.rules_dictionary.specs.Members.{In}
 use Rattle.rules_dictionary.proofs.Tests.{and-left, and-right, all-in}
 use Rattle.rules_dictionary.proofs.Members.{all-of, in-map, count-in, unpacked-table}
-use Rattle.rules.specs.Outcome.{sameBy, samePlan, sameData}
+use Rattle.rules.specs.Outcome.{sameBy, samePlan, sameData, statusOf}
 use Rattle.rules.specs.Sound.{pairwise, constantsAsListed, inRange, valuesInRange, mappingLegal, mappingsLegal, identifiersLegal, dictionarySound}
 use Rattle.rules.specs.Sound.{statusAsMade, modeAsMade, plansFresh, readyFresh, driveSound, heartbeatSound, waitingSound, sound}
-use Rattle.soundness.specs.Kept.{plansKept, readyKept}
+use Rattle.form.specs.Form.{stateLength, stateOf, isForm}
+use Rattle.form.specs.Own.{headOwn, plansOwn, isOwn}
+use Rattle.form.proofs.OneForm.{is-own}
+use Rattle.soundness.specs.Kept.{plansKept, plansKeptIn, readyKept}
+use Rattle.soundness.specs.Waiting.{waitSound}
 use Rattle.soundness.specs.Parts.{driveClauses, pdoClauses}
 
 and-swap : (a b c : Bool) → (a && (b && c)) ≡ (b && (a && c))
@@ -86,10 +93,13 @@ module _ (s : State) (d : List ℕ) where
       go false h = refl
 
   -- THE LAW: soundness, in the parts that the code tests
-  pub sound-parts : sound s d
+  sound-parts : sound s d
       ≡ (isNodeId (s .node .id)
-      && ((constantsAsListed (s .node .id) d && (valuesInRange d && identifiersLegal d)) && (driveClauses s d && pdoClauses s d)))
-  unfolding sound dictionarySound driveClauses pdoClauses
+      && ((constantsAsListed (s .node .id) d && (valuesInRange d && identifiersLegal d))
+      && (driveClauses (s .node) (s .axis .drive) d
+      && (plansKept d (s .axis .plans)
+      && (readyKept d (s .axis .ready) && waitSound (s .node .nmt) d (s .axis .paces) (s .axis .held))))))
+  unfolding sound dictionarySound driveClauses statusAsMade statusOf modeAsMade waitingSound waitSound
   sound-parts =
       rw (plans-kept, ← ready-kept)
       (ordered (isNodeId (s .node .id)) (constantsAsListed (s .node .id) d) (valuesInRange d) (mappingsLegal d) (identifiersLegal d)
@@ -97,7 +107,22 @@ module _ (s : State) (d : List ℕ) where
       (plansFresh s d) (readyFresh s d) (driveSound (s .axis .drive) d) (heartbeatSound (s .node .heartbeat) d) (waitingSound s d)
       (all (fewMoves d) pdos) few-in-range)
 
-  -- the PDOs' clauses are all that is left behind the others
-  pub by-pdos : {r : Bool} → isNodeId (s .node .id) ≡ true → (constantsAsListed (s .node .id) d && (valuesInRange d && identifiersLegal d)) ≡ true →
-      driveClauses s d ≡ true → r ≡ pdoClauses s d → r ≡ sound s d
-  by-pdos i l v e = sym (sound-parts ∙ rw (i, l, v, ← e))
+-- ---- the bytes
+
+-- a test that stands behind four others, beside the first of them
+behind : (h o n l v k : Bool) → ((h && o) && (n && (l && (v && k)))) ≡ (h && (n && (l && (v && (o && k)))))
+behind h o n l v k = simp (and-assoc, and-swap)
+
+-- THE LAW: bytes that are a sound state's form, in the parts that the code tests
+pub form-parts : (bs d : List ℕ) → ((i : ℕ) → getD bs i 0 < 256) → length bs ≡ stateLength →
+    {node : Node} → node ≡ stateOf bs .node → {drive : Drive} → drive ≡ stateOf bs .axis .drive →
+    (isForm bs && sound (stateOf bs) d)
+    ≡ (headOwn bs && (isNodeId (node .id) && ((constantsAsListed (node .id) d && (valuesInRange d && identifiersLegal d))
+    && (driveClauses node drive d && pdoClauses (node .nmt) bs d))))
+unfolding isOwn pdoClauses plansKeptIn
+form-parts bs d fits l en ev =
+    let s = stateOf bs in
+    rw (en, ev, ← is-own bs fits l, sound-parts s d, and-assoc (plansOwn bs))
+    (behind (headOwn bs) (plansOwn bs) (isNodeId (s .node .id))
+    (constantsAsListed (s .node .id) d && (valuesInRange d && identifiersLegal d)) (driveClauses (s .node) (s .axis .drive) d)
+    (plansKept d (s .axis .plans) && (readyKept d (s .axis .ready) && waitSound (s .node .nmt) d (s .axis .paces) (s .axis .held))))

@@ -46,7 +46,7 @@ at-most k v most h = go (eqb k most) (leb v k) refl refl
 
 -- ---- rows
 
-both : (a b c e : Bool) → ((a && b) && (c && e)) ≡ ((a && c) && (b && e))
+pub both : (a b c e : Bool) → ((a && b) && (c && e)) ≡ ((a && c) && (b && e))
 both false b c e = refl
 both true false c e = sym (and-false c)
 both true true c e = refl

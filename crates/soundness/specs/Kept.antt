@@ -11,6 +11,8 @@ use Rattle.rules_dictionary.specs.Values.{read}
 use Rattle.rules_dictionary.specs.Plans.{mapped, planFor, readyFor}
 use Rattle.rules.specs.Outcome.{samePlan, sameData}
 use Rattle.rules.specs.Sound.{mappingLegal, pairwise}
+use Rattle.form.specs.Form.{stateOf}
+use Rattle.form.specs.Own.{plansOwn}
 
 -- a PDO's mapping is legal, its count in range, and the kept plan the one that it gives
 abbrev pub planKept : List ℕ → ℕ → Plan → Bool
@@ -19,6 +21,10 @@ planKept d p plan = leb (read d (mapCount p)) mostMoves && (mappingLegal d p && 
 -- so of all eight
 unfoldable pub plansKept : List ℕ → List Plan → Bool
 plansKept d plans = pairwise (planKept d) pdos plans
+
+-- so of the plans that a state's bytes keep, in the form of plans
+unfoldable pub plansKeptIn : List ℕ → List ℕ → Bool
+plansKeptIn bs d = plansOwn bs && plansKept d (stateOf bs .axis .plans)
 
 -- the kept ready frame is the one that the mapping gives
 abbrev pub frameKept : List ℕ → ℕ → PdoData → Bool

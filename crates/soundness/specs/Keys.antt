@@ -1,7 +1,7 @@
 -- Document 01, 'SDO': PDO identifiers, each word as a key: legal words have legal keys, and no two words clash where no two keys are alike.
 -- Assumes nothing.
 use Prim.Native.Nat.{ℕ, _+_, _-_, _*_, _^_}
-use mathlib.Core.List.{List, [], _∷_, map}
+use mathlib.Core.List.{List, [], _∷_}
 use mathlib.Core.Bool.{Bool, true, cond, not, _&&_}
 use lib.Dec.{eqb, ltb}
 use Rattle.rules_dictionary.specs.Numbers.{all, between}
@@ -39,7 +39,7 @@ abbrev pub isOther : ℕ → ℕ → Bool
 isOther x y = not (eqb x y)
 
 abbrev pub isLegalKey : ℕ → Bool
-isLegalKey = isOther illegalKey
+isLegalKey k = ltb k illegalKey
 
 -- no two keys are alike
 unfoldable pub distinct : List ℕ → Bool
@@ -53,22 +53,3 @@ areApart ks others = all (λ k. all (isOther k) others) ks
 -- the keys of a direction
 abbrev pub four : ℕ → ℕ → ℕ → ℕ → List ℕ
 four a b c d = a ∷ b ∷ c ∷ d ∷ []
-
--- ---- in the order of the defaults
-
--- numbers rise, each above the one before it and the last below a bound
-abbrev pub risesTo : ℕ → ℕ → List ℕ → Bool
-risesTo bound before [] = ltb before bound
-risesTo bound before (w ∷ ws) = ltb before w && risesTo bound w ws
-
--- a PDO's word with bit 30 set, as a transmit PDO's has it
-abbrev pub asSent : List ℕ → ℕ → ℕ
-asSent d p = read d (identifier p) + (transmitWay - wayOf p)
-
--- transmit PDO 1, receive PDO 1, transmit PDO 2 and so on
-abbrev pub byDefault : List ℕ
-byDefault = 4 ∷ 0 ∷ 5 ∷ 1 ∷ 6 ∷ 2 ∷ 7 ∷ 3 ∷ []
-
--- their words, bit 30 of all set, rise from the first legal one to the last
-unfoldable pub inOrder : List ℕ → Bool
-inOrder d = risesTo (transmitWay + lastIdentifier + 1) (transmitWay + firstIdentifier - 1) (map (asSent d) byDefault)

@@ -3,4 +3,3 @@ pub mod Keys
 pub mod Kept
 pub mod Waiting
 pub mod Parts
-pub mod Usual

@@ -5,7 +5,7 @@ use drive::states::has;
 use drive::states::is_faulty;
 use drive::status::status;
 use rules_dictionary::Mode;
-use state::State;
+use state::Node;
 ghost use mathlib.Core.Path.{_≡_};
 ghost use mathlib.Core.Bool.{_&&_};
 ghost use lib.Dec.{eqb};
@@ -19,17 +19,6 @@ ghost use Rattle.soundness.specs.Parts.{driveClauses};
 
 // Bit 4 of 6040h.
 const NEW_SET_POINT: u16 = 16;
-
-// The number of a mode in 6060h and 6061h.
-fn mode_number(m: Mode) -> u8
-    ensures { λ r. ⌜ r ≡ modeNumber m ⌝ }
-{
-    match m {
-        Mode::NoMode => 0,
-        Mode::ProfilePosition => 1,
-        Mode::ProfileVelocity => 3,
-    }
-}
 
 // "6041h .. as the rules make" it. The flags: not Stopped, voltage.
 fn is_status_made(remote: bool, voltage: bool, v: Drive, d: &[u8]) -> bool
@@ -45,7 +34,7 @@ fn is_mode_made(m: Mode, d: &[u8]) -> bool
     ensures { λ r. ⌜ r ≡ (eqb (read (now (d .entry)) modeDisplay) (read (now (d .entry)) mode) && eqb (read (now (d .entry)) mode) (modeNumber m)) ⌝ }
 {
     let asked = objects::mode(d);
-    (objects::mode_display(d) == asked) & (asked == mode_number(m))
+    (objects::mode_display(d) == asked) & (asked == m.number())
 }
 
 // "set-point store other than Empty, taken mark and limit mark only in Operation enabled with mode 1"
@@ -89,14 +78,11 @@ fn is_heartbeat_sound(count: u16, d: &[u8]) -> bool
 }
 
 // Whether the clauses of the drive, 6041h, 6061h and the heartbeat count hold.
-pub fn is_drive_clear(s: State, d: &[u8]) -> bool
+pub fn is_drive_clear(node: Node, drive: Drive, d: &[u8]) -> bool
     requires { ⌜ length (now d) ≡ dictionaryLength ⌝ }
-    ensures { λ r. ⌜ r ≡ driveClauses s (now (d .entry)) ⌝ }
+    ensures { λ r. ⌜ r ≡ driveClauses node drive (now (d .entry)) ⌝ }
 {
-    let node = s.node;
     let nmt = node.nmt;
-    let axis = s.axis;
-    let drive = axis.drive;
     let mode = drive.mode;
     let made = is_status_made(!nmt.is_stopped(), node.voltage, drive, d) & is_mode_made(mode, d);
     made & (is_drive_sound(drive, d) & is_heartbeat_sound(node.heartbeat, d))

@@ -1,29 +1,23 @@
-// The PDO identifiers. Most nodes keep them in the order of the defaults, which a few comparisons tell. Otherwise each word gets a key:
-// its identifier, counted from the first legal one, where it is a valid word, a number of its PDO's own where it is an invalid one, and
-// the last number where it is illegal. The words are legal where no key is that number and no two are alike.
+// The PDO identifiers. Each word gets a key: its identifier, counted from the first legal one, where it is a valid word, a number of its
+// PDO's own where it is an invalid one, and the last number where it is illegal. The words are legal where no key is that number and no
+// two are alike.
 use dictionary::records;
 ghost use mathlib.Core.Path.{_≡_};
+ghost use mathlib.Core.Bool.{_&&_};
 ghost use mathlib.Core.List.{map};
-ghost use Prim.Native.Nat.{_+_, _≤_};
+ghost use Prim.Native.Nat.{_≤_};
 ghost use lib.ListN.{length};
 ghost use Rattle.rules_dictionary.specs.Table.{receivePdos, transmitPdos, identifier, dictionaryLength};
 ghost use Rattle.rules_dictionary.specs.Numbers.{all};
 ghost use Rattle.rules_dictionary.specs.Values.{read};
 ghost use Rattle.dictionary.specs.Sizes.{IsPdo};
 ghost use Rattle.rules.specs.Sound.{identifiersLegal};
-ghost use Rattle.soundness.specs.Keys.{transmitWay, wordKey, keyIn, isOther, distinct, areApart, four, inOrder};
+ghost use Rattle.soundness.specs.Keys.{transmitWay, wordKey, keyIn, isOther, isLegalKey, distinct, areApart, four};
 
 // Bit 30 of a receive PDO's word, and of a transmit PDO's.
 const RECEIVE: u32 = 0;
 
 const TRANSMIT: u32 = 0x4000_0000;
-
-// What a receive PDO's word lacks of bit 30; what the legal valid words of transmit PDOs are above, and below.
-const LACK: u64 = 0x4000_0000;
-
-const BEFORE: u64 = 0x4000_0180;
-
-const BOUND: u64 = 0x4000_0580;
 
 // The key of an illegal word.
 const ILLEGAL: u32 = 0x1000;
@@ -100,40 +94,13 @@ fn transmit_keys(d: &[u8]) -> Keys
     }
 }
 
-// Whether the PDO identifiers are legal, by their keys.
-fn identifiers_apart(d: &[u8]) -> bool
-    requires { ⌜ length (now d) ≡ dictionaryLength ⌝ }
-    ensures { λ r. ⌜ r ≡ identifiersLegal (now (d .entry)) ⌝ }
+// Whether no key of eight is an illegal word's: the bits of all together are below it.
+fn are_legal(k: Keys, others: Keys) -> bool
+    ensures { λ r. ⌜ r ≡ (all isLegalKey (four (k .a) (k .b) (k .c) (k .d))
+        && all isLegalKey (four (others .a) (others .b) (others .c) (others .d))) ⌝ }
 {
-    let r = receive_keys(d);
-    let t = transmit_keys(d);
-    (none_is(ILLEGAL, r) & none_is(ILLEGAL, t)) & ((differ(r) & differ(t)) & apart(r, t))
-}
-
-// A PDO's word with what it lacks of bit 30.
-fn sent_word(d: &[u8], p: usize, lack: u64) -> u64
-    requires { ⌜ (length (now d) ≡ dictionaryLength) × (IsPdo p × (lack ≤ transmitWay)) ⌝ }
-    ensures { λ r. ⌜ r ≡ read (now (d .entry)) (identifier p) + lack ⌝ }
-{
-    (records::identifier(d, p) as u64) + lack
-}
-
-// Whether all words are valid and legal, with identifiers that rise from transmit PDO 1 over receive PDO 1 and transmit PDO 2 on.
-fn are_in_order(d: &[u8]) -> bool
-    requires { ⌜ length (now d) ≡ dictionaryLength ⌝ }
-    ensures { λ r. ⌜ r ≡ inOrder (now (d .entry)) ⌝ }
-{
-    let first = sent_word(d, 4, 0);
-    let second = sent_word(d, 0, LACK);
-    let third = sent_word(d, 5, 0);
-    let fourth = sent_word(d, 1, LACK);
-    let fifth = sent_word(d, 6, 0);
-    let sixth = sent_word(d, 2, LACK);
-    let seventh = sent_word(d, 7, 0);
-    let eighth = sent_word(d, 3, LACK);
-    let high = (fifth < sixth) & ((sixth < seventh) & ((seventh < eighth) & (eighth < BOUND)));
-    (BEFORE < first)
-        & ((first < second) & ((second < third) & ((third < fourth) & ((fourth < fifth) & high))))
+    let bits = (k.a | k.b) | (k.c | k.d);
+    (bits | ((others.a | others.b) | (others.c | others.d))) < ILLEGAL
 }
 
 // Whether the PDO identifiers are legal.
@@ -141,8 +108,7 @@ pub fn identifiers_legal(d: &[u8]) -> bool
     requires { ⌜ length (now d) ≡ dictionaryLength ⌝ }
     ensures { λ r. ⌜ r ≡ identifiersLegal (now (d .entry)) ⌝ }
 {
-    if are_in_order(d) {
-        return true;
-    }
-    identifiers_apart(d)
+    let r = receive_keys(d);
+    let t = transmit_keys(d);
+    are_legal(r, t) & ((differ(r) & differ(t)) & apart(r, t))
 }

@@ -1,24 +1,27 @@
-// Plans and ready frames beside the mappings in the dictionary.
-use mapping::mapping_sound;
-use mapping::ready_of;
-use mapping::same_data;
-use rules_dictionary::PdoData;
-use rules_dictionary::Plan;
+// Plans and ready frames, which the state's bytes keep, beside the mappings in the dictionary.
+use dictionary::places;
+use mapping::is_plan_kept;
+use mapping::is_ready_kept;
 ghost use mathlib.Core.Path.{_≡_};
 ghost use mathlib.Core.Bool.{true};
 ghost use lib.ListN.{length};
 ghost use Rattle.rules_dictionary.specs.Table.{dictionaryLength};
-ghost use Rattle.soundness.specs.Kept.{plansKept, readyKept};
+ghost use Rattle.form.specs.Form.{stateLength, stateOf};
+ghost use Rattle.soundness.specs.Kept.{plansKeptIn, readyKept};
 
-// Whether every PDO's mapping is legal, with a count in range, and its kept plan the one that it gives.
-pub fn are_plans_kept(d: &[u8], plans: [Plan; 8]) -> bool
-    requires { ⌜ length (now d) ≡ dictionaryLength ⌝ }
-    ensures { λ r. ⌜ r ≡ plansKept (now (d .entry)) plans ⌝ }
+// All PDOs, and those that transmit, counted in a word of the controller.
+const PDOS: u32 = places::PDOS as u32;
+
+const EACH_WAY: u32 = places::EACH_WAY as u32;
+
+// Whether every PDO's mapping is legal, with a count in range, and its kept plan the one that it gives, in a plan's form.
+pub fn are_plans_kept(state: &[u8], d: &[u8]) -> bool
+    requires { ⌜ (length (now state) ≡ stateLength) × (length (now d) ≡ dictionaryLength) ⌝ }
+    ensures { λ r. ⌜ r ≡ plansKeptIn (now (state .entry)) (now (d .entry)) ⌝ }
 {
-    let mut p: usize = 0;
-    while p < 8 {
-        let plan = plans[p];
-        if !mapping_sound(d, p, plan) {
+    let mut p: u32 = 0;
+    while p < PDOS {
+        if !is_plan_kept(state, d, p as usize) {
             return false;
         }
         p += 1;
@@ -26,17 +29,14 @@ pub fn are_plans_kept(d: &[u8], plans: [Plan; 8]) -> bool
     true
 }
 
-// Whether every transmit PDO's ready frame is the one that its kept plan gives.
-pub fn are_frames_kept(d: &[u8], plans: [Plan; 8], ready: [PdoData; 4]) -> bool
-    requires { ⌜ (length (now d) ≡ dictionaryLength) × (plansKept (now d) plans ≡ true) ⌝ }
-    ensures { λ r. ⌜ r ≡ readyKept (now (d .entry)) ready ⌝ }
+// Whether every transmit PDO's ready frame is the one that its mapping gives; the plans are known to be the mappings'.
+pub fn are_frames_kept(state: &[u8], d: &[u8]) -> bool
+    requires { ⌜ (length (now state) ≡ stateLength) × ((length (now d) ≡ dictionaryLength) × (plansKeptIn (now state) (now d) ≡ true)) ⌝ }
+    ensures { λ r. ⌜ r ≡ readyKept (now (d .entry)) (stateOf (now (state .entry)) .axis .ready) ⌝ }
 {
-    let mut t: usize = 0;
-    while t < 4 {
-        let p = t + 4;
-        let plan = plans[p];
-        let frame = ready[t];
-        if !same_data(frame, ready_of(d, plan)) {
+    let mut t: u32 = 0;
+    while t < EACH_WAY {
+        if !is_ready_kept(state, d, t as usize) {
             return false;
         }
         t += 1;

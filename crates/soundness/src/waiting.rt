@@ -1,33 +1,56 @@
-// What waits for SYNC: paces (SYNC counts and due marks) and held frames.
-use crate::pdos::type_of;
-use crate::pdos::works;
+// What waits for SYNC, tested where the state's bytes keep it: SYNC counts, due marks and held frames. Mostly nothing waits: of a transmit
+// PDO two bytes tell that, of a receive PDO nine.
+use dictionary::places::EACH_WAY;
+use dictionary::read4;
+use dictionary::records;
+use form::layout;
+use form::read_frame;
+use form::read_plan;
 use mapping::are_legal;
+use mapping::is_open;
 use mapping::length_of;
-use mapping::same_data;
 use rules_dictionary::PdoData;
 use rules_dictionary::Plan;
 use state::NmtState;
-use state::Pace;
 ghost use mathlib.Core.Path.{_≡_};
-ghost use mathlib.Core.Bool.{true};
-ghost use Prim.Native.Nat.{_<_};
+ghost use mathlib.Core.Bool.{true, false};
+ghost use Prim.Native.Nat.{_+_, _*_, _<_, _≤_};
 ghost use lib.ListN.{length, take};
-ghost use Rattle.rules_dictionary.specs.Table.{dictionaryLength};
+ghost use Rattle.rules_dictionary.specs.Table.{eachWay, dictionaryLength};
 ghost use Rattle.rules_dictionary.specs.Plans.{pdoData};
+ghost use Rattle.dictionary.specs.Sizes.{IsPdo};
+ghost use Rattle.form.specs.Form.{dataLength, dataAt, paceAt, planIn, stateLength, stateOf};
 ghost use Rattle.mapping.specs.Moves.{MovesFit};
 ghost use Rattle.mapping.specs.Received.{movesOf, sizes};
 ghost use Rattle.rules.specs.Outcome.{sameData};
-ghost use Rattle.rules_services.specs.PdoTraffic.{noData};
+ghost use Rattle.rules_services.specs.PdoTraffic.{works, noData};
 ghost use Rattle.rules.specs.Sound.{countSound, dueSound, paceSound, heldSound};
-ghost use Rattle.soundness.specs.Kept.{planKept, plansKept};
-ghost use Rattle.soundness.specs.Waiting.{waitSound, zeroFrom};
+ghost use Rattle.soundness.specs.Kept.{planKept, plansKeptIn};
+ghost use Rattle.soundness.specs.Waiting.{pacePlace, heldFramePlace, waitSound, zeroFrom};
 
 // The last type that waits for SYNC.
 const LAST_SYNCHRONOUS: u8 = 240;
 
+// The PDOs of a direction, counted in a word of the controller.
+const ROUNDS: u32 = EACH_WAY as u32;
+
+// The byte of a mark that is set.
+const MARKED: u8 = 1;
+
+// "A PDO works only in Operational, valid, with something mapped."
+fn works(m: NmtState, d: &[u8], p: usize) -> bool
+    requires { ⌜ (length (now d) ≡ dictionaryLength) × IsPdo p ⌝ }
+    ensures { λ r. ⌜ r ≡ works m (now (d .entry)) p ⌝ }
+{
+    if !m.is_operational() {
+        return false;
+    }
+    is_open(d, p)
+}
+
 // "SYNC counts below their type and zero where unused"
 fn is_count_sound(m: NmtState, d: &[u8], p: usize, count: u8) -> bool
-    requires { ⌜ (length (now d) ≡ dictionaryLength) × (p < 8) ⌝ }
+    requires { ⌜ (length (now d) ≡ dictionaryLength) × IsPdo p ⌝ }
     ensures { λ r. ⌜ r ≡ countSound m (now (d .entry)) p count ⌝ }
 {
     if count == 0 {
@@ -36,7 +59,7 @@ fn is_count_sound(m: NmtState, d: &[u8], p: usize, count: u8) -> bool
     if !works(m, d, p) {
         return false;
     }
-    let kind = type_of(d, p);
+    let kind = records::transmission_type(d, p);
     if LAST_SYNCHRONOUS < kind {
         return false;
     }
@@ -45,7 +68,7 @@ fn is_count_sound(m: NmtState, d: &[u8], p: usize, count: u8) -> bool
 
 // "due marks .. only in Operational, due for working type 0 TPDOs"
 fn is_mark_sound(m: NmtState, d: &[u8], p: usize, due: bool) -> bool
-    requires { ⌜ (length (now d) ≡ dictionaryLength) × (p < 8) ⌝ }
+    requires { ⌜ (length (now d) ≡ dictionaryLength) × IsPdo p ⌝ }
     ensures { λ r. ⌜ r ≡ dueSound m (now (d .entry)) p due ⌝ }
 {
     if !due {
@@ -54,28 +77,32 @@ fn is_mark_sound(m: NmtState, d: &[u8], p: usize, due: bool) -> bool
     if !works(m, d, p) {
         return false;
     }
-    type_of(d, p) == 0
+    records::transmission_type(d, p) == 0
 }
 
-// Whether what is kept of a transmit PDO is sound.
-fn is_pace_sound(m: NmtState, d: &[u8], p: usize, pace: Pace) -> bool
-    requires { ⌜ (length (now d) ≡ dictionaryLength) × (p < 8) ⌝ }
-    ensures { λ r. ⌜ r ≡ paceSound m (now (d .entry)) p pace ⌝ }
+// Whether what is kept of transmit PDO t is sound.
+fn is_pace_sound(m: NmtState, state: &[u8], d: &[u8], t: usize) -> bool
+    requires { ⌜ (length (now state) ≡ stateLength) × ((length (now d) ≡ dictionaryLength) × (t < eachWay)) ⌝ }
+    ensures { λ r. ⌜ r ≡ paceSound m (now (d .entry)) (t + eachWay) (paceAt (pacePlace t) (now (state .entry))) ⌝ }
 {
-    is_count_sound(m, d, p, pace.count) & is_mark_sound(m, d, p, pace.due)
+    let at = layout::PACES + layout::PACE_LENGTH * t;
+    let count = state[at];
+    let mark = state[at + layout::DUE_OFFSET];
+    if (count == 0) & (mark == 0) {
+        return true;
+    }
+    let p = t + EACH_WAY;
+    is_count_sound(m, d, p, count) & is_mark_sound(m, d, p, mark == MARKED)
 }
 
-// Whether no frame is held, nor a byte of one.
-pub fn is_none_held(frame: PdoData) -> bool
-    ensures { λ r. ⌜ r ≡ sameData frame noData ⌝ }
+// Whether no frame is held at a place, nor a byte of one.
+fn is_none_held(state: &[u8], at: usize) -> bool
+    requires { ⌜ at + dataLength ≤ length (now state) ⌝ }
+    ensures { λ r. ⌜ r ≡ sameData (dataAt at (now (state .entry))) noData ⌝ }
 {
-    same_data(
-        frame,
-        PdoData {
-            length: 0,
-            bytes: [0; 8],
-        },
-    )
+    let first = at + layout::DATA_OFFSET;
+    (state[at] == 0)
+        & ((read4(state, first) == 0) & (read4(state, first + layout::WORD_LENGTH) == 0))
 }
 
 // Whether the bytes of a frame from a place on are zero.
@@ -83,7 +110,7 @@ fn is_zero_from(content: [u8; 8], first: u8) -> bool
     ensures { λ r. ⌜ (r ≡ zeroFrom first content) × (length content ≡ 8) ⌝ }
 {
     let mut k = first as usize;
-    while k < 8 {
+    while k < layout::MOST_DATA {
         if content[k] != 0 {
             return false;
         }
@@ -105,19 +132,20 @@ fn is_full(plan: Plan, frame: PdoData) -> bool
     is_zero_from(content, mapped)
 }
 
-// "held frames only in Operational, .. held for working synchronous RPDOs, with full length and legal values"
-fn is_held_sound(m: NmtState, d: &[u8], p: usize, plan: Plan, frame: PdoData) -> bool
-    requires { ⌜ (length (now d) ≡ dictionaryLength) × ((p < 4) × (planKept (now d) p plan ≡ true)) ⌝ }
+// "held frames only in Operational, .. held for working synchronous RPDOs, with full length and legal values": of one where something is held
+fn is_frame_sound(m: NmtState, d: &[u8], p: usize, plan: Plan, frame: PdoData) -> bool
+    requires { ⌜ (length (now d) ≡ dictionaryLength) × ((p < eachWay)
+        × ((planKept (now d) p plan ≡ true) × (sameData frame noData ≡ false))) ⌝ }
     ensures { λ r. ⌜ r ≡ heldSound m (now (d .entry)) p frame ⌝ }
 {
     let content = frame.bytes;
     if frame.length == 0 {
-        return is_none_held(frame);
+        return false;
     }
     if !works(m, d, p) {
         return false;
     }
-    if LAST_SYNCHRONOUS < type_of(d, p) {
+    if LAST_SYNCHRONOUS < records::transmission_type(d, p) {
         return false;
     }
     if !is_full(plan, frame) {
@@ -126,26 +154,32 @@ fn is_held_sound(m: NmtState, d: &[u8], p: usize, plan: Plan, frame: PdoData) ->
     are_legal(plan, content)
 }
 
-// Whether all that waits for SYNC is sound; the plans are known to be the mappings'.
-pub fn is_waiting_sound(
-    m: NmtState,
-    d: &[u8],
-    plans: [Plan; 8],
-    paces: [Pace; 4],
-    held: [PdoData; 4],
-) -> bool
-    requires { ⌜ (length (now d) ≡ dictionaryLength) × (plansKept (now d) plans ≡ true) ⌝ }
-    ensures { λ r. ⌜ r ≡ waitSound m (now (d .entry)) paces held ⌝ }
+// Whether what is held for receive PDO p is sound; its plan is known to be its mapping's.
+fn is_held_sound(m: NmtState, state: &[u8], d: &[u8], p: usize) -> bool
+    requires { ⌜ (length (now state) ≡ stateLength) × ((length (now d) ≡ dictionaryLength)
+        × ((p < eachWay) × (planKept (now d) p (planIn (now state) p) ≡ true))) ⌝ }
+    ensures { λ r. ⌜ r ≡ heldSound m (now (d .entry)) p (dataAt (heldFramePlace p) (now (state .entry))) ⌝ }
 {
-    let mut t: usize = 0;
-    while t < 4 {
-        let pace = paces[t];
-        if !is_pace_sound(m, d, t + 4, pace) {
+    let at = layout::HELD + layout::FRAME_LENGTH * p;
+    if is_none_held(state, at) {
+        return true;
+    }
+    let plan = read_plan(state, p);
+    let frame = read_frame(state, at);
+    is_frame_sound(m, d, p, plan, frame)
+}
+
+// Whether all that waits for SYNC is sound; the plans are known to be the mappings'.
+pub fn is_waiting_sound(m: NmtState, state: &[u8], d: &[u8]) -> bool
+    requires { ⌜ (length (now state) ≡ stateLength) × ((length (now d) ≡ dictionaryLength) × (plansKeptIn (now state) (now d) ≡ true)) ⌝ }
+    ensures { λ r. ⌜ r ≡ waitSound m (now (d .entry)) (stateOf (now (state .entry)) .axis .paces) (stateOf (now (state .entry)) .axis .held) ⌝ }
+{
+    let mut t: u32 = 0;
+    while t < ROUNDS {
+        if !is_pace_sound(m, state, d, t as usize) {
             return false;
         }
-        let plan = plans[t];
-        let frame = held[t];
-        if !is_held_sound(m, d, t, plan, frame) {
+        if !is_held_sound(m, state, d, t as usize) {
             return false;
         }
         t += 1;

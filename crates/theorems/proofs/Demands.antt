@@ -1,13 +1,13 @@
 -- The statements of specs/Promises.antt that follow from the invariant: nothing stale, refused means nothing, and what a call that only says
 -- something leaves.
 -- Assumes nothing.
-use Rattle.theorems.proofs.Words.{ℕ, _+_, _/_, _^_, _<_, _≤_, arith, _≡_, refl, sym, _∙_, ap, ap₂, _⊎_, inl, inr, Bool, true, false, cond, not}
+use Rattle.theorems.proofs.Words.{ℕ, _+_, _/_, _^_, _<_, _≤_, arith, _≡_, refl, sym, _∙_, ap, _⊎_, inl, inr, Bool, true, false, cond, not}
 use Rattle.theorems.proofs.Words.{_&&_, _||_, Bool·beq, and-not-self, and-eq-true-iff, Bool·not-not, List, [], _∷_, _++_, map, append-assoc}
 use Rattle.theorems.proofs.Words.{append-nil, eq-eqb, eqb-true, ne-eqb, leb-true, lt-ltb, le-leb, eqb, leb, ltb, length, getD, drop}
 use Rattle.theorems.proofs.Words.{take-append-drop, length-drop, sets, sets-eq, length-take-le, drop-drop, PdoData, NmtState, PreOperational}
 use Rattle.theorems.proofs.Words.{Operational, Stopped, State, Accepted, Download, Drive, Paced, In, here, there, and-right, and-both, each-in}
 use Rattle.theorems.proofs.Words.{none-in, within, in-map, in-left, words-read, bytes-value, part-bytes, read-fits, isStopped, isOperational}
-use Rattle.theorems.proofs.Words.{either, by-match, false-not, clash, by-test, or-false-right, and-then-false, whichever}
+use Rattle.theorems.proofs.Words.{either, by-match, false-not, clash, by-test, or-false-right, and-then-false, whichever, joined-same}
 use Rattle.theorems.proofs.Dictionary.{DictionaryOk, map-same, Fits, fits, badAlone}
 use Rattle.theorems.proofs.{Writes.in-cons, Settled.status-in, Settled.SameMotion, Settled.status-same, Settled.display-in}
 use Rattle.theorems.proofs.{Lawful.sound-lawful, Lawful.transmitter-in, Lawful.clauses, Lawful.data-refl, Runs.Holds, Runs.run-holds}
@@ -18,7 +18,7 @@ use Rattle.rules_dictionary.specs.Legal.{mapWords, isValid, frameIdentifier, re
 use Rattle.rules_dictionary.specs.Legal.{lastIdentifier as lastPdoIdentifier, identifiers, isCyclic, modeNumber}
 use Rattle.rules_dictionary.specs.{Numbers.value, Numbers.bytes, Numbers.areBytes, Numbers.bit, Numbers.between, TheNode.firstNode, TheNode.lastNode}
 use Rattle.rules_dictionary.specs.{Values.field, Values.read, Values.unpacked, Values.store, Values.stored, Aborts.Abort, Aborts.abortCode}
-use Rattle.rules_dictionary.specs.{Aborts.bad, Plans.mapped, Plans.readyFor, Plans.plansOf, Plans.readyOf, Plans.joined, Plans.pdoData}
+use Rattle.rules_dictionary.specs.{Aborts.bad, Plans.mapped, Plans.readyFor, Plans.plansOf, Plans.readyOf, Plans.pdoData}
 use Rattle.rules_services.proofs.Tempting.{short-frame-dropped}
 use Rattle.rules_services.specs.Effects.{Frame, frame, Effect, becomes, sends, withDrive}
 use Rattle.rules_services.specs.Sdo.{commandOf, commandByte, askedIndex, askedSubindex, downloadVerdict, judged, toRow, toObject, asked, sdo, abort}
@@ -123,11 +123,6 @@ no-old-mapping r k o =
     (h .plans, h .ready)
 
 -- ---- a ready frame stays with its mapping and its objects
-
-joined-same : (d d′ : List ℕ) (xs : List Row) → ((x : Row) → In x xs → field d′ x ≡ field d x) → joined d′ xs ≡ joined d xs
-unfolding joined
-joined-same d d′ [] h = refl
-joined-same d d′ (x ∷ xs) h = ap₂ _++_ (h x here) (joined-same d d′ xs (λ y i. h y (there i)))
 
 ready-same : (d d′ : List ℕ) {p : ℕ} → In p pdos → ((x : Row) → In x (mappingRows p) → field d′ x ≡ field d x) →
     ((x : Row) → In x (mapped d p) → field d′ x ≡ field d x) → readyFor d′ p ≡ readyFor d p

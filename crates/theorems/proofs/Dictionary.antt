@@ -1,21 +1,22 @@
 -- The dictionary stays sound when a row is written with a value that it may hold, and two dictionaries that agree on the rows of the PDOs have
 -- the same mappings, plans, working PDOs and legal values.
 -- Assumes nothing.
+pub use Rattle.rules_dictionary.proofs.Plans.{mapped-in}
 use Rattle.theorems.proofs.Words.{ℕ, _^_, _<_, arith, _≡_, refl, sym, _∙_, subst, ap, ap₂, _⊎_, inl, inr, Bool, true, false, not, _&&_, _||_}
 use Rattle.theorems.proofs.Words.{Bool·beq, map, List, [], _∷_, eq-eqb, eqb-true, ltb-true, eqb, ltb, getD, length, take, drop, Role, Plain}
 use Rattle.theorems.proofs.Words.{ModeOfOperation, PdoIdentifier, PdoType, MappingCount, MappingEntry, PdoData, NmtState, In, here, there}
-use Rattle.theorems.proofs.Words.{each-in, and-left, and-right, and-both, all-in, none-in, within, same-or-apart, found-in, read-apart}
-use Rattle.theorems.proofs.Words.{read-same, all-of, unpacked-table, words-read, pdo-in, identifier-in, count-in, entry-in, type-in, clash}
-use Rattle.theorems.proofs.Words.{or-false-left, or-false-right, or-both-false, and-false-if, and-then-false, not-false, any-false-in}
-use Rattle.theorems.proofs.Words.{any-false-of, eqb-comm, either, false-not, implied, implies}
+use Rattle.theorems.proofs.Words.{each-in, and-left, and-right, and-both, all-in, within, same-or-apart, read-apart, read-same, all-of}
+use Rattle.theorems.proofs.Words.{unpacked-table, words-read, pdo-in, identifier-in, count-in, entry-in, type-in, clash, or-false-left}
+use Rattle.theorems.proofs.Words.{or-false-right, or-both-false, and-false-if, and-then-false, not-false, any-false-in, any-false-of, eqb-comm}
+use Rattle.theorems.proofs.Words.{either, false-not, implied, implies}
 use Rattle.rules_dictionary.specs.Numbers.{bit, between, any, all, value}
 use Rattle.rules_dictionary.specs.Table.{pdos, directionOf, Row, table, sizeOf, dictionaryLength, isConstant, identifier, mapCount, mapEntry}
-use Rattle.rules_dictionary.specs.Table.{mapSlots, transmissionType, wordIndex, wordSubindex, Found, found, noObject, noSubindex, lookup}
+use Rattle.rules_dictionary.specs.Table.{mapSlots, transmissionType}
 use Rattle.rules_dictionary.specs.Legal.{badIdentifier, clashes, isValid, frameIdentifier, reservedBits, transmits, transmitBit, firstIdentifier}
 use Rattle.rules_dictionary.specs.Legal.{lastIdentifier, entryVerdict, countVerdict, mapWords, identifiers, valueVerdict, otherBadValue}
 use Rattle.rules_dictionary.specs.Legal.{mappingVerdict}
 use Rattle.rules_dictionary.specs.Values.{Write, write, read, store, defaultOf, unpacked}
-use Rattle.rules_dictionary.specs.{Aborts.isGood, Aborts.firstOf, Plans.andThen, Plans.targets, Plans.mapped}
+use Rattle.rules_dictionary.specs.{Aborts.isGood, Aborts.firstOf, Plans.targets, Plans.mapped}
 use Rattle.rules.specs.Sound.{constantsAsListed, inRange, valuesInRange, mappingLegal, mappingsLegal, identifiersLegal, dictionarySound, heldSound}
 use Rattle.rules_services.specs.PdoTraffic.{works, typeOf, areLegal}
 
@@ -119,10 +120,10 @@ unfolding identifiers
 named-at d i = of-pdo (λ q. read d (identifier q)) 0 i
 
 -- what the clauses ask of a value in its row
-listed : ℕ → Write → Bool
+unfoldable pub listed : ℕ → Write → Bool
 listed n w = not (isConstant (w .row .access)) || eqb (w .value) (defaultOf n (w .row))
 
-ranged : Write → Bool
+unfoldable pub ranged : Write → Bool
 ranged w = inRange (w .row) (w .value)
 
 pub from-test : (n : ℕ) (d : List ℕ) → dictionarySound n d ≡ true → DictionaryOk n d
@@ -269,23 +270,6 @@ isPdo (PdoIdentifier p) = true
 isPdo (PdoType p) = true
 isPdo (MappingCount p) = true
 isPdo (MappingEntry p) = true
-
--- ---- what a mapping names stands in the table
-
-targets-in : (ws : List ℕ) {x : Row} → In x (targets ws) → In x table
-unfolding targets andThen
-targets-in [] i = absurd (none-in i)
-targets-in (w ∷ ws) {x} i = go (lookup (wordIndex w) (wordSubindex w)) refl i (λ j. targets-in ws j)
-  where
-    go : (f : Found) → lookup (wordIndex w) (wordSubindex w) ≡ f → In x (andThen f (targets ws)) → (In x (targets ws) → In x table) → In x table
-    go (found y) e here rest = found-in (wordIndex w) (wordSubindex w) e
-    go (found y) e (there j) rest = rest j
-    go noObject e j rest = rest j
-    go noSubindex e j rest = rest j
-
-pub mapped-in : (d : List ℕ) (p : ℕ) {x : Row} → In x (mapped d p) → In x table
-unfolding mapped
-mapped-in d p i = targets-in _ i
 
 -- ---- two dictionaries
 

@@ -1,52 +1,13 @@
 -- The drive stays sound through every command, mode and event: the store, both marks and the cause stay in their place.
 -- Assumes nothing.
-use Rattle.theorems.proofs.Words.{ℕ, _≡_, refl, sym, _∙_, ap, Bool, true, false, not, _&&_, _||_, or-true, and-eq-true-iff, List, [], _∷_}
-use Rattle.theorems.proofs.Words.{DriveState, NotReady, SwitchOnDisabled, ReadyToSwitchOn, SwitchedOn, OperationEnabled, QuickStopActive}
-use Rattle.theorems.proofs.Words.{FaultReactionActive, Fault, Store, Empty, Rested, Moving, Queued, Drive, Command, None, FaultReset}
-use Rattle.theorems.proofs.Words.{DisableVoltage, QuickStop, Shutdown, SwitchOn, Enable, In, here, there, and-left, and-right, and-both}
-use Rattle.theorems.proofs.Words.{or-left, all-in, clash, by-test, whichever, implied, implies}
-use Rattle.rules_dictionary.specs.{Numbers.all, Numbers.bit, Table.controlWord, Table.mode, Values.read}
+use Rattle.theorems.proofs.Words.{ℕ, _≡_, refl, sym, _∙_, ap, Bool, true, false, not, _&&_, _||_, or-true, and-eq-true-iff, List, DriveState}
+use Rattle.theorems.proofs.Words.{Store, Empty, Rested, Moving, Queued, Drive, Command, and-left, and-right, and-both, or-left, clash, by-test}
+use Rattle.theorems.proofs.Words.{whichever, implied, implies, on-ways}
+use Rattle.rules_dictionary.specs.{Numbers.bit, Table.controlWord, Table.mode, Values.read}
 use Rattle.drive.specs.DriveStates.{isFaulty, command, next}
 use Rattle.drive.specs.SetPoints.{positions, emptied, enters, withState, withMode, withStore, isEmpty, isMoving, isQueued, reached, withTaken}
 use Rattle.drive.specs.SetPoints.{offered, target, withinLimits, setPointRule, modeWritten, modeOf, controlWritten, newSetPointBit, atOnceBit}
 use Rattle.rules.specs.Sound.{storeInPlace, takenInPlace, causeInPlace, driveSound}
-
--- ---- a test of every state, and of every command in it, with a cause and without
-
-abbrev pub states : List DriveState
-states =
-    NotReady ∷ SwitchOnDisabled ∷ ReadyToSwitchOn ∷ SwitchedOn ∷ OperationEnabled ∷ QuickStopActive ∷ FaultReactionActive ∷ Fault ∷ []
-
-state-in : (s : DriveState) → In s states
-state-in NotReady = here
-state-in SwitchOnDisabled = there here
-state-in ReadyToSwitchOn = there (there here)
-state-in SwitchedOn = there (there (there here))
-state-in OperationEnabled = there (there (there (there here)))
-state-in QuickStopActive = there (there (there (there (there here))))
-state-in FaultReactionActive = there (there (there (there (there (there here)))))
-state-in Fault = there (there (there (there (there (there (there here))))))
-
-abbrev pub commands : List Command
-commands = None ∷ FaultReset ∷ DisableVoltage ∷ QuickStop ∷ Shutdown ∷ SwitchOn ∷ Enable ∷ []
-
-command-in : (c : Command) → In c commands
-command-in None = here
-command-in FaultReset = there here
-command-in DisableVoltage = there (there here)
-command-in QuickStop = there (there (there here))
-command-in Shutdown = there (there (there (there here)))
-command-in SwitchOn = there (there (there (there (there here))))
-command-in Enable = there (there (there (there (there (there here)))))
-
-pub on-states : (f : DriveState → Bool) → all f states ≡ true → (s : DriveState) → f s ≡ true
-on-states f h s = all-in f (state-in s) h
-
-pub on-ways : (f : Bool → DriveState → Command → Bool) → all (λ s. all (λ c. f true s c && f false s c) commands) states ≡ true →
-    (b : Bool) (s : DriveState) (c : Command) → f b s c ≡ true
-on-ways f h b s c =
-    let k = all-in (λ c. f true s c && f false s c) (command-in c) (all-in (λ s. all (λ c. f true s c && f false s c) commands) (state-in s) h) in
-    elim b [ true ↦ and-left (f true s c) (f false s c) k | false ↦ and-right (f true s c) (f false s c) k ]
 
 -- ---- a sound drive, by its parts
 

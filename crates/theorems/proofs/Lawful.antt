@@ -1,9 +1,9 @@
 -- What a service owes: its effect is lawful. A sound state is, and what the call's end makes of paces, plans and frames is sound.
 -- Assumes nothing.
 use Rattle.theorems.proofs.Words.{ℕ, zero, suc, _+_, _<_, arith, _≡_, refl, sym, _∙_, ap, Bool, true, or-true, false≢true, pdo-in, ltb, all-in}
-use Rattle.theorems.proofs.Words.{and-eq-true-iff, List, [], _∷_, eq-eqb, eqb-true, eqb-false, lt-ltb, ltb-true, eqb, length, getD, Plan}
-use Rattle.theorems.proofs.Words.{PdoData, Drive, NmtState, Occasion, Pace, State, Paced, In, here, there, and-left, and-right, and-both}
-use Rattle.theorems.proofs.Words.{each-in, by-test}
+use Rattle.theorems.proofs.Words.{and-eq-true-iff, List, [], _∷_, eqb-true, eqb-false, lt-ltb, ltb-true, eqb, length, getD, Plan, PdoData}
+use Rattle.theorems.proofs.Words.{Drive, NmtState, Occasion, Pace, State, Paced, In, here, there, and-left, and-right, and-both, each-in}
+use Rattle.theorems.proofs.Words.{by-test, eqb-self}
 use Rattle.theorems.proofs.Dictionary.{DictionaryOk, from-test}
 use Rattle.state.specs.Occasions.{isSynced}
 use Rattle.rules_dictionary.specs.Table.{dictionaryLength, eachWay, pdos, receivePdos, transmitPdos, mode, modeDisplay}
@@ -49,9 +49,6 @@ node-lawful s d m b k ks fs law h w =
 pub same-refl {ℓ} : {A : Type ℓ} (f : A → A → Bool) → ((x : A) → f x x ≡ true) → (xs : List A) → sameBy f xs xs ≡ true
 same-refl f h [] = refl
 same-refl f h (x ∷ xs) = rw (h x) (same-refl f h xs)
-
-eqb-self : (n : ℕ) → eqb n n ≡ true
-eqb-self n = eq-eqb n n refl
 
 pub plan-refl : (p : Plan) → samePlan p p ≡ true
 plan-refl p = and-both _ _ (eqb-self (p .count)) (same-refl sameMove (λ m. and-both _ _ (eqb-self (m .place)) (eqb-self (m .size))) (p .moves))

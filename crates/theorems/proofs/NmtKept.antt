@@ -1,23 +1,22 @@
 -- NMT commands, power-up and events leave a lawful state.
 -- Assumes nothing.
-use Rattle.theorems.proofs.Words.{ℕ, suc, _+_, _^_, _<_, arith, _≡_, refl, sym, _∙_, ap₂, subst, ap, _⊎_, inl, inr, Bool, length-take}
-use Rattle.theorems.proofs.Words.{value-fits, all-take, pow-le-pow-right, _≤_, true, false, not, cond, _&&_, _||_, List, [], _∷_, map}
-use Rattle.theorems.proofs.Words.{append-nil, eqb-true, leb-true, ltb-true, ltb, leb, length, getD, take, bitOr, or-lt, NmtState}
-use Rattle.theorems.proofs.Words.{PreOperational, Operational, State, DisableVoltage, DriveState, FaultReactionActive, Fault, Plain, Event}
-use Rattle.theorems.proofs.Words.{Started, QuickStopDone, ReactionDone, SetPointReached, Tick, CauseGone, Feedback, Voltage, In, here, there}
-use Rattle.theorems.proofs.Words.{and-left, each-in, all-in, allBelow, on-nodes, none-in, and-both, words-read, identifier-in, count-in}
-use Rattle.theorems.proofs.Words.{entry-in, length-store, length-stored, read-same, read-apart, read-fits, within, same-or-apart, apart}
-use Rattle.theorems.proofs.Words.{found-in, isOperational, either, clash, not-false, implied}
+use Rattle.theorems.proofs.Words.{ℕ, suc, _+_, _^_, _<_, arith, _≡_, refl, sym, _∙_, ap₂, subst, ap, _⊎_, inl, inr, Bool, true, false, not}
+use Rattle.theorems.proofs.Words.{cond, _&&_, _||_, List, [], _∷_, map, append-nil, eqb-true, leb-true, ltb-true, ltb, leb, length, getD}
+use Rattle.theorems.proofs.Words.{bitOr, or-lt, NmtState, PreOperational, Operational, State, DisableVoltage, DriveState, FaultReactionActive}
+use Rattle.theorems.proofs.Words.{Plain, Event, Started, QuickStopDone, ReactionDone, SetPointReached, Tick, CauseGone, Feedback, Voltage, In}
+use Rattle.theorems.proofs.Words.{here, there, and-left, each-in, all-in, allBelow, on-nodes, none-in, and-both, words-read, identifier-in}
+use Rattle.theorems.proofs.Words.{count-in, entry-in, length-store, length-stored, read-same, read-apart, read-fits, within, same-or-apart}
+use Rattle.theorems.proofs.Words.{apart, found-in, isOperational, either, clash, not-false, implied, on-states}
 use Rattle.theorems.proofs.Dictionary.{DictionaryOk, map-same, isPdo}
 use Rattle.theorems.proofs.Settled.{mode-in, control-in, drive-may, whole-range, status-in, display-in}
 use Rattle.theorems.proofs.Lawful.{Lawful, Waits, drive-lawful, pairwise-map, count-at, sound-lawful, node-lawful}
-use Rattle.theorems.proofs.DriveKept.{parts, enters-sound, next-cause, emptied-same, on-states, enters-store, emptied-taken}
+use Rattle.theorems.proofs.DriveKept.{parts, enters-sound, next-cause, emptied-same, enters-store, emptied-taken}
 use Rattle.theorems.proofs.Writes.{spared, in-cons, filtered, filter-in, defaults-within, idle as unworking, idle-held, store-lawful}
 use Rattle.rules_dictionary.specs.Table.{Row, table, sizeOf, dictionaryLength, isConstant, pdos, receivePdos, eachWay, mode, controlWord, identifier}
 use Rattle.rules_dictionary.specs.Table.{isReset, statusWord, modeDisplay, mapCount, mapEntry, mapSlots, open-table, whole, errorCode, errorRegister}
 use Rattle.rules_dictionary.specs.Table.{position, velocity, heartbeatTime}
 use Rattle.rules_dictionary.specs.Legal.{isCyclic, entryVerdict, countVerdict, mapWords, identifiers, badIdentifier, open-legal}
-use Rattle.rules_dictionary.specs.{Numbers.all, Numbers.filter, Numbers.value, Numbers.areBytes, TheNode.lastNode, TheNode.isNodeId, Values.Write}
+use Rattle.rules_dictionary.specs.{Numbers.all, Numbers.filter, Numbers.areBytes, TheNode.lastNode, TheNode.isNodeId, Values.Write}
 use Rattle.rules_dictionary.specs.{Values.read, Values.store, Values.stored, Values.defaultOf, Values.toDefaults, Aborts.isGood, Aborts.open-aborts}
 use Rattle.rules_dictionary.proofs.Defaults.{defaults-in-range}
 use Rattle.drive.specs.DriveStates.{next, isNotReady, isQuickStop, isFaulty}
@@ -215,13 +214,6 @@ reset-lawful s d law =
       heartbeat = refl;
       waits = none-waits PreOperational _;
     }
-
--- ---- values of arguments fit
-
-pub value-take : (k : ℕ) (bs : List ℕ) → areBytes bs ≡ true → value (take k bs) < 256 ^ k
-value-take k bs h =
-    let short : length (take k bs) ≤ k = rw length-take (omega arith) in
-    omega (arith, value-fits (take k bs) (all-take k bs h), pow-le-pow-right {n = 256} (omega arith) short)
 
 -- ---- a plain row of the drive, written
 

@@ -1,11 +1,12 @@
 -- Received frames: what a legal mapping maps, rows of its direction and eight bytes at the most; what such a frame writes, by values that SDO
 -- would take; and what may be held.
 -- Assumes nothing.
-use Rattle.theorems.proofs.Words.{ℕ, zero, suc, _*_, _-_, _^_, _<_, _≤_, _+_, arith, zero-add, suc-add, _≡_, refl, sym, _∙_, ap, subst, ap₂}
-use Rattle.theorems.proofs.Words.{_⊎_, inl, inr, Bool, true, false, not, _&&_, _||_, and-eq-true-iff, Bool·not-not, List, [], _∷_, map}
-use Rattle.theorems.proofs.Words.{eqb-true, ltb-true, ltb-false, eqb, ltb, length, take, drop, getD, set, length-take-le, take-take, take-nil}
-use Rattle.theorems.proofs.Words.{PdoData, NmtState, State, In, here, there, and-left, and-right, none-in, all-in, each-in, all-of, in-left}
-use Rattle.theorems.proofs.Words.{length-store, either, by-match, false-not, clash, implied, or-false-left, or-false-right, not-false}
+use Rattle.theorems.proofs.Words.{ℕ, zero, suc, _*_, _^_, _<_, _≤_, _+_, arith, zero-add, suc-add, _≡_, refl, sym, _∙_, ap, subst, ap₂, _⊎_}
+use Rattle.theorems.proofs.Words.{inl, inr, Bool, true, false, not, _&&_, _||_, and-eq-true-iff, Bool·not-not, List, [], _∷_, map, eqb-true}
+use Rattle.theorems.proofs.Words.{ltb-true, ltb-false, eqb, ltb, length, take, drop, getD, set, length-take-le, take-take, take-nil, PdoData}
+use Rattle.theorems.proofs.Words.{NmtState, State, In, here, there, and-left, and-right, none-in, all-in, each-in, all-of, in-left}
+use Rattle.theorems.proofs.Words.{length-store, either, by-match, false-not, clash, implied, or-false-left, or-false-right, not-false, is-good}
+use Rattle.theorems.proofs.Words.{all-leading, take-padded}
 use Rattle.theorems.proofs.Dictionary.{DictionaryOk, store-ok, entries-good, isPdo, mapped-in}
 use Rattle.theorems.proofs.{Writes.in-cons, Writes.MayApply, Settled.drive-may, SdoKept.GoodValue, SdoKept.good-passes, SdoKept.good-value}
 use Rattle.theorems.proofs.{SdoKept.good-range, Lawful.Lawful, Lawful.data-refl, Lawful.pairwise-at, Lawful.node-lawful}
@@ -14,7 +15,7 @@ use Rattle.rules_dictionary.specs.Table.{mapSlots, wordIndex, wordSubindex, wor
 use Rattle.rules_dictionary.specs.Table.{dictionaryLength}
 use Rattle.rules_dictionary.specs.Values.{Write, write, read, store, stored, unpacked}
 use Rattle.rules_dictionary.specs.Legal.{suits, targetVerdict, entryVerdict, countVerdict, mapWords, mostBits, valueVerdict, isAbove, isSynchronous}
-use Rattle.rules_dictionary.specs.{Numbers.all, Numbers.sum, Numbers.value, Numbers.padded, Aborts.Verdict, Aborts.good, Aborts.bad, Aborts.isGood}
+use Rattle.rules_dictionary.specs.{Numbers.all, Numbers.sum, Numbers.value, Numbers.padded, Aborts.good, Aborts.isGood}
 use Rattle.rules_dictionary.specs.{Plans.andThen, Plans.targets, Plans.mapped, Plans.pdoData}
 use Rattle.rules_services.specs.PdoTraffic.{mappedLength, areLegal, works, typeOf, noData, isHeld}
 use Rattle.rules_services.specs.Effects.{withHeld}
@@ -26,10 +27,6 @@ record Names (p w : ℕ) (y : Row) : Type 0 where
   finds : lookup (wordIndex w) (wordSubindex w) ≡ found y
   way : suits (directionOf p) (y .mappable) ≡ true
   length : wordLength w ≡ 8 * sizeOf y
-
-is-good : (v : Verdict) → isGood v ≡ true → v ≡ good
-is-good good h = refl
-is-good (bad a) h = clash false h refl
 
 named : (p w : ℕ) (f : Found) → lookup (wordIndex w) (wordSubindex w) ≡ f → targetVerdict (directionOf p) w f ≡ good → (y : Row) × Names p w y
 unfolding targetVerdict
@@ -76,16 +73,11 @@ targets-of p (w ∷ ws) h =
 
 -- ---- of a PDO with a legal mapping
 
-all-take : {A : Type 0} (f : A → Bool) (n : ℕ) (xs : List A) → all f xs ≡ true → all f (take n xs) ≡ true
-all-take f zero xs h = refl
-all-take f (suc n) [] h = refl
-all-take f (suc n) (x ∷ xs) h = rw (and-left (f x) (all f xs) h) (all-take f n xs (and-right (f x) (all f xs) h))
-
 module _ {n : ℕ} {d : List ℕ} (ok : DictionaryOk n d) {p : ℕ} (i : In p pdos) where
   targets-now : Targets p (take (read d (mapCount p)) (mapWords d p))
   targets-now =
       targets-of p (take (read d (mapCount p)) (mapWords d p))
-      (all-take (λ w. isGood (entryVerdict p w)) (read d (mapCount p)) (mapWords d p)
+      (all-leading (λ w. isGood (entryVerdict p w)) (read d (mapCount p)) (mapWords d p)
       (entries-good d i ∙ all-of (λ k. isGood (entryVerdict p (read d (mapEntry p k)))) mapSlots (λ k j. ok .words p k i j)))
 
   pub mapped-way : (x : Row) → In x (mapped d p) → suits (directionOf p) (x .mappable) ≡ true
@@ -199,13 +191,6 @@ pub none-sound : (m : NmtState) (d : List ℕ) (p : ℕ) → heldSound m d p noD
 unfolding heldSound
 none-sound m d p = refl
 
--- a frame's own bytes come back out of its eight
-take-padded : (k : ℕ) (xs : List ℕ) → length xs ≤ k → take (length xs) (padded 0 k xs) ≡ xs
-take-padded zero [] h = refl
-take-padded zero (x ∷ xs) h = absurd (omega arith)
-take-padded (suc k) [] h = refl
-take-padded (suc k) (x ∷ xs) h = ap (λ (l : List ℕ). x ∷ l) (take-padded k xs (omega arith))
-
 drop-take : (n m : ℕ) (l : List ℕ) → drop n (take (n + m) l) ≡ take m (drop n l)
 drop-take zero m l = ap (λ (k : ℕ). take k l) (zero-add m)
 drop-take (suc n) m [] = rw suc-add (sym (take-nil m))
@@ -237,7 +222,7 @@ new-held n d {p} bs m ok i w c long legal =
     let front = take k bs in
     let l : length front ≡ k = length-take-le k bs long in
     let back : take k (padded 0 8 front) ≡ front =
-    ap (λ (j : ℕ). take j (padded 0 8 front)) (sym l) ∙ take-padded 8 front (rw l (mapped-short ok (in-left transmitPdos i))) in
+    ap (λ (j : ℕ). take j (padded 0 8 front)) (sym l) ∙ take-padded 0 8 front (rw l (mapped-short ok (in-left transmitPdos i))) in
     let all-legal = ap (areLegal d) (unpacked-same (mapped d p) (padded 0 8 front) bs back) ∙ legal in
     elim (either (isHeld (pdoData front))) [
       | inl e ↦ rw (e, w, c, all-legal) (rw back (rw (data-refl (pdoData front))))

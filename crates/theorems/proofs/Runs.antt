@@ -9,18 +9,18 @@ use Rattle.theorems.proofs.Words.{eq-eqb, eqb-true, le-leb, ltb-true, e
 use Rattle.theorems.proofs.Words.{DictionaryLength, OutputLength, NodeId, NotSound, BadFrame, BadEvent, OutOfPlace, Event, Started}
 use Rattle.theorems.proofs.Words.{QuickStopDone, ReactionDone, SetPointReached, Tick, CauseGone, Feedback, Voltage, Told, Happened, Bad}
 use Rattle.theorems.proofs.Words.{and-left, and-right, stored-bytes, store-bytes, length-stored, all-drop, clash, by-match, or-either}
-use Rattle.theorems.proofs.Words.{not-false, false-not}
+use Rattle.theorems.proofs.Words.{not-false, false-not, value-take}
 use Rattle.theorems.proofs.Settled.{settled-length, status-fits, mode-fits, settled-status, settled-display, settled-motion, status-same}
 use Rattle.theorems.proofs.Lawful.{Lawful, finally, sound-lawful, drive-lawful, node-lawful, at-end-lawful, paced-sound, same-refl, plan-refl}
 use Rattle.theorems.proofs.Lawful.{data-refl, same-rules}
 use Rattle.theorems.proofs.NmtKept.{LawfulAfter, fresh-lawful, start-lawful, left-lawful, disabled-lawful, reset-lawful, status-row}
-use Rattle.theorems.proofs.NmtKept.{display-row, ArgumentsFit, value-take, enters-lawful, gone-lawful, fault-lawful, plain-lawful}
+use Rattle.theorems.proofs.NmtKept.{display-row, ArgumentsFit, enters-lawful, gone-lawful, fault-lawful, plain-lawful}
 use Rattle.theorems.proofs.NmtKept.{position-row, velocity-row}
 use Rattle.theorems.proofs.{Dictionary.to-test, DriveKept.reached-sound, Writes.stored-append, Writes.applied-lawful, PdoKept.held-lawful}
 use Rattle.theorems.proofs.{PdoKept.new-held, Services.Serves, Services.Releases, Services.framed-serves, Services.event-serves}
 use Rattle.drive.specs.SetPoints.{withStore, reached as reachedBy}
 use Rattle.rules_services.specs.{Effects.Effect, Effects.andThen, Effects.withHeld, Written.applied, Nmt.commanded, Nmt.voltageDisabled, Nmt.powerUp}
-use Rattle.rules_services.specs.{declared.Event.the-variants.Fault, Events.eventOf, Events.provided, Events.isInPlace, Events.happens}
+use Rattle.rules_services.specs.{declared.Event.the-variants.Fault, Events.eventOf, Events.provided, Events.isInPlace}
 use Rattle.rules.specs.Outcome.{ended, settled, mostData, statusOf, transmitters, paceFor, samePlan, sameData}
 use Rattle.rules.specs.Sound.{sound, heartbeatSound, statusAsMade, modeAsMade, plansFresh, readyFresh, waitingSound, paceSound}
 use Rattle.rules.specs.Calls.{Call, powerUpCall, frameCall, eventCall, Decision, refuses as refusedBy, does as performs, eventDecision, decision}
@@ -131,10 +131,6 @@ lawful {s = s} {d = d} (Serves.counts e) k b law =
 lawful {s = s} {d = d} Serves.beats k b law =
     node-lawful s d (s .node .nmt) (s .node .voltage) 0 (s .axis .paces) (s .axis .held) law refl (law .waits)
 
-pub event-lawful : (e : Event) (s : State) (d : List ℕ) → Lawful s d → areBytes d ≡ true → isInPlace e s ≡ true → ArgumentsFit e →
-    LawfulAfter d (happens e s d)
-event-lawful e s d law b placed fits = lawful (event-serves Unit s d e (λ k. placed) (λ k. fits)) tt b law
-
 -- ---- events' arguments
 
 abbrev pub ToldFits : Told → Type 0
@@ -207,7 +203,7 @@ module _ (s : State) (d : List ℕ) where
 
 -- ---- the step
 
-abbrev standing : Outcome → Stand
+abbrev pub standing : Outcome → Stand
 standing u = record { state = u .state; dictionary = u .dictionary }
 
 answered-holds : {c : Call} {x : Decision} (a : Stand) (o : List ℕ) → Decides (a .state) (a .dictionary) c x → octets c ≡ true → Holds a →

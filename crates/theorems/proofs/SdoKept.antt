@@ -3,9 +3,9 @@
 use Rattle.theorems.proofs.Words.{ℕ, _^_, _<_, _≡_, refl, sym, _∙_, ap, _⊎_, inl, inr, true, false, not, _||_, Bool·not-not, List, [], _∷_}
 use Rattle.theorems.proofs.Words.{eqb-true, eqb, drop, NmtState, PreOperational, Operational, Stopped, State, Role, Plain, ModeOfOperation}
 use Rattle.theorems.proofs.Words.{PdoIdentifier, PdoType, MappingCount, MappingEntry, Access, Constant, NodeWritten, Writable, In, all-drop}
-use Rattle.theorems.proofs.Words.{isPreOperational, isOperational, clash, by-match, or-false-left, or-false-right, false-not}
+use Rattle.theorems.proofs.Words.{isPreOperational, isOperational, clash, by-match, or-false-left, or-false-right, false-not, value-take}
 use Rattle.theorems.proofs.Dictionary.{MayHold, store-ok, isPdo}
-use Rattle.theorems.proofs.{Lawful.Lawful, Writes.MayApply, Writes.one-row, NmtKept.value-take}
+use Rattle.theorems.proofs.{Lawful.Lawful, Writes.MayApply, Writes.one-row}
 use Rattle.rules_dictionary.specs.Table.{Row, table, sizeOf, isConstant, isWritable, identifier, mapCount}
 use Rattle.rules_dictionary.specs.Aborts.{Verdict, good, bad, isGood, Test, firstOf}
 use Rattle.rules_dictionary.specs.Legal.{valueVerdict, otherBadValue, mappingVerdict, badChoice, isValid, isBelow, isAbove}

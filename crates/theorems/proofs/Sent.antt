@@ -3,12 +3,12 @@
 use Rattle.theorems.proofs.Words.{ℕ, suc, _+_, _<_, _≤_, zero, _*_, _/_, _%_, arith, _≡_, refl, sym, _∙_, ap, ap₂, subst, _⊎_, inl, inr, Bool}
 use Rattle.theorems.proofs.Words.{true, false, not, _||_, _&&_, and-eq-true-iff, List, [], _∷_, _++_, map, append-nil, append-assoc, le-leb}
 use Rattle.theorems.proofs.Words.{eq-eqb, lt-ltb, leb-true, length, getD, take, length-append, length-take, drop, leb, drop-drop, PdoData}
-use Rattle.theorems.proofs.Words.{DriveState, Drive, Command, NmtState, PreOperational, Operational, Stopped, State, Paced, Event, In, here}
-use Rattle.theorems.proofs.Words.{there, and-both, and-left, and-right, all-drop, part-bytes, all-take, store-bytes, stored-bytes}
-use Rattle.theorems.proofs.Words.{length-store, length-stored, bytes-are, read-fits, within, isStopped, all-both, either, by-match, clash}
-use Rattle.theorems.proofs.Words.{implied, not-false, by-test, whichever}
-use Rattle.theorems.proofs.Services.{Serves, Releases, Before, longer, event-serves}
-use Rattle.theorems.proofs.{Lawful.finally, DriveKept.on-ways, DriveKept.emptied-same, DriveKept.rule-same, NmtKept.ArgumentsFit}
+use Rattle.theorems.proofs.Words.{DriveState, Drive, Command, NmtState, PreOperational, Operational, Stopped, State, Paced, In, here, there}
+use Rattle.theorems.proofs.Words.{and-both, and-left, and-right, all-drop, part-bytes, all-take, store-bytes, stored-bytes, length-store}
+use Rattle.theorems.proofs.Words.{length-stored, bytes-are, read-fits, within, isStopped, all-both, either, by-match, clash, implied}
+use Rattle.theorems.proofs.Words.{not-false, by-test, whichever, on-ways, length-padded}
+use Rattle.theorems.proofs.Services.{Serves, Releases, Before, longer}
+use Rattle.theorems.proofs.{Lawful.finally, DriveKept.emptied-same, DriveKept.rule-same}
 use Rattle.theorems.proofs.{Runs.run-holds, Runs.ended-bytes, Runs.Decides, Runs.decides, Demands.ready-at, Settled.register-in}
 use Rattle.rules_dictionary.specs.{Numbers.all, Numbers.areBytes, Numbers.isByte, Numbers.padded, Numbers.bytes, Numbers.filter, Numbers.part}
 use Rattle.rules_dictionary.specs.{Table.Row, Table.sizeOf, Table.mostMoves, Table.identifier, Table.dictionaryLength, Table.controlWord, Table.mode}
@@ -20,22 +20,17 @@ use Rattle.rules_services.specs.Effects.{Frame, frame, Effect, andThen, withDri
 use Rattle.rules_services.specs.Written.{wrote, countRestarted, modeActed, faultReset, controlActed, applied}
 use Rattle.rules_services.specs.Nmt.{commanded, powerUp, freshState, left, voltageDisabled, stateByte, heartbeatBase}
 use Rattle.rules_services.specs.{Emergency.emergency, Emergency.faultGone, Emergency.emergencyBase, Sdo.dataSize, Sdo.reply, Sdo.downloaded}
-use Rattle.rules_services.specs.{Sdo.replyBase, PdoTraffic.noData, PdoTraffic.transmitted, Events.happens, Events.isInPlace, Events.faulted}
+use Rattle.rules_services.specs.{Sdo.replyBase, PdoTraffic.noData, PdoTraffic.transmitted, Events.faulted}
 use Rattle.rules.specs.Outcome.{ended, settled, paceFor, transmissions, transmitters, mostData, encoded, sentInto, frameSize}
 use Rattle.rules.specs.Calls.{Call, Decision, refuses, does as performs, refused, accepted, answered, answer}
 use Rattle.rules_dictionary.proofs.Defaults.{length-bytes}
+use Rattle.rules.proofs.Encoded.{length-encoded}
 use Rattle.theorems.specs.Promises.{octets, reached, Ordered, laid, FramesOf, AtMostSixInOrder, OutputOfBytes, isOn, ElevenBytes, Stand}
 
 -- ---- eleven bytes
 
-pub length-padded : (k : ℕ) (xs : List ℕ) → length (padded 0 k xs) ≡ k
-length-padded zero xs = refl
-length-padded (suc k) [] = ap suc (length-padded k [])
-length-padded (suc k) (x ∷ xs) = ap suc (length-padded k xs)
-
 pub eleven-bytes : ElevenBytes
-unfolding encoded bytes
-eleven-bytes f = ap (λ (k : ℕ). suc (suc (suc k))) (length-padded mostData (f .content))
+eleven-bytes f = length-encoded f
 
 pub laid-out : (fs : List Frame) (o : List ℕ) → sentInto o fs ≡ laid fs ++ drop (frameSize * length fs) o
 unfolding sentInto laid
@@ -298,10 +293,6 @@ module _ {K : Type 0} {s : State} {d : List ℕ} (k : K) (b : areBytes d ≡ tru
   speaks (Serves.counts e) = (refl, silent (s .node .id))
   speaks Serves.beats = (refl, beat-spoken (s .node .id) (stateByte (s .node .nmt)) (byte-small (s .node .nmt)))
 
-pub event-speaks : (e : Event) (s : State) (d : List ℕ) → areBytes d ≡ true → length d ≡ dictionaryLength → isInPlace e s ≡ true → ArgumentsFit e →
-    SpeaksAs (s .node .id) (happens e s d)
-event-speaks e s d b l placed fits = speaks tt b l (event-serves Unit s d e (λ k. placed) (λ k. fits))
-
 -- ---- what a decision says
 
 abbrev Said : Decision → Type 0
@@ -388,7 +379,7 @@ unfolding transmitted readyFor pdoData
 pdo-octet d {t} h i =
     let l = joined d (mapped d (eachWay + t)) in
     let content = take (length l) (padded 0 mostMoves l) in
-    let short : length content ≤ mostData = rw (length-take, length-padded mostMoves l) (omega arith) in
+    let short : length content ≤ mostData = rw (length-take, length-padded 0 mostMoves l) (omega arith) in
     rw (ready-at d i) (and-both (areBytes content) _
     (all-take (length l) (padded 0 mostMoves l) (padded-bytes mostMoves l (joined-bytes d (mapped d (eachWay + t)) h)))
     (le-leb (length content) mostData short))

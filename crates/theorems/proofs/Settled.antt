@@ -1,32 +1,28 @@
 -- Making 6041h and 6061h leaves all else as it was, and the status word does not read itself.
 -- Assumes nothing.
-use Rattle.theorems.proofs.Words.{ℕ, _-_, _^_, _<_, _≤_, arith, _≡_, refl, _∙_, ap, inl, inr, Bool, true, false, cond, List, le-ltb, leb-true}
-use Rattle.theorems.proofs.Words.{leb, length, Mode, NoMode, ProfilePosition, ProfileVelocity, Store, Empty, Rested, Moving, Queued, Drive}
-use Rattle.theorems.proofs.Words.{State, Plain, In, apart, same-or-apart, found-in, within, read-apart, read-same, length-store, clash}
-use Rattle.theorems.proofs.Words.{whichever}
-use Rattle.theorems.proofs.{DriveKept.on-states, Dictionary.MayHold, Dictionary.isPdo}
+use Rattle.theorems.proofs.Words.{ℕ, _-_, _^_, _<_, _≤_, arith, _≡_, refl, _∙_, ap, inl, inr, Bool, true, false, cond, List, le-ltb, length}
+use Rattle.theorems.proofs.Words.{Mode, NoMode, ProfilePosition, ProfileVelocity, Store, Empty, Rested, Moving, Queued, Drive, State, Plain}
+use Rattle.theorems.proofs.Words.{In, apart, same-or-apart, found-in, within, read-apart, read-same, length-store, clash, whichever}
+use Rattle.theorems.proofs.{Dictionary.MayHold, Dictionary.isPdo}
 use Rattle.rules_dictionary.specs.Table.{errorRegister, heartbeatTime, Row, table, sizeOf, dictionaryLength, statusWord, modeDisplay, mode}
 use Rattle.rules_dictionary.specs.Table.{controlWord, position, positionWindow, velocity, velocityWindow, velocityThreshold, targetVelocity}
 use Rattle.rules_dictionary.specs.Table.{isConstant, whole, size, open-table}
 use Rattle.rules_dictionary.specs.{Values.read, Values.store, Legal.modeNumber}
-use Rattle.drive.specs.DriveStates.{stateWord, isEnabled}
-use Rattle.drive.specs.StatusWord.{status, enabledBits, ackInMode, reachedInMode, positionReached, velocityReached, standsStill, flag, slow, near}
+use Rattle.drive.specs.DriveStates.{isEnabled}
+use Rattle.drive.specs.StatusWord.{status, enabledBits, ackInMode, reachedInMode, positionReached, velocityReached, standsStill, slow, near}
+use Rattle.drive.specs.StatusWord.{voltageShown, remoteShown}
+use Rattle.drive.proofs.Shown.{shown-most, state-word-most, enabled-most}
 use Rattle.rules.specs.{Outcome.settled, Outcome.statusOf, Sound.inRange}
 use Rattle.rules.proofs.AtEnd.{SameRules}
 
 -- ---- the status word fits its row
 
-flag-le : (k : ℕ) (b : Bool) → flag k b ≤ 2 ^ k
-flag-le k true = omega arith
-flag-le k false = omega arith
-
 pub status-fits : (remote voltage : Bool) (v : Drive) (d : List ℕ) → status remote voltage v d < 256 ^ 2
-unfolding status enabledBits
+unfolding status
 status-fits remote voltage v d =
-    let bits : enabledBits v d ≤ 0x1C00 =
-    omega (arith, flag-le 12 (ackInMode (v .mode) v d), flag-le 11 (v .limit), flag-le 10 (reachedInMode (v .mode) v d)) in
+    let bits = enabled-most remote voltage v d in
     let h : cond (isEnabled (v .state)) (enabledBits v d) 0 ≤ 0x1C00 = whichever (λ k. k ≤ 0x1C00) (isEnabled (v .state)) bits (omega arith) in
-    omega (arith, leb-true (stateWord (v .state)) 0x40 (on-states (λ s. leb (stateWord s) 0x40) refl (v .state)), flag-le 4 voltage, flag-le 9 remote)
+    omega (arith, state-word-most (v .state), shown-most (2 ^ voltageShown) voltage, shown-most (2 ^ remoteShown) remote)
 
 -- ---- what the status word reads
 

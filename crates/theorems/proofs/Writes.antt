@@ -2,9 +2,9 @@
 -- Assumes nothing.
 pub use Rattle.rules_dictionary.proofs.Members.{in-cons, filtered, filter-in}
 use Rattle.theorems.proofs.Words.{ℕ, _+_, _^_, _<_, arith, _≡_, refl, sym, _∙_, ap, subst, _⊎_, inl, inr, true, false, not, _&&_, _||_}
-use Rattle.theorems.proofs.Words.{Bool·not-not, List, [], _∷_, _++_, append-nil, eq-eqb, eqb-true, eqb, PdoData, Drive, NmtState, Pace, State}
-use Rattle.theorems.proofs.Words.{In, here, there, and-right, and-both, none-in, apart, same-or-apart, read-apart, length-store, length-stored}
-use Rattle.theorems.proofs.Words.{field-stored, all-of, in-left, isOperational, clash, either, or-either, by-test, any-false-in}
+use Rattle.theorems.proofs.Words.{Bool·not-not, List, [], _∷_, _++_, append-nil, eqb-true, eqb, PdoData, Drive, NmtState, Pace, State, In}
+use Rattle.theorems.proofs.Words.{here, there, and-right, and-both, none-in, apart, same-or-apart, read-apart, length-store, length-stored}
+use Rattle.theorems.proofs.Words.{field-stored, all-of, in-left, isOperational, clash, either, or-either, by-test, any-false-in, same-self}
 use Rattle.theorems.proofs.Dictionary.{DictionaryOk, MayHold, store-ok, isPdo, held-alike, works-alike, type-alike}
 use Rattle.theorems.proofs.Settled.{drive-may, whole-range, mode-in, control-in, time-in, register-in}
 use Rattle.theorems.proofs.Lawful.{Lawful, Waits, pairwise-map, transmitter-in}
@@ -29,9 +29,6 @@ unfolding read
 spared x ws d i rows other =
     ap value (field-stored x ws d (all-of (λ w. apart (w .row) x) ws
     (λ w j. elim (same-or-apart (rows w j) i) [ inl e ↦ absurd (other w j e) | inr a ↦ a ])))
-
-same-self : (x : Row) → same x x ≡ true
-same-self x = rw (eq-eqb (x .index) (x .index) refl, eq-eqb (x .subindex) (x .subindex) refl)
 
 not-wrote : (x : Row) (ws : List Write) (d : List ℕ) → In x table → InTable ws → wrote x ws ≡ false → read (stored ws d) x ≡ read d x
 not-wrote x ws d i rows h = spared x ws d i rows (λ w j e. clash (same x (w .row)) (rw e (same-self x)) (any-false-in (λ w. same x (w .row)) j h))

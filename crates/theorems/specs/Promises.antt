@@ -15,7 +15,9 @@ use Rattle.state.specs.declared.State.{State}
 use Rattle.state.specs.declared.Refusal.the-variants.{Accepted, DictionaryLength, NotSound}
 use Rattle.rules_dictionary.specs.Numbers.{all, any, areBytes, filter, bit}
 use Rattle.rules_dictionary.specs.TheNode.{isNodeId}
-use Rattle.rules_dictionary.specs.Table.{Row, table, sizeOf, same, dictionaryLength, statusWord, mode, modeDisplay, controlWord, errorCode, errorRegister, position, velocity, identifier, mappingRows, eachWay, pdos, receivePdos, transmitPdos, Found, found, noObject, noSubindex, lookup, placeOf, isReset}
+use Rattle.rules_dictionary.specs.Table.{Row, table, sizeOf, same, dictionaryLength, placeOf, isReset, Found, found, noObject, noSubindex, lookup}
+use Rattle.rules_dictionary.specs.Table.{statusWord, mode, modeDisplay, controlWord, errorCode, errorRegister, position, velocity, identifier}
+use Rattle.rules_dictionary.specs.Table.{mappingRows, eachWay, pdos, receivePdos, transmitPdos}
 use Rattle.rules_dictionary.specs.Values.{Write, read, field, unpacked}
 use Rattle.rules_dictionary.specs.Aborts.{Abort, bad}
 use Rattle.rules_dictionary.specs.Plans.{mapped, planFor, readyFor, plansOf, readyOf, joined, pdoData}
@@ -26,15 +28,19 @@ use Rattle.rules_services.specs.Effects.{Frame, frame}
 use Rattle.state.specs.NmtStates.{isStopped}
 use Rattle.rules_services.specs.Emergency.{emergency, emergencyBase, pdoTooShort}
 use Rattle.rules_services.specs.declared.SdoCommand.{SdoCommand as Command}
-use Rattle.rules_services.specs.declared.SdoCommand.the-variants.{Download as download, Upload as upload, ClientAbort as clientAbort, Unknown as unknown}
+use Rattle.rules_services.specs.declared.SdoCommand.the-variants.{Download as download, Upload as upload}
+use Rattle.rules_services.specs.declared.SdoCommand.the-variants.{ClientAbort as clientAbort, Unknown as unknown}
 use Rattle.rules_services.specs.Sdo.{commandOf, commandByte, askedIndex, askedSubindex, downloadVerdict, requestBase, replyBase}
 use Rattle.rules_services.specs.PdoTraffic.{listens, mappedLength, areLegal, transmitted, noData, syncBase}
-use Rattle.rules_services.specs.Nmt.{nmtIdentifier, heartbeatBase, commandOf as nmtCommandOf, NmtCommand, start, stop, enterPreOperational, resetNode, resetCommunication, unknown as unknownNmt}
+use Rattle.rules_services.specs.Nmt.{nmtIdentifier, heartbeatBase, commandOf as nmtCommandOf}
+use Rattle.rules_services.specs.Nmt.{NmtCommand, start, stop, enterPreOperational, resetNode, resetCommunication, unknown as unknownNmt}
 use Rattle.rules_services.specs.declared.Told.{Told}
 use Rattle.rules_services.specs.declared.Told.the-variants.{Happened as event, Bad as badEvent}
 use Rattle.rules_services.specs.Events.{eventOf}
 use Rattle.rules_services.specs.declared.Event.{Event}
-use Rattle.rules_services.specs.declared.Event.the-variants.{Started as started, QuickStopDone as quickStopDone, ReactionDone as reactionDone, SetPointReached as setPointReached, Tick as tick, CauseGone as causeGone, Fault as fault, Feedback as feedback, Voltage as voltage}
+use Rattle.rules_services.specs.declared.Event.the-variants.{Started as started, QuickStopDone as quickStopDone, ReactionDone as reactionDone}
+use Rattle.rules_services.specs.declared.Event.the-variants.{SetPointReached as setPointReached, Tick as tick, CauseGone as causeGone, Fault as fault}
+use Rattle.rules_services.specs.declared.Event.the-variants.{Feedback as feedback, Voltage as voltage}
 use Rattle.rules.specs.Outcome.{statusOf, encoded, sentInto, frameSize, transmitters}
 use Rattle.rules.specs.Sound.{sound}
 use Rattle.rules.specs.Calls.{Call, powerUpCall, frameCall, eventCall, Decision, refuses, does as performs, decided, Outcome, answer, outputLength}
@@ -102,8 +108,10 @@ RefusedWriteChangesNothing = (r : Run) (rq o : List ℕ) (x : Row) (c : Abort) �
 
 -- "or a dropped process frame changes no object": one that is too short, or that holds a value SDO would refuse
 abbrev pub DroppedFrameChangesNothing : Type 0
-DroppedFrameChangesNothing = (r : Run) (p i : ℕ) (bs o : List ℕ) → areBytes bs ≡ true → In p receivePdos → listens i (reached r .state .node .nmt) (reached r .dictionary) p ≡ true →
-    (length bs < mappedLength (mapped (reached r .dictionary) p)) ⊎ (areLegal (reached r .dictionary) (unpacked (mapped (reached r .dictionary) p) bs) ≡ false) →
+DroppedFrameChangesNothing = (r : Run) (p i : ℕ) (bs o : List ℕ) → areBytes bs ≡ true → In p receivePdos →
+    listens i (reached r .state .node .nmt) (reached r .dictionary) p ≡ true →
+    (length bs < mappedLength (mapped (reached r .dictionary) p))
+    ⊎ (areLegal (reached r .dictionary) (unpacked (mapped (reached r .dictionary) p) bs) ≡ false) →
     does (record { call = frameCall i bs; output = o }) (reached r) .dictionary ≡ reached r .dictionary
 
 -- ---- demand 1 and 2, the frames: "eleven bytes a frame, one after another", "At most 6 frames. Order: SDO reply; emergencies in order of
@@ -179,8 +187,8 @@ idleAfterPowerUp (eventCall k xs) s d o = record { refusal = Accepted; frames = 
 
 abbrev pub ShutsOut : Type 0
 ShutsOut =
-    (keepsExamples answer ≡ true) × (keepsExamples refusesEverything ≡ false) × (keepsExamples constantReply ≡ false) × (keepsExamples doesNothing ≡ false)
-    × (keepsExamples sixFramesAlways ≡ false) × (keepsExamples idleAfterPowerUp ≡ false)
+    (keepsExamples answer ≡ true) × (keepsExamples refusesEverything ≡ false) × (keepsExamples constantReply ≡ false)
+    × (keepsExamples doesNothing ≡ false) × (keepsExamples sixFramesAlways ≡ false) × (keepsExamples idleAfterPowerUp ≡ false)
 
 -- ---- demand 3, "After each call the dictionary is the one demand 2's rules give": sound in every clause of document 01
 
@@ -292,11 +300,13 @@ ReadyFrameStays = (r : Run) (k : Step) (t : ℕ) → octets (k .call) ≡ true �
 -- "A receive path that was never tested on a short frame read missing bytes as zero": a process frame shorter than its mapping changes no
 -- object and sends 8210h, and nothing else
 abbrev pub ShortFrameChangesNothing : Type 0
-ShortFrameChangesNothing = (r : Run) (p i : ℕ) (bs o : List ℕ) → In p receivePdos → listens i (reached r .state .node .nmt) (reached r .dictionary) p ≡ true →
+ShortFrameChangesNothing = (r : Run) (p i : ℕ) (bs o : List ℕ) → In p receivePdos →
+    listens i (reached r .state .node .nmt) (reached r .dictionary) p ≡ true →
     length bs < mappedLength (mapped (reached r .dictionary) p) → outputLength ≤ length o →
     (does (record { call = frameCall i bs; output = o }) (reached r) .dictionary ≡ reached r .dictionary)
     × (does (record { call = frameCall i bs; output = o }) (reached r) .frames ≡ 1)
-    × (does (record { call = frameCall i bs; output = o }) (reached r) .output ≡ sentInto o (emergency pdoTooShort (reached r .state) (reached r .dictionary)))
+    × (does (record { call = frameCall i bs; output = o }) (reached r) .output
+    ≡ sentInto o (emergency pdoTooShort (reached r .state) (reached r .dictionary)))
 
 -- "mappings edited while a packed copy of the old one was still in use": after any call, so after any accepted mapping write, the plan and
 -- the ready frame of each PDO are those of the mapping that the dictionary now holds
@@ -314,7 +324,8 @@ abbrev pub SameStatusWord : Type 0
 SameStatusWord = (r : Run) (o : List ℕ) → outputLength ≤ length o → isStopped (reached r .state .node .nmt) ≡ false →
     (reached r .state .axis .ready ≡ map (λ p. pdoData (joined (reached r .dictionary) (mapped (reached r .dictionary) p))) transmitPdos)
     × (does (record { call = uploadStatus (reached r .state .node .id); output = o }) (reached r) .output
-    ≡ sentInto o (frame (replyBase + reached r .state .node .id) (0x4B ∷ 0x41 ∷ 0x60 ∷ 0x00 ∷ (field (reached r .dictionary) statusWord ++ (0x00 ∷ 0x00 ∷ []))) ∷ []))
+    ≡ sentInto o (frame (replyBase + reached r .state .node .id)
+    (0x4B ∷ 0x41 ∷ 0x60 ∷ 0x00 ∷ (field (reached r .dictionary) statusWord ++ (0x00 ∷ 0x00 ∷ []))) ∷ []))
 
 -- "set-points taken twice because somebody looked at the level of a bit and missed its edge"
 

@@ -22,7 +22,8 @@ use Rattle.rules.specs.Calls.{outputLength}
 use Rattle.output.specs.Laying.{emitted}
 use Rattle.output.proofs.Frames.{emitted-none, emitted-then, length-emitted}
 use Rattle.mapping.proofs.Filling.{filled, none-filled, one-filled}
-use Rattle.tpdo.specs.Sending.{mostBefore, isOpen, openPace, sentOne, turn, MaySend, SentBy}
+use Rattle.mapping.specs.Working.{isOpen}
+use Rattle.tpdo.specs.Sending.{mostBefore, openPace, sentOne, turn, MaySend, SentBy}
 
 -- an element of a list, whatever stands for one past its end
 pub any-default : {A : Type 0} (xs : List A) (i : ℕ) (x y : A) → i < length xs → getD xs i x ≡ getD xs i y
@@ -66,10 +67,19 @@ module _ (was : Bool) (occasion : Occasion) (nmt : NmtState) (kept : List PdoDat
     pub keeps : ks ≡ filled (λ i. turns i .kept) t allIdle
 
   pub none-yet : (n : ℕ) (o : List ℕ) → Reached n o o allIdle n 0
-  none-yet n o = record { far = omega arith; few = omega arith; long = refl; left = refl; output = refl; keeps = none-filled (λ i. turns i .kept) allIdle }
+  none-yet n o =
+      record {
+        far = omega arith;
+        few = omega arith;
+        long = refl;
+        left = refl;
+        output = refl;
+        keeps = none-filled (λ i. turns i .kept) allIdle;
+      }
 
   -- one more
-  pub one-more : {n : ℕ} {o o′ : List ℕ} {ks : List Pace} {frames t : ℕ} → Reached n o o′ ks frames t → t < eachWay → n ≤ mostBefore → outputLength ≤ length o →
+  pub one-more : {n : ℕ} {o o′ : List ℕ} {ks : List Pace} {frames t : ℕ} → Reached n o o′ ks frames t →
+      t < eachWay → n ≤ mostBefore → outputLength ≤ length o →
       (p : Paced) → p ≡ turns t → (content : PdoData) → content ≡ getD ready t noData → (k : ℕ) → k ≡ length (sentOne (p .send) d t content) →
       (o″ : List ℕ) → o″ ≡ emitted frames (sentOne (p .send) d t content) o′ → Reached n o o″ (set ks t (p .kept)) (frames + k) (t + 1)
   unfolding transmissions sentOne
@@ -115,8 +125,8 @@ module _ (was : Bool) (occasion : Occasion) (nmt : NmtState) (kept : List PdoDat
       rw (on, e, any-default kept t x noData (omega arith), any-default ready t x noData (omega arith), any-default paces t y idle (omega arith))
 
   -- a working one's count, in Operational
-  pub count-below : isOperational nmt ≡ true → MaySend nmt paces ready d → (t : ℕ) → t < eachWay → isOpen d t ≡ true → isCyclic (typeOf d (eachWay + t)) ≡ true →
-      getD paces t idle .count < typeOf d (eachWay + t)
+  pub count-below : isOperational nmt ≡ true → MaySend nmt paces ready d → (t : ℕ) → t < eachWay →
+      isOpen d (eachWay + t) ≡ true → isCyclic (typeOf d (eachWay + t)) ≡ true → getD paces t idle .count < typeOf d (eachWay + t)
   unfolding works
   count-below on may t h works′ cyclic = may .counts t h (rw on works′) cyclic
 

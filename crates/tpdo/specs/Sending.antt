@@ -4,20 +4,19 @@ use Prim.Native.Nat.{ℕ, _+_, _<_}
 use mathlib.Core.Path.{_≡_}
 use mathlib.Core.List.{List, [], _∷_, map}
 use mathlib.Core.Bool.{Bool, true, false, cond, not, _&&_, _||_}
-use lib.Dec.{ltb}
 use lib.ListN.{length, getD}
 use Rattle.rules_dictionary.specs.declared.PdoData.{PdoData}
 use Rattle.state.specs.declared.NmtState.{NmtState}
 use Rattle.state.specs.declared.Occasion.{Occasion}
 use Rattle.state.specs.declared.Pace.{Pace}
 use Rattle.state.specs.NmtStates.{isOperational}
-use Rattle.rules_dictionary.specs.Table.{dictionaryLength, eachWay, identifier, mapCount}
-use Rattle.rules_dictionary.specs.Values.{read}
-use Rattle.rules_dictionary.specs.Legal.{isValid, isCyclic}
+use Rattle.rules_dictionary.specs.Table.{dictionaryLength, eachWay}
+use Rattle.rules_dictionary.specs.Legal.{isCyclic}
 use Rattle.rules_services.specs.Effects.{Frame}
 use Rattle.rules_services.specs.declared.Paced.{Paced}
 use Rattle.rules_services.specs.PdoTraffic.{paced, paceOf, works, typeOf, transmitted, noData, idle}
 use Rattle.rules.specs.Outcome.{sameData, transmissions, transmitters}
+use Rattle.mapping.specs.Working.{isOpen}
 use Rattle.output.specs.Laying.{IsData, emitted}
 use Rattle.tpdo.specs.declared.Sent.{Sent}
 
@@ -27,13 +26,9 @@ mostBefore = 2
 
 -- ---- one transmit PDO in Operational
 
--- valid, with something mapped
-abbrev pub isOpen : List ℕ → ℕ → Bool
-isOpen d t = isValid (read d (identifier (eachWay + t))) && ltb 0 (read d (mapCount (eachWay + t)))
-
 -- its pace; `changed` is: this call changed its ready frame or entered Operational
 unfoldable pub openPace : List ℕ → ℕ → Occasion → Bool → Pace → Paced
-openPace d t occasion changed kept = cond (isOpen d t) (paceOf (typeOf d (eachWay + t)) occasion changed kept) (paced false 0 false)
+openPace d t occasion changed kept = cond (isOpen d (eachWay + t)) (paceOf (typeOf d (eachWay + t)) occasion changed kept) (paced false 0 false)
 
 -- its frame, where it is to be sent
 unfoldable pub sentOne : Bool → List ℕ → ℕ → PdoData → List Frame

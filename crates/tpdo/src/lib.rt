@@ -7,6 +7,12 @@ mod sending; // all of them, one after another
 pub use sending::transmit_all;
 use state::Pace;
 
+// Nothing counted, and not due.
+pub const IDLE: Pace = Pace {
+    count: 0,
+    due: false,
+};
+
 // What is kept of the transmit PDOs at a call's end, and how many frames stand in the output then.
 pub struct Sent {
     pub paces: [Pace; 4],

@@ -6,18 +6,17 @@ ghost use lib.ListN.{length};
 ghost use Rattle.rules_dictionary.specs.Table.{eachWay, dictionaryLength};
 ghost use Rattle.rules_dictionary.specs.Legal.{isCyclic};
 ghost use Rattle.rules_services.specs.PdoTraffic.{paced, cyclic, acyclic, paceOf, typeOf};
-ghost use Rattle.tpdo.specs.Sending.{isOpen, openPace};
+ghost use Rattle.mapping.specs.Working.{isOpen};
+ghost use Rattle.tpdo.specs.Sending.{openPace};
 use dictionary::places::EACH_WAY;
 use dictionary::records;
+use mapping::is_open;
 use rules_services::Paced;
 use state::Occasion;
 use state::Pace;
 
 // The last type that waits for SYNC.
 const LAST_SYNCHRONOUS: u8 = 240;
-
-// An identifier's bit 31: the PDO is not valid.
-const INVALID: u32 = 0x8000_0000;
 
 // Whether it is sent, and what is kept of it.
 fn paced(send: bool, count: u8, due: bool) -> Paced
@@ -30,18 +29,6 @@ fn paced(send: bool, count: u8, due: bool) -> Paced
             due: due,
         },
     }
-}
-
-// Is transmit PDO t valid, with something mapped.
-fn is_open(d: &[u8], t: usize) -> bool
-    requires { ⌜ (length (now d) ≡ dictionaryLength) × (t < eachWay) ⌝ }
-    ensures { λ r. ⌜ r ≡ isOpen (now (d .entry)) t ⌝ }
-{
-    let p = EACH_WAY + t;
-    if INVALID <= records::identifier(d, p) {
-        return false;
-    }
-    0 < records::map_count(d, p)
 }
 
 // "Type 1..240: each n-th SYNC since entering Operational."
@@ -89,12 +76,13 @@ fn pace_of(kind: u8, occasion: Occasion, changed: bool, kept: Pace) -> Paced
 
 // The pace of transmit PDO t, 0 to 3, at the end of a call that ends Operational; `kept` is what was kept of it.
 pub fn pace(d: &[u8], t: usize, occasion: Occasion, changed: bool, kept: Pace) -> Paced
-    requires { ⌜ (length (now d) ≡ dictionaryLength) × ((t < eachWay) × (isOpen (now d) t ≡ true → isCyclic (typeOf (now d) (eachWay + t)) ≡ true → kept .count < typeOf (now d) (eachWay + t))) ⌝ }
+    requires { ⌜ (length (now d) ≡ dictionaryLength) × ((t < eachWay)
+        × (isOpen (now d) (eachWay + t) ≡ true → isCyclic (typeOf (now d) (eachWay + t)) ≡ true → kept .count < typeOf (now d) (eachWay + t))) ⌝ }
     ensures { λ r. ⌜ r ≡ openPace (now (d .entry)) t occasion changed kept ⌝ }
 {
-    if !is_open(d, t) {
+    let p = EACH_WAY + t;
+    if !is_open(d, p) {
         return paced(false, 0, false);
     }
-    let p = EACH_WAY + t;
     pace_of(records::transmission_type(d, p), occasion, changed, kept)
 }

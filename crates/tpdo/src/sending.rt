@@ -8,6 +8,7 @@ ghost use Rattle.rules.specs.Outcome.{sameData, frameSize, sentInto};
 ghost use Rattle.rules.specs.Calls.{outputLength};
 ghost use Rattle.output.specs.Laying.{IsData};
 ghost use Rattle.tpdo.specs.Sending.{sentOne, turn, MaySend, SentBy, mostBefore};
+use crate::IDLE;
 use crate::Sent;
 use crate::pacing::pace;
 use dictionary::places::EACH_WAY;
@@ -23,12 +24,6 @@ use state::Pace;
 // The frame identifiers: eleven bits.
 const IDENTIFIERS: u32 = 0x800;
 
-// Nothing counted, and not due.
-const IDLE: Pace = Pace {
-    count: 0,
-    due: false,
-};
-
 // Whether a transmit PDO's ready frame changed, or the node entered Operational.
 fn changed(was: bool, kept: PdoData, ready: PdoData) -> bool
     ensures { λ r. ⌜ r ≡ (not was || not (sameData kept ready)) ⌝ }
@@ -39,7 +34,8 @@ fn changed(was: bool, kept: PdoData, ready: PdoData) -> bool
 // The frame of transmit PDO t at the start of the bytes, which are the output from it on, where it is to be sent. How many frames that is.
 fn transmit(goes: bool, t: usize, content: PdoData, d: &[u8], output: &mut [u8]) -> usize
     requires { ⌜ (length (now d) ≡ dictionaryLength) × ((frameSize ≤ length (now output)) × ((t < eachWay) × IsData content)) ⌝ }
-    ensures { λ r. ⌜ (r ≡ length (sentOne goes (now (d .entry)) t content)) × (now (output .exit) ≡ sentInto (now (output .entry)) (sentOne goes (now (d .entry)) t content)) ⌝ }
+    ensures { λ r. ⌜ (r ≡ length (sentOne goes (now (d .entry)) t content))
+        × (now (output .exit) ≡ sentInto (now (output .entry)) (sentOne goes (now (d .entry)) t content)) ⌝ }
 {
     if !goes {
         return 0;
@@ -64,7 +60,8 @@ pub fn transmit_all(
     n: usize,
 ) -> Sent
     requires { ⌜ MaySend nmt paces ready (now d) × ((outputLength ≤ length (now output)) × (n ≤ mostBefore)) ⌝ }
-    ensures { λ r. ⌜ SentBy (turn was occasion nmt kept paces (now (d .entry)) ready) ready (now (d .entry)) n (now (output .entry)) r (now (output .exit)) ⌝ }
+    ensures { λ r. ⌜ SentBy (turn was occasion nmt kept paces (now (d .entry)) ready) ready (now (d .entry)) n
+        (now (output .entry)) r (now (output .exit)) ⌝ }
 {
     let mut next = [IDLE, IDLE, IDLE, IDLE];
     let mut sent = n;

@@ -1,58 +1,49 @@
 -- `cendurak::cendurak_event` meets its contract. Assumes nothing.
-use mathlib.Core.Path.{refl, sym, _∙_}
-use borrow.Author.Tests.{not-true, not-false}
-use Rattle.rules_dictionary.specs.Table.{table, dictionaryLength}
-use Rattle.rules.specs.Calls.{eventCall}
-use Rattle.cendurak.proofs.Ways.{short-dictionary, short-output, no-state, made-brief, other-length, no-form, a-form}
+use Prim.Native.Nat.{ℕ}
+use mathlib.Core.Path.{sym, _∙_, ap}
 use borrow.Author.Needs.{needs}
+use Rattle.rules.specs.Calls.{eventCall}
+use Rattle.calls.specs.declared.Opening.{Opening}
+use Rattle.calls.proofs.Refusals.{opened-in}
+use Rattle.cendurak.specs.Boundary.{left}
+use Rattle.cendurak.proofs.Ways.{event-not-opened, made-brief, a-form}
 use Rattle.cendurak.proofs.cendurak_event.Statement.{statement}
 use Rattle.cendurak.proofs.cendurak_event.Tie as tie
 
 returns : tie.Need-returns
-unfolding dictionaryLength table
-returns c = let a = c .before .before .before .before .before .args in short-dictionary (eventCall (a .number) (a .arguments .now)) (a .state .now) (a .dict .now) (a .out .now) (c .if1 .taken)
-
-returns-2 : tie.Need-returns-2
-unfolding dictionaryLength table
-returns-2 c = let a = c .before .before .before .before .before .before .args in short-output (eventCall (a .number) (a .arguments .now)) (a .state .now) (a .dict .now) (a .out .now) (c .before .if1 .left) (c .if2 .taken)
-
-returns-3 : tie.Need-returns-3
-unfolding dictionaryLength table
-returns-3 c =
-    let a = c .before .before .before .before .before .before .before .args in
-    no-state (eventCall (a .number) (a .arguments .now)) (a .state .now) (a .dict .now) (a .out .now) (c .before .before .if1 .left) (c .before .if2 .left) refl (other-length (a .state .now) (c .if3 .taken))
-
-returns-4 : tie.Need-returns-4
-unfolding dictionaryLength table
-returns-4 c =
-    let t = c .before in
-    let e = t .before .before in
-    let a = e .before .before .before .before .before .before .before .args in
-    no-state (eventCall (a .number) (a .arguments .now)) (a .state .now) (a .dict .now) (a .out .now) (e .before .before .if1 .left) (e .before .if2 .left) refl (no-form (a .state .now) (e .if3 .left) (sym (t .is-form .ensures) ∙ not-true _ (c .if4 .taken)))
+returns c =
+    let e = c .before .before .opened .ensures in
+    let a = c .before .before .before .before .before .before .before .before .before .before .args in
+    ap (λ (k : ℕ). left k (a .state .now) (a .dict .now) (a .out .now)) (c .refused .ensures)
+    ∙ rw e (event-not-opened (a .number) (a .arguments .now) (a .state .now) (a .dict .now) (a .out .now)
+    (ap (λ (x : Opening). x .refused) (sym e) ∙ c .before .if1 .taken))
 
 brief-event-requires : tie.Need-brief-event-requires
-unfolding dictionaryLength table
-brief-event-requires c κs = search needs
+brief-event-requires c κs =
+    let a = c .before .before .before .before .before .before .before .before .before .before .before .before .args in
+    let k = opened-in (a .state .now) (a .dict .now) (a .out .now)
+    (ap (λ (x : Opening). x .refused) (sym (c .before .before .before .before .opened .ensures)) ∙ c .before .before .before .if1 .left) in
+    (k .0, k .1 .1)
 
-leave-brief-requires : tie.Need-leave-brief-requires
-leave-brief-requires c κs =
-    let b = c .before .before .before .before .before .before in
-    let g = b .before .before .before .before .before in
-    let t = g .before in
-    (t .before .before .if3 .left, (sym (t .is-form .ensures) ∙ not-false _ (g .if4 .left), b .brief-event .ensures .1))
+leave-requires : tie.Need-leave-requires
+leave-requires c κs =
+    let opens = c .before .before .before .before .before .before .before .before .before .before in
+    let a = opens .before .before .before .before .before .before .before .before .before .args in
+    let k = opened-in (a .state .now) (a .dict .now) (a .out .now)
+    (ap (λ (x : Opening). x .refused) (sym (opens .before .opened .ensures)) ∙ opens .if1 .left) in
+    record { long = k .0; plans = c .before .before .before .before .before .before .brief-event .ensures .1; own = λ f. k .1 .0 }
 
-returns-5 : tie.Need-returns-5
-returns-5 c =
-    let b = c .before .before .before .before .before .before .before .before .before in
-    let v = b .before .before .before in
-    let g = v .before .before in
-    let t = g .before in
-    let e = t .before .before in
-    let a = e .before .before .before .before .before .before .before .args in
-    made-brief (eventCall (a .number) (a .arguments .now)) (a .state .now) (a .dict .now) (a .out .now) (a-form (a .state .now) (e .if3 .left) (sym (t .is-form .ensures) ∙ not-false _ (g .if4 .left))) _ (v .read-state .ensures) _ _ _ _ _
-    (b .brief-event .ensures) (c .before .before .leave-brief .ensures)
+returns-2 : tie.Need-returns-2
+returns-2 c =
+    let opens = c .before .before .before .before .before .before .before .before .before .before .before .before .before in
+    let a = opens .before .before .before .before .before .before .before .before .before .args in
+    let k = opened-in (a .state .now) (a .dict .now) (a .out .now)
+    (ap (λ (x : Opening). x .refused) (sym (opens .before .opened .ensures)) ∙ opens .if1 .left) in
+    made-brief (eventCall (a .number) (a .arguments .now)) (a .state .now) (a .dict .now) (a .out .now)
+    (a-form (a .state .now) (k .0) (k .1 .0)) _ _ _ _ _
+    (c .before .before .before .before .before .before .before .before .before .brief-event .ensures) (c .before .before .leave .ensures)
 
 pub cendurak-event-spec : {M : Type 1} → statement M
 cendurak-event-spec =
-    tie.close (tie.spec returns returns-2 returns-3 (λ c κs. search needs) (λ c. search needs) returns-4 (λ c κs. search needs) brief-event-requires
-    leave-brief-requires (λ c. search needs) (λ c. search needs) (λ c. search needs) returns-5)
+    tie.close (tie.spec (λ c κs. search needs) (λ c κs. search needs) (λ c. search needs) (λ c. search needs) (λ c. search needs) returns
+    brief-event-requires leave-requires (λ c. search needs) (λ c. search needs) (λ c. search needs) returns-2)

@@ -1,80 +1,78 @@
 -- `soundness::is_sound` meets its contract. Assumes nothing.
-use mathlib.Core.Path.{sym, _∙_}
+use native.Mathlib.Omega.{arith}
+use mathlib.Core.Path.{refl, sym, _∙_}
 use borrow.Author.Tests.{not-true, not-false}
-use Rattle.soundness.proofs.Parts.{sound-parts, by-pdos}
-use Rattle.soundness.proofs.Usually.{usual-kept, usual-clauses}
+use Rattle.soundness.proofs.Parts.{form-parts}
 use borrow.Author.Needs.{needs}
 use Rattle.soundness.proofs.is_sound.Statement.{statement}
 use Rattle.soundness.proofs.is_sound.Tie as tie
 
 returns : tie.Need-returns
 returns c =
-    let a = c .before .before .before .before .args in
-    sym (sound-parts (a .s) (a .d .now) ∙ rw (sym (c .before .is-node-id .ensures) ∙ not-true _ (c .if1 .taken)))
+    let k = c .before .before in
+    let s = k .before .before in
+    sym (form-parts (s .args .state .now) (s .args .d .now) (λ i. omega (arith, k .before .shared-slice-known .given i)) (s .pre .0) refl refl
+    ∙ rw (sym (c .before .is-head-own .ensures) ∙ not-true _ (c .if1 .taken)))
 
 returns-2 : tie.Need-returns-2
 returns-2 c =
     let i = c .before .before in
-    let a = i .before .before .before .before .args in
-    sym (sound-parts (a .s) (a .d .now) ∙ rw (sym (i .before .is-node-id .ensures) ∙ not-false _ (i .if1 .left))
-    (rw (sym (c .before .dictionary-legal .ensures) ∙ not-true _ (c .if2 .taken))))
+    let h = i .before in
+    let k = h .before .before in
+    let s = k .before .before in
+    sym (form-parts (s .args .state .now) (s .args .d .now) (λ i. omega (arith, k .before .shared-slice-known .given i)) (s .pre .0)
+    (i .read-node .ensures) refl
+    ∙ rw (sym (h .before .is-head-own .ensures) ∙ not-false _ (h .if1 .left), sym (c .before .is-node-id .ensures) ∙ not-true _ (c .if2 .taken)))
 
 returns-3 : tie.Need-returns-3
 returns-3 c =
-    let l = c .before .before in
-    let i = l .before .before in
-    let a = i .before .before .before .before .args in
-    sym (sound-parts (a .s) (a .d .now)
-    ∙ rw (sym (i .before .is-node-id .ensures) ∙ not-false _ (i .if1 .left), sym (l .before .dictionary-legal .ensures) ∙ not-false _ (l .if2 .left))
-    (rw (sym (c .before .is-drive-clear .ensures) ∙ not-true _ (c .if3 .taken))))
+    let n = c .before .before in
+    let i = n .before .before in
+    let h = i .before in
+    let k = h .before .before in
+    let s = k .before .before in
+    sym (form-parts (s .args .state .now) (s .args .d .now) (λ i. omega (arith, k .before .shared-slice-known .given i)) (s .pre .0)
+    (i .read-node .ensures) refl
+    ∙ rw (sym (h .before .is-head-own .ensures) ∙ not-false _ (h .if1 .left), sym (n .before .is-node-id .ensures) ∙ not-false _ (n .if2 .left))
+    (rw (sym (c .before .dictionary-legal .ensures) ∙ not-true _ (c .if3 .taken))))
 
 returns-4 : tie.Need-returns-4
 returns-4 c =
-    let v = c .before .before .before in
-    let l = v .before .before in
-    let i = l .before .before in
-    let a = i .before .before .before .before .args in
-    by-pdos (a .s) (a .d .now) (sym (i .before .is-node-id .ensures) ∙ not-false _ (i .if1 .left))
-    (sym (l .before .dictionary-legal .ensures) ∙ not-false _ (l .if2 .left))
-    (sym (v .before .is-drive-clear .ensures) ∙ not-false _ (v .if3 .left)) (c .are-pdos-clear .ensures)
-
-has-usual-frames-requires : tie.Need-has-usual-frames-requires
-has-usual-frames-requires c κs =
-    let i = c .before .before .before .before .before .before in
-    (i .before .before .before .before .pre, c .before .has-usual-plans .ensures (not-false _ (c .if4 .left)))
+    let v = c .before .before in
+    let l = v .before in
+    let n = l .before .before in
+    let i = n .before .before in
+    let h = i .before in
+    let k = h .before .before in
+    let s = k .before .before in
+    sym (form-parts (s .args .state .now) (s .args .d .now) (λ i. omega (arith, k .before .shared-slice-known .given i)) (s .pre .0)
+    (i .read-node .ensures) (v .read-drive .ensures)
+    ∙ rw (sym (h .before .is-head-own .ensures) ∙ not-false _ (h .if1 .left), sym (n .before .is-node-id .ensures) ∙ not-false _ (n .if2 .left))
+    (rw (
+      sym (l .before .dictionary-legal .ensures) ∙ not-false _ (l .if3 .left),
+      sym (c .before .is-drive-clear .ensures) ∙ not-true _ (c .if4 .taken),
+    )))
 
 returns-5 : tie.Need-returns-5
 returns-5 c =
-    let v = c .before .before .before .before .before in
-    let l = v .before .before in
-    let i = l .before .before in
-    let a = i .before .before .before .before .args in
-    by-pdos (a .s) (a .d .now) (sym (i .before .is-node-id .ensures) ∙ not-false _ (i .if1 .left))
-    (sym (l .before .dictionary-legal .ensures) ∙ not-false _ (l .if2 .left))
-    (sym (v .before .is-drive-clear .ensures) ∙ not-false _ (v .if3 .left)) (c .are-pdos-clear2 .ensures)
-
-does-wait-soundly-requires : tie.Need-does-wait-soundly-requires
-does-wait-soundly-requires c κs =
-    let p = c .before .before in
-    let i = p .before .before .before .before .before .before in
-    (i .before .before .before .before .pre, usual-kept _ _ (p .before .has-usual-plans .ensures (not-false _ (p .if4 .left))))
-
-returns-6 : tie.Need-returns-6
-returns-6 c =
     let f = c .before in
-    let p = f .before .before in
-    let v = p .before .before in
-    let l = v .before .before in
-    let i = l .before .before in
-    let a = i .before .before .before .before .args in
-    by-pdos (a .s) (a .d .now) (sym (i .before .is-node-id .ensures) ∙ not-false _ (i .if1 .left))
-    (sym (l .before .dictionary-legal .ensures) ∙ not-false _ (l .if2 .left))
-    (sym (v .before .is-drive-clear .ensures) ∙ not-false _ (v .if3 .left))
-    (c .does-wait-soundly .ensures
-    ∙ usual-clauses (a .s) (a .d .now) (p .before .has-usual-plans .ensures (not-false _ (p .if4 .left)))
-    (f .before .has-usual-frames .ensures (not-false _ (f .if5 .left))))
+    let v = f .before .before in
+    let l = v .before in
+    let n = l .before .before in
+    let i = n .before .before in
+    let h = i .before in
+    let k = h .before .before in
+    let s = k .before .before in
+    sym (form-parts (s .args .state .now) (s .args .d .now) (λ i. omega (arith, k .before .shared-slice-known .given i)) (s .pre .0)
+    (i .read-node .ensures) (v .read-drive .ensures)
+    ∙ rw (sym (h .before .is-head-own .ensures) ∙ not-false _ (h .if1 .left), sym (n .before .is-node-id .ensures) ∙ not-false _ (n .if2 .left))
+    (rw (
+      sym (l .before .dictionary-legal .ensures) ∙ not-false _ (l .if3 .left),
+      sym (f .before .is-drive-clear .ensures) ∙ not-false _ (f .if4 .left),
+      ← c .are-pdos-clear .ensures,
+    )))
 
 pub is-sound-spec : {M : Type 1} → statement M
 is-sound-spec =
-    tie.close (tie.spec (λ c κs. search needs) returns (λ c κs. search needs) returns-2 (λ c κs. search needs) returns-3 (λ c κs. search needs)
-    (λ c κs. search needs) returns-4 has-usual-frames-requires (λ c κs. search needs) returns-5 does-wait-soundly-requires returns-6)
+    tie.close (tie.spec (λ c κs. search needs) returns (λ c κs. search needs) (λ c κs. search needs) returns-2 (λ c κs. search needs) returns-3
+    (λ c κs. search needs) (λ c κs. search needs) returns-4 (λ c κs. search needs) returns-5)

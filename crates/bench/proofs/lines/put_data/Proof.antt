@@ -37,4 +37,5 @@ returns : tie.Need-returns Inv-loop μ-loop
 returns c = tt
 
 pub put-data-spec : {M : Type 1} → statement M
-put-data-spec = tie.close (tie.spec Inv-loop μ-loop loop-holds put-requires shared-slice-read-put-byte put-byte-requires add-i loop-less loop-again returns)
+put-data-spec =
+    tie.close (tie.spec Inv-loop μ-loop loop-holds put-requires shared-slice-read-put-byte put-byte-requires add-i loop-less loop-again returns)

@@ -21,9 +21,11 @@ returns c =
     let remote = known .before .before .before in
     let entry = remote .before in
     let a = entry .before .args in
-    let w : known .before .status .result ≡ statusBy (a .node) (a .drive) (a .d .now) = known .before .status .ensures ∙ rw (remote .is-stopped .ensures) in
+    let w : known .before .status .result ≡ statusBy (a .node) (a .drive) (a .d .now) =
+    known .before .status .ensures ∙ rw (remote .is-stopped .ensures) in
     let b : areBytes (a .d .now) ≡ true = are-bytes (a .d .now) (λ i h. omega (arith, entry .slice-known .given i)) in
-    let e = both-stand (a .node) (a .drive) (a .d .now) _ _ w (known .mode-number .ensures) b (entry .before .pre) (sym (first .before .status-word .ensures) ∙ first .if1 .taken) (sym (second .mode-display .ensures) ∙ eqb-true _ _ (c .if2 .taken)) in
+    let e = both-stand (a .node) (a .drive) (a .d .now) _ _ w (known .number .ensures) b (entry .before .pre)
+    (sym (first .before .status-word .ensures) ∙ first .if1 .taken) (sym (second .mode-display .ensures) ∙ eqb-true _ _ (c .if2 .taken)) in
     (e, λ h. (h, refl))
 
 returns-2 : tie.Need-returns-2
@@ -33,10 +35,11 @@ returns-2 c =
     let known = word .before .before .before .before .before in
     let remote = known .before .before .before in
     let a = remote .before .before .args in
-    let w : known .before .status .result ≡ statusBy (a .node) (a .drive) (a .d .now) = known .before .status .ensures ∙ rw (remote .is-stopped .ensures) in (
+    let w : known .before .status .result ≡ statusBy (a .node) (a .drive) (a .d .now) =
+    known .before .status .ensures ∙ rw (remote .is-stopped .ensures) in (
       written .set-mode-display .ensures
-          ∙ ap (store modeDisplay (known .mode-number .result)) (word .set-status-word .ensures)
-          ∙ both-written (a .node) (a .drive) (a .d .now) _ _ w (known .mode-number .ensures),
+          ∙ ap (store modeDisplay (known .number .result)) (word .set-status-word .ensures)
+          ∙ both-written (a .node) (a .drive) (a .d .now) _ _ w (known .number .ensures),
       λ h. absurd (true≢false h),
     )
 

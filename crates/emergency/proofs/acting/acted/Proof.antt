@@ -12,17 +12,21 @@ returns : tie.Need-returns
 returns c =
     let m = c .before .before .before .before .before .before .before .before in
     let a = m .before .before .before .before .before .before .before .args in
-    let f = c .before .before .before .before .control-acted .ensures in
-    (as-effect (acts-on (a .old) (a .mode) (a .control) (a .parts) _ (a .d .now) (with-drive-part (a .parts) (m .mode-acted .ensures)) (c .before .before .before .before .before .before .before .if1 .taken)) (f .0), f .1)
+    let f = c .before .before .before .before in
+    let next = with-drive-part (a .parts) (m .mode-acted .ensures) in
+    let on = acts-on (a .old) (a .mode) (a .control) (a .parts) _ (a .d .now) next (f .before .before .before .if1 .taken) in
+    (as-effect on (f .control-acted .ensures .0), f .control-acted .ensures .1)
 
 returns-2 : tie.Need-returns-2
 returns-2 c =
     let k = c .before in
     let m = k .before in
     let a = m .before .before .before .before .before .before .before .args in
-    rw (c .becomes .ensures)
-    (as-effect (acts-not (a .old) (a .mode) (a .control) (a .parts) _ (a .d .now) (with-drive-part (a .parts) (m .mode-acted .ensures)) (k .if1 .left)) (left-as (bare _) _ false (a .d .now) (a .output .now) refl), refl)
+    let next = with-drive-part (a .parts) (m .mode-acted .ensures) in
+    let off = acts-not (a .old) (a .mode) (a .control) (a .parts) _ (a .d .now) next (k .if1 .left) in
+    rw (c .becomes .ensures) (as-effect off (left-as (bare _) _ false (a .d .now) (a .output .now) refl), refl)
 
 pub acted-spec : {M : Type 1} → statement M
 acted-spec =
-    tie.close (tie.spec (λ c κs. search needs) (λ c κs. search needs) (λ c. search needs) (λ c. search needs) returns (λ c κs. search needs) (λ c. search needs) returns-2)
+    tie.close (tie.spec (λ c κs. search needs) (λ c κs. search needs) (λ c. search needs) (λ c. search needs) returns (λ c κs. search needs)
+    (λ c. search needs) returns-2)

@@ -12,17 +12,19 @@ returns : tie.Need-returns
 returns c =
     let w = c .before .before .before .before .before .before .before .before .before in
     let a = w .before .before .before .before .before .before .before .args in
-    let f = c .before .before .before .before .fault-reset .ensures in
-    (as-effect (control-resets (a .old) (a .parts) _ (a .d .now) _ (w .control-written .ensures) refl (c .before .before .before .before .before .before .before .if1 .taken)) (f .0), f .1)
+    let f = c .before .before .before .before in
+    let resets = control-resets (a .old) (a .parts) _ (a .d .now) _ (w .control-written .ensures) refl (f .before .before .before .if1 .taken) in
+    (as-effect resets (f .fault-reset .ensures .0), f .fault-reset .ensures .1)
 
 returns-2 : tie.Need-returns-2
 returns-2 c =
     let k = c .before in
     let w = k .before .before in
     let a = w .before .before .before .before .before .before .before .args in
-    rw (c .becomes .ensures)
-    (as-effect (control-moves (a .old) (a .parts) _ (a .d .now) _ (w .control-written .ensures) refl (k .if1 .left)) (left-as (bare _) _ false (a .d .now) (a .output .now) refl), refl)
+    let moves = control-moves (a .old) (a .parts) _ (a .d .now) _ (w .control-written .ensures) refl (k .if1 .left) in
+    rw (c .becomes .ensures) (as-effect moves (left-as (bare _) _ false (a .d .now) (a .output .now) refl), refl)
 
 pub control-acted-spec : {M : Type 1} → statement M
 control-acted-spec =
-    tie.close (tie.spec (λ c κs. search needs) (λ c κs. search needs) (λ c. search needs) (λ c. search needs) returns (λ c κs. search needs) (λ c. search needs) returns-2)
+    tie.close (tie.spec (λ c κs. search needs) (λ c κs. search needs) (λ c. search needs) (λ c. search needs) returns (λ c κs. search needs)
+    (λ c. search needs) returns-2)

@@ -20,7 +20,9 @@ returns-2 c =
     let b = c .before .before .before .before .before in
     let h = b .before .before .before in
     let a = h .before .before .before .args in
-    spoken (a .code) (a .node) (a .d .now) _ _ (a .output .now) _ (sym (h .is-stopped .ensures) ∙ b .before .before .if1 .left) (b .before .error-register .ensures) (b .emergency-data .ensures) (c .before .before .send .ensures)
+    let speaks = sym (h .is-stopped .ensures) ∙ b .before .before .if1 .left in
+    spoken (a .code) (a .node) (a .d .now) _ _ (a .output .now) _ speaks (b .before .error-register .ensures) (b .emergency-data .ensures)
+    (c .before .before .send .ensures)
 
 pub emergency-spec : {M : Type 1} → statement M
 emergency-spec =

@@ -2,7 +2,7 @@
 use Prim.Native.Nat.{ℕ}
 use mathlib.Core.Path.{_≡_, refl, ap}
 use mathlib.Core.List.{List, append-nil}
-use mathlib.Core.Bool.{true, false}
+use mathlib.Core.Bool.{true, false, false≢true}
 use lib.Bits.{bitOr}
 use lib.ListN.{length}
 use Rattle.state.specs.declared.Occasion.the-variants.{Plain}
@@ -47,10 +47,11 @@ returns c =
     let gained = sent .before .before .before .before .before in
     let coded = gained .before .before .before .before in
     let was = coded .before .before in
-    let a = was .before .before .before .before .before .before .before .before .args in
+    let a = was .before .before .before .before .before .before .before .args in
     let drive = rw (c .before .enters .ensures, to .reaction-from .ensures) at (c .with-cause .ensures) in
-    let written = leaves _ (a .register) _ _ (a .s) _ _ _ _ _ _ (was .error-register .ensures) (coded .set-error-code .ensures) in
-    (written (gained .set-error-register .ensures) (sent .emergency .ensures) drive, refl)
+    λ s e.
+    let written = leaves _ (a .register) _ _ s _ _ _ _ _ _ (was .error-register .ensures) (coded .set-error-code .ensures) in
+    (rw e (written (gained .set-error-register .ensures) (rw e at (sent .emergency .ensures)) (rw e at drive)), λ q. absurd (false≢true q))
 
 pub faulted-spec : {M : Type 1} → statement M
 faulted-spec =

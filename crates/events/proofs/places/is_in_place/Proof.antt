@@ -9,7 +9,8 @@ unfolding isInPlace
 is-in-place-spec =
     tie.close (tie.spec (λ c. search needs) (λ c κs. search needs) (λ c. search needs) (λ c κs. search needs) (λ c. search needs) (λ c. search needs)
     (λ c κs. search needs) (λ c. search needs) (λ c. search needs) (λ c κs. search needs) (λ c. search needs) (λ c. search needs) (λ c. search needs)
-    (λ c. rw (c .before .enum-told .given .1) (c .is-not-ready .ensures)) (λ c. rw (c .before .enum-told2 .given .1) (c .is-quick-stop .ensures))
-    (λ c. rw (c .enum-told3 .given .1)) (λ c. rw (c .before .enum-told4 .given .1) (c .is-reaction .ensures)) (λ c. rw (c .enum-told5 .given .1))
-    (λ c. rw (c .before .enum-told6 .given .1) (c .is-moving .ensures)) (λ c. rw (c .enum-told7 .given .1)) (λ c. rw (c .enum-told8 .given .1))
-    (λ c. rw (c .enum-told9 .given .1)))
+    (λ c s e. rw (c .before .enum-told .given .1, ← e) (c .is-not-ready .ensures))
+    (λ c s e. rw (c .before .enum-told2 .given .1, ← e) (c .is-quick-stop .ensures)) (λ c s e. rw (c .enum-told3 .given .1))
+    (λ c s e. rw (c .before .enum-told4 .given .1, ← e) (c .is-reaction .ensures)) (λ c s e. rw (c .enum-told5 .given .1))
+    (λ c s e. rw (c .before .enum-told6 .given .1, ← e) (c .is-moving .ensures)) (λ c s e. rw (c .enum-told7 .given .1))
+    (λ c s e. rw (c .enum-told8 .given .1, ← e)) (λ c s e. rw (c .enum-told9 .given .1)))

@@ -14,5 +14,5 @@ pub own-store-spec : {M : Type 1} → statement M
 unfolding storeOwn
 own-store-spec =
     tie.close (tie.spec (λ c. search needs) (λ c κs. search needs) (λ c κs. search needs) (λ c κs. search needs)
-    (λ c. rw (c .before .match .keys1) (c .bits-of-words .ensures .zeros)) (λ c. rw (c .before .match .keys2) (c .bits-of-words2 .ensures .zeros))
-    (λ c. rw (c .before .match .keys3) (c .bits-of-words3 .ensures .zeros)) (λ c. rw (c .match .keys4)) returns-5)
+    (λ c. rw (c .before .match .keys1) (c .bits-of-words .ensures)) (λ c. rw (c .before .match .keys2) (c .bits-of-words2 .ensures))
+    (λ c. rw (c .before .match .keys3) (c .bits-of-words3 .ensures)) (λ c. rw (c .match .keys4)) returns-5)

@@ -1,10 +1,10 @@
-use Rattle.form.specs.Form.{driveAt}
+use Rattle.form.specs.Form.{stateOf, driveAt}
 use borrow.Author.Needs.{needs}
 use Rattle.form.proofs.axis_drive.read_drive.Statement.{statement}
 use Rattle.form.proofs.axis_drive.read_drive.Tie as tie
 
 returns : tie.Need-returns
-unfolding driveAt
+unfolding stateOf driveAt
 returns c =
     let s = c .before .before .before .before .before .before in
     rw (c .flag-of3 .ensures, c .before .before .flag-of2 .ensures, c .before .before .before .before .flag-of .ensures)

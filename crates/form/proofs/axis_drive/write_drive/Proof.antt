@@ -12,7 +12,7 @@ returns c =
     let f = c .before .before .before .before in
     let n = f .before .before .before in
     let flags = rw (f .flag-number3 .ensures, f .before .flag-number2 .ensures, f .before .before .flag-number .ensures) at (s .0) in
-    (rw (n .mode-number .ensures, n .before .state-number .ensures) at flags, s .1)
+    (rw (n .number .ensures, n .before .state-number .ensures) at flags, s .1)
 
 pub write-drive-spec : {M : Type 1} → statement M
 write-drive-spec =

@@ -1,15 +1,14 @@
 use native.Mathlib.Omega.{arith}
 use borrow.Author.Needs.{needs}
 use Rattle.form.specs.Form.{wordLength, wordAt}
-use Rattle.form.specs.Own.{isZero, small, everyWord}
-use Rattle.form.proofs.Tested.{Tested, none-yet, one-more, all-tested, or-zero, or-small}
+use Rattle.form.specs.Own.{isZero, everyWord}
+use Rattle.form.proofs.Tested.{Tested, none-yet, one-more, all-tested, or-zero}
 use Rattle.form.proofs.own.bits_of_words.Statement.{statement}
 use Rattle.form.proofs.own.bits_of_words.Tie as tie
 
 abbrev Inv-loop : tie.InvT-loop
 Inv-loop bytes place count bits₀ at₀ left₀ bits at left =
     Tested (λ i. isZero (wordAt i bytes)) count place wordLength (isZero bits) at left
-    × Tested (λ i. small (wordAt i bytes)) count place wordLength (small bits) at left
 
 abbrev μ-loop : tie.MeasureT-loop
 μ-loop bytes place count bits₀ at₀ left₀ bits at left = left
@@ -17,16 +16,13 @@ abbrev μ-loop : tie.MeasureT-loop
 loop-again : tie.Need-loop-again Inv-loop μ-loop
 loop-again c =
     let l = c .before .before .loop in
-    let w = c .read4 .ensures in (
-      one-more (l .inv .0) (omega arith) (rw (← w) (or-zero (l .bits) (c .read4 .result))),
-      one-more (l .inv .1) (omega arith) (rw (← w) (or-small (l .bits) (c .read4 .result))),
-    )
+    one-more (l .inv) (omega arith) (rw (← (c .read4 .ensures)) (or-zero (l .bits) (c .read4 .result)))
 
 returns : tie.Need-returns Inv-loop μ-loop
 unfolding everyWord
-returns c = record { zeros = all-tested (c .before .loop .inv .0) (omega arith); smalls = all-tested (c .before .loop .inv .1) (omega arith) }
+returns c = all-tested (c .before .loop .inv) (omega arith)
 
 pub bits-of-words-spec : {M : Type 1} → statement M
 bits-of-words-spec =
-    tie.close (tie.spec Inv-loop μ-loop (λ c. (none-yet, none-yet)) (λ c κs. search needs) (λ c. search needs) (λ c. search needs) (λ c. search needs)
+    tie.close (tie.spec Inv-loop μ-loop (λ c. none-yet) (λ c κs. search needs) (λ c. search needs) (λ c. search needs) (λ c. search needs)
     loop-again returns)

@@ -1,19 +1,13 @@
-use Rattle.form.specs.Form.{planAt}
+use mathlib.Core.Path.{sym, _∙_}
 use borrow.Author.Needs.{needs}
+use Rattle.form.proofs.OneForm.{plan-stands}
 use Rattle.form.proofs.pdos.read_plan.Statement.{statement}
 use Rattle.form.proofs.pdos.read_plan.Tie as tie
 
 returns : tie.Need-returns
-unfolding planAt
 returns c =
-    let d = c .before .before in
-    let m = d .before .before in
-    let f = m .before .before in
-    rw (c .read-move8 .ensures, c .before .read-move7 .ensures, d .read-move6 .ensures, d .before .read-move5 .ensures)
-    (rw (m .read-move4 .ensures, m .before .read-move3 .ensures, f .read-move2 .ensures, f .before .read-move .ensures))
+    let a = c .before .before .args in
+    c .plan-at .ensures ∙ sym (plan-stands (a .bytes .now) (a .p) (c .before .before .pre .1))
 
 pub read-plan-spec : {M : Type 1} → statement M
-read-plan-spec =
-    tie.close (tie.spec (λ c. search needs) (λ c. search needs) (λ c. search needs) (λ c. search needs) (λ c. search needs) (λ c. search needs)
-    (λ c. search needs) (λ c. search needs) (λ c. search needs) (λ c κs. search needs) (λ c κs. search needs) (λ c κs. search needs)
-    (λ c κs. search needs) (λ c κs. search needs) (λ c κs. search needs) (λ c κs. search needs) (λ c κs. search needs) returns)
+read-plan-spec = tie.close (tie.spec (λ c. search needs) (λ c. search needs) (λ c κs. search needs) returns)

@@ -30,7 +30,8 @@ loop-again : tie.Need-loop-again Inv-loop μ-loop
 loop-again c =
     let l = c .before .before .before .loop in
     let g = c .before .before .before .before .before .pre in
-    (one-filled _ (l .t) _ (l .ready) _ (l .inv .0) (c .ready-of .ensures ∙ fresh-ready _ g _ (omega arith) (c .before .plan-of .ensures)), omega arith)
+    let fresh = fresh-ready _ g _ (omega arith) (c .before .plan-of .ensures) in
+    (one-filled _ (l .t) _ (l .ready) _ (l .inv .0) (c .ready-of .ensures ∙ fresh), omega arith)
 
 returns : tie.Need-returns Inv-loop μ-loop
 unfolding filled readyOf
@@ -41,5 +42,5 @@ returns c =
 
 pub ready-anew-spec : {M : Type 1} → statement M
 ready-anew-spec =
-    tie.close (tie.spec Inv-loop μ-loop loop-holds (λ c. search needs) plan-of-requires ready-of-requires (λ c. search needs) (λ c. search needs) (λ c. search needs) (λ c. search needs)
-    loop-again returns)
+    tie.close (tie.spec Inv-loop μ-loop loop-holds (λ c. search needs) plan-of-requires ready-of-requires (λ c. search needs) (λ c. search needs)
+    (λ c. search needs) (λ c. search needs) loop-again returns)

@@ -41,7 +41,10 @@ join-one-requires c κs =
     let l = p .loop in
     let s = p .before .before in
     let a = s .args in
-    (s .pre .0, (fits (a .d .now) (s .pre .0) (all-bytes p) (a .t2) (eight p) (a .count) (s .pre .1) (l .k) (c .before .loop-test .taken) (l .inv .0), rw (l .inv .1 .1) (value-left (a .d .now) (s .pre .0) (all-bytes p) (a .t2) (eight p) (a .count) (s .pre .1) (l .k) (c .before .loop-test .taken) (l .inv .0))))
+    let h = c .before .loop-test .taken in
+    let f = fits (a .d .now) (s .pre .0) (all-bytes p) (a .t2) (eight p) (a .count) (s .pre .1) (l .k) h (l .inv .0) in
+    let v = value-left (a .d .now) (s .pre .0) (all-bytes p) (a .t2) (eight p) (a .count) (s .pre .1) (l .k) h (l .inv .0) in
+    (s .pre .0, (f, rw (l .inv .1 .1) v))
 
 add-length : tie.Need-add-length Inv-loop μ-loop
 add-length c =
@@ -49,7 +52,8 @@ add-length c =
     let l = p .loop in
     let s = p .before .before in
     let a = s .args in
-    let r = room-left (a .d .now) (s .pre .0) (all-bytes p) (a .t2) (eight p) (a .count) (s .pre .1) (l .k) (c .before .before .before .loop-test .taken) (l .inv .0) in
+    let h = c .before .before .before .loop-test .taken in
+    let r = room-left (a .d .now) (s .pre .0) (all-bytes p) (a .t2) (eight p) (a .count) (s .pre .1) (l .k) h (l .inv .0) in
     omega arith
 
 loop-again : tie.Need-loop-again Inv-loop μ-loop
@@ -57,13 +61,11 @@ loop-again c =
     let p = c .before .before .before .before in
     let l = p .loop in
     let s = p .before .before in
-    let a = s .args in (
-      search needs,
-      (
-        rw (l .inv .1 .0) (sym (length-more (a .d .now) (s .pre .0) (all-bytes p) (a .t2) (eight p) (a .count) (s .pre .1) (l .k) (c .before .before .before .loop-test .taken) (l .inv .0))),
-        c .before .join-one .ensures ∙ rw (l .inv .1 .1) (sym (value-more (a .d .now) (s .pre .0) (all-bytes p) (a .t2) (eight p) (a .count) (s .pre .1) (l .k) (c .before .before .before .loop-test .taken) (l .inv .0))),
-      ),
-    )
+    let a = s .args in
+    let h = c .before .before .before .loop-test .taken in
+    let n = length-more (a .d .now) (s .pre .0) (all-bytes p) (a .t2) (eight p) (a .count) (s .pre .1) (l .k) h (l .inv .0) in
+    let v = value-more (a .d .now) (s .pre .0) (all-bytes p) (a .t2) (eight p) (a .count) (s .pre .1) (l .k) h (l .inv .0) in
+    (search needs, (rw (l .inv .1 .0) (sym n), c .before .join-one .ensures ∙ rw (l .inv .1 .1) (sym v)))
 
 returns : tie.Need-returns Inv-loop μ-loop
 returns c =

@@ -8,12 +8,14 @@ use Rattle.mapping.proofs.frames.join_one.Tie as tie
 
 mul-result : tie.Need-mul-result
 mul-result c =
-    let h : c .before .before .before .before .before .args .behind < 256 ^ 7 = rw (c .before .if1 .taken) at (c .before .before .before .before .before .pre .1 .1) in
+    let s = c .before .before .before .before .before in
+    let h : s .args .behind < 256 ^ 7 = rw (c .before .if1 .taken) at (s .pre .1 .1) in
     omega arith
 
 add-result : tie.Need-add-result
 add-result c =
-    let h : c .before .before .before .before .before .args .behind < 256 ^ 7 = rw (c .before .if1 .taken) at (c .before .before .before .before .before .pre .1 .1) in
+    let s = c .before .before .before .before .before in
+    let h : s .args .behind < 256 ^ 7 = rw (c .before .if1 .taken) at (s .pre .1 .1) in
     omega arith
 
 returns : tie.Need-returns
@@ -21,12 +23,14 @@ returns c = rw (c .read1 .ensures, c .before .if1 .taken)
 
 mul-result-2 : tie.Need-mul-result-2
 mul-result-2 c =
-    let h : c .before .before .before .before .before .before .before .args .behind < 256 ^ 6 = rw (c .before .if2 .taken) at (c .before .before .before .before .before .before .before .pre .1 .1) in
+    let s = c .before .before .before .before .before .before .before in
+    let h : s .args .behind < 256 ^ 6 = rw (c .before .if2 .taken) at (s .pre .1 .1) in
     omega arith
 
 add-result-2 : tie.Need-add-result-2
 add-result-2 c =
-    let h : c .before .before .before .before .before .before .before .args .behind < 256 ^ 6 = rw (c .before .if2 .taken) at (c .before .before .before .before .before .before .before .pre .1 .1) in
+    let s = c .before .before .before .before .before .before .before in
+    let h : s .args .behind < 256 ^ 6 = rw (c .before .if2 .taken) at (s .pre .1 .1) in
     omega arith
 
 returns-2 : tie.Need-returns-2
@@ -42,14 +46,14 @@ mul-result-3 : tie.Need-mul-result-3
 mul-result-3 c =
     let s = c .before .before .before .before .before .before .before in
     let e : s .args .m .size ≡ 4 = is-four _ (s .pre .1 .0 .size) (c .before .before .before .if1 .left) (c .before .if2 .left) in
-    let h : c .before .before .before .before .before .before .before .args .behind < 256 ^ 4 = rw (e) at (c .before .before .before .before .before .before .before .pre .1 .1) in
+    let h : s .args .behind < 256 ^ 4 = rw e at (s .pre .1 .1) in
     omega arith
 
 add-result-3 : tie.Need-add-result-3
 add-result-3 c =
     let s = c .before .before .before .before .before .before .before in
     let e : s .args .m .size ≡ 4 = is-four _ (s .pre .1 .0 .size) (c .before .before .before .if1 .left) (c .before .if2 .left) in
-    let h : c .before .before .before .before .before .before .before .args .behind < 256 ^ 4 = rw (e) at (c .before .before .before .before .before .before .before .pre .1 .1) in
+    let h : s .args .behind < 256 ^ 4 = rw e at (s .pre .1 .1) in
     omega arith
 
 returns-3 : tie.Need-returns-3

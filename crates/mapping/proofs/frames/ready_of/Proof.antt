@@ -9,9 +9,9 @@ returns c =
     let j = c .before .join in
     let s = c .before .before .before .before .before in
     let a = s .args in
+    let bytes = are-bytes (a .d .now) (λ i h. omega (arith, c .before .before .before .before .shared-slice-known .given i)) in
     rw (c .bytes-of .ensures)
-    (made-ready (a .d .now) (a .plan) (j .result .length) (j .result .value)
-    (are-bytes (a .d .now) (λ i h. omega (arith, c .before .before .before .before .shared-slice-known .given i))) (s .pre .1) (j .ensures .0) (j .ensures .1))
+    (made-ready (a .d .now) (a .plan) (j .result .length) (j .result .value) bytes (s .pre .1) (j .ensures .0) (j .ensures .1))
 
 pub ready-of-spec : {M : Type 1} → statement M
 ready-of-spec = tie.close (tie.spec (λ c. search needs) (λ c κs. search needs) (λ c κs. search needs) returns)

@@ -27,7 +27,8 @@ loop-again c =
     let l = p .loop in
     let a = p .before .before .args in
     let few : l .k < 8 = search needs in (
-      rw (c .move-of .ensures, c .before .read4 .ensures, l .inv .0, l .inv .1 .1 .0) (next-named (wayOf (a .transmit)) (l .k) (a .first) (a .d .now) few),
+      rw (c .move-of .ensures, c .before .read4 .ensures, l .inv .0, l .inv .1 .1 .0)
+          (next-named (wayOf (a .transmit)) (l .k) (a .first) (a .d .now) few),
       simp length-set (search needs),
     )
 

@@ -37,7 +37,8 @@ returns c =
     let i = c .before .before .before .before .before .before in
     let l = i .loop in
     let s = i .before .before .before in
-    let e = legal-step (s .args .plan .moves) (s .args .plan .count) (l .k) (l .inv .0) (c .before .before .before .before .before .loop-test .taken) (l .at) (s .args .t2) in
+    let h = c .before .before .before .before .before .loop-test .taken in
+    let e = legal-step (s .args .plan .moves) (s .args .plan .count) (l .k) (l .inv .0) h (l .at) (s .args .t2) in
     let f = sym (c .before .is-legal .ensures) ∙ not-true _ (c .if1 .taken) in
     (sym (sym (l .inv .1 .1) ∙ e ∙ rw (← c .before .before .read .ensures, f)), array-bytes 8 (s .args .t2) _ (s .good .1 .0), s .good .1 .0 .1 .0 .1)
 
@@ -48,16 +49,16 @@ loop-again c =
     let s = i .before .before .before in
     let h = c .before .before .before .before .before .before .loop-test .taken in
     let e = legal-step (s .args .plan .moves) (s .args .plan .count) (l .k) (l .inv .0) h (l .at) (s .args .t2) in
-    let f = sym (c .before .before .is-legal .ensures) ∙ not-false _ (c .before .if1 .left) in (
-      l .inv .0,
-      (omega (arith, size-step (s .args .plan .moves) (s .args .plan .count) (l .k) (l .inv .0) h), sym (e ∙ rw (← c .before .before .before .read .ensures, f)) ∙ l .inv .1 .1),
-    )
+    let f = sym (c .before .before .is-legal .ensures) ∙ not-false _ (c .before .if1 .left) in
+    let z = size-step (s .args .plan .moves) (s .args .plan .count) (l .k) (l .inv .0) h in
+    (l .inv .0, (omega (arith, z), sym (e ∙ rw (← c .before .before .before .read .ensures, f)) ∙ l .inv .1 .1))
 
 returns-2 : tie.Need-returns-2 Inv-loop μ-loop
 returns-2 c =
     let l = c .before .loop in
     let s = c .before .before .before .before in
-    (sym (none-legal (s .args .plan .moves) (s .args .plan .count) (l .k) (l .at) (s .args .t2) (omega arith)) ∙ l .inv .1 .1, array-bytes 8 (s .args .t2) _ (s .good .1 .0), s .good .1 .0 .1 .0 .1)
+    let e = none-legal (s .args .plan .moves) (s .args .plan .count) (l .k) (l .at) (s .args .t2) (omega arith) in
+    (sym e ∙ l .inv .1 .1, array-bytes 8 (s .args .t2) _ (s .good .1 .0), s .good .1 .0 .1 .0 .1)
 
 pub are-legal-spec : {M : Type 1} → statement M
 are-legal-spec =

@@ -22,7 +22,8 @@ returns : tie.Need-returns Inv-loop μ-loop
 returns c =
     let l = c .before .before .loop in
     let a = c .before .before .before .before .before .args in
-    sym (sym (l .inv .1) ∙ place-step (a .plan .moves) (a .plan .count) (l .k) (l .inv .0) (c .before .loop-test .taken) (a .place) ∙ rw (eq-eqb _ _ (c .if1 .taken)))
+    sym (sym (l .inv .1) ∙ place-step (a .plan .moves) (a .plan .count) (l .k) (l .inv .0) (c .before .loop-test .taken) (a .place)
+    ∙ rw (eq-eqb _ _ (c .if1 .taken)))
 
 loop-again : tie.Need-loop-again Inv-loop μ-loop
 loop-again c =

@@ -1,5 +1,4 @@
 -- `nmt::commands::nmt_frame` meets its contract. Assumes nothing.
-use mathlib.Core.Path.{refl}
 use mathlib.Core.Bool.{true}
 use mathlib.Core.List.{[]}
 use Rattle.output.proofs.Left.{left-as, calm-said}
@@ -14,17 +13,17 @@ returns c =
     let test = done .before .before .before .before in
     let at = test .before .before .before .before in
     let for-this = test .before .is-for-node .ensures in
-    rw (by-data (at .args .t1) (at .pre .1 .shape) (at .args .s), ← for-this, test .if1 .taken) (done .command .ensures)
+    λ s e. rw (by-data (at .args .t1) (at .pre .1 .shape) s, ← (rw e at for-this), test .if1 .taken) (done .command .ensures s e)
 
 returns-2 : tie.Need-returns-2
 returns-2 c =
-    let test = c .before .before in
+    let test = c .before in
     let at = test .before .before .before .before in
     let for-this = test .before .is-for-node .ensures in
-    rw (c .becomes .ensures, c .before .parts-of .ensures, by-data (at .args .t1) (at .pre .1 .shape) (at .args .s), ← for-this, test .if1 .left)
-    (left-as _ _ true _ _ refl, λ _. calm-said _ [])
+    λ s e. rw (c .becomes .ensures, by-data (at .args .t1) (at .pre .1 .shape) s, ← (rw e at for-this), test .if1 .left)
+    (left-as _ _ true _ _ e, λ _. calm-said _ [])
 
 pub nmt-frame-spec : {M : Type 1} → statement M
 nmt-frame-spec =
     tie.close (tie.spec (λ c κs. search needs) (λ c. search needs) (λ c κs. search needs) (λ c. search needs) (λ c. search needs) returns
-    (λ c κs. search needs) (λ c κs. search needs) returns-2)
+    (λ c κs. search needs) returns-2)

@@ -14,16 +14,17 @@ use Rattle.nmt.proofs.heartbeats.tick.Tie as tie
 returns : tie.Need-returns
 unfolding tick sentInto
 returns c =
-    let test = c .before .before in
-    rw (c .ticked .ensures, c .before .parts-of .ensures, ← test .before .before .heartbeat-time .ensures, test .if1 .taken) (counted _ _ [] _ _)
+    let test = c .before in
+    λ s e. rw (c .ticked .ensures, ← test .before .before .heartbeat-time .ensures, test .if1 .taken, e) (counted _ _ [] _ _)
 
 returns-2 : tie.Need-returns-2
 unfolding tick sentInto
 returns-2 c =
     let none = c .before .before .before .before .before in
     let period = none .before .before in
-    let more = lt-ltb (suc (period .before .before .before .args .s .node .heartbeat)) (period .heartbeat-time .result) (omega arith) in
-    rw (c .ticked2 .ensures, c .before .counted .ensures, add-one, ← period .heartbeat-time .ensures, ne-eqb _ _ (none .if1 .left), more)
+    let more = lt-ltb (suc (period .before .before .before .args .parts .node .heartbeat)) (period .heartbeat-time .result) (omega arith) in
+    λ s e.
+    rw (c .ticked2 .ensures, c .before .counted .ensures, add-one, e, ← period .heartbeat-time .ensures, ne-eqb _ _ (none .if1 .left), rw e at more)
     (counted _ _ [] _ _)
 
 returns-3 : tie.Need-returns-3
@@ -32,13 +33,12 @@ returns-3 c =
     let sent = c .before .before .before .before in
     let none = sent .before .before .before .before .before in
     let period = none .before .before in
-    let s = period .before .before .before .args .s in
-    let full = le-ltb (suc (s .node .heartbeat)) (period .heartbeat-time .result) (omega arith) in
-    rw (c .ticked3 .ensures, c .before .counted2 .ensures, sent .send-byte .ensures, sent .before .state-byte .ensures)
-    (rw (← period .heartbeat-time .ensures, ne-eqb _ _ (none .if1 .left), full) (counted _ _ (heartbeat s) _ _))
+    let full = le-ltb (suc (period .before .before .before .args .parts .node .heartbeat)) (period .heartbeat-time .result) (omega arith) in
+    λ s e. rw (c .ticked3 .ensures, c .before .counted2 .ensures, sent .send-byte .ensures, sent .before .state-byte .ensures, e)
+    (rw (← period .heartbeat-time .ensures, ne-eqb _ _ (none .if1 .left), rw e at full) (counted _ _ (heartbeat s) _ _))
 
 pub tick-spec : {M : Type 1} → statement M
 tick-spec =
-    tie.close (tie.spec (λ c κs. search needs) (λ c κs. search needs) (λ c κs. search needs) returns (λ c. search needs) (λ c. search needs)
-    (λ c κs. search needs) (λ c κs. search needs) returns-2 (λ c κs. search needs) (λ c κs. search needs) (λ c κs. search needs)
-    (λ c κs. search needs) (λ c. search needs) returns-3)
+    tie.close (tie.spec (λ c κs. search needs) (λ c κs. search needs) returns (λ c. search needs) (λ c. search needs) (λ c κs. search needs)
+    (λ c κs. search needs) returns-2 (λ c κs. search needs) (λ c κs. search needs) (λ c κs. search needs) (λ c κs. search needs) (λ c. search needs)
+    returns-3)

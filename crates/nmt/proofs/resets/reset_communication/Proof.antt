@@ -1,5 +1,6 @@
 -- `nmt::resets::reset_communication` meets its contract. Assumes nothing.
 use mathlib.Core.Path.{refl}
+use mathlib.Core.Bool.{false≢true}
 use Rattle.rules_services.specs.Nmt.{commanded, left, voltageDisabled}
 use Rattle.nmt.proofs.Commanding.{reset-writes, set-back}
 use borrow.Author.Needs.{needs}
@@ -12,12 +13,12 @@ returns : tie.Need-returns
 unfolding commanded left voltageDisabled
 returns c =
     let sent = c .before .before .before .before in
-    let written = sent .before .before .before .before in
-    let n = written .before .before .before .before .before .before .args .s .node .id in
-    let leaves = set-back n (filter isReset table) in (
-      rw (c .before .disabled .ensures, c .none-held .ensures)
-          (leaves _ _ _ _ _ _ _ refl (reset-writes n) (written .write-communication-defaults .ensures) (sent .boot-up .ensures)),
-      refl,
+    let written = sent .before .before .before .before .write-communication-defaults .ensures in
+    λ s e.
+    let leaves = set-back (s .node .id) (filter isReset table) in (
+      rw (c .before .disabled .ensures, c .none-held .ensures, e)
+          (leaves _ _ _ _ _ _ _ refl (reset-writes (s .node .id)) (rw e at written) (rw e at (sent .boot-up .ensures))),
+      λ q. absurd (false≢true q),
     )
 
 pub reset-communication-spec : {M : Type 1} → statement M

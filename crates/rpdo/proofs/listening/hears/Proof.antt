@@ -1,7 +1,7 @@
 -- `rpdo::listening::hears` meets its contract. Assumes nothing.
-use mathlib.Core.Path.{sym}
+use mathlib.Core.Path.{_∙_}
 use native.Mathlib.Omega.{arith}
-use Rattle.rpdo.proofs.Hearing.{for-another, invalid, heard}
+use Rattle.rpdo.proofs.Hearing.{for-another, heard}
 use borrow.Author.Needs.{needs}
 use Rattle.rpdo.proofs.listening.hears.Statement.{statement}
 use Rattle.rpdo.proofs.listening.hears.Tie as tie
@@ -10,20 +10,13 @@ returns : tie.Need-returns
 returns c =
     let r = c .before in
     let a = r .before .before .args in
-    sym (for-another (a .d .now) (a .p) (a .identifier) (r .identifier .result) (r .identifier .ensures) (c .if1 .taken))
+    for-another (a .d .now) (a .p) (a .identifier) (r .identifier .result) (r .identifier .ensures) (c .if1 .taken)
 
 returns-2 : tie.Need-returns-2
 returns-2 c =
     let r = c .before .before in
     let a = r .before .before .args in
-    sym (invalid (a .d .now) (a .p) (a .identifier) (r .identifier .result) (r .identifier .ensures) (c .if2 .taken))
-
-returns-3 : tie.Need-returns-3
-returns-3 c =
-    let r = c .before .before .before in
-    let a = r .before .before .args in
-    heard (a .d .now) (a .p) (a .identifier) (r .identifier .result) (r .identifier .ensures) (omega arith) (c .before .if2 .left)
-    (c .map-count .result) (c .map-count .ensures)
+    c .is-open .ensures ∙ heard (a .d .now) (a .p) (a .identifier) (r .identifier .result) (r .identifier .ensures) (omega arith)
 
 pub hears-spec : {M : Type 1} → statement M
-hears-spec = tie.close (tie.spec (λ c κs. search needs) returns returns-2 (λ c κs. search needs) returns-3)
+hears-spec = tie.close (tie.spec (λ c κs. search needs) returns (λ c κs. search needs) returns-2)

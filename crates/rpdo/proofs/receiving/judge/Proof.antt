@@ -32,7 +32,7 @@ returns-2 c =
 
 returns-3 : tie.Need-returns-3
 returns-3 c =
-    let t = c .before .before .before .before in
+    let t = c .before in
     let o = t .before .before .before in
     let l = o .before .are-legal .ensures in
     let s = o .before .before .before .before .before in

@@ -11,18 +11,14 @@ use Rattle.sdo.proofs.server.serve.Tie as tie
 pub serve-spec : {M : Type 1} → statement M
 unfolding sdo asked abort
 serve-spec =
-    tie.close (tie.spec (λ c κs. search needs) (λ c. search needs) (λ c κs. search needs) (λ c. search needs) (λ c. search needs) (λ c. search needs)
-    (λ c κs. search needs)
-    (λ c. let m = c .before .before .before in let p = m .before in let a = p .before .before .before .args in
+    tie.close (tie.spec (λ c. search needs) (λ c κs. search needs) (λ c. search needs) (λ c. search needs) (λ c. search needs) (λ c κs. search needs)
+    (λ c s e. let m = c .before .before .before in let a = m .before .before .before .args in
     rw (← m .command-of .ensures, c .before .enum-told3 .given .1, c .becomes .ensures)
-    (left-as (a .s) _ true (a .d .now) (a .output .now) (p .parts-of .ensures), λ q. calm-said (a .s) []))
+    (left-as s _ true (a .d .now) (a .output .now) e, λ q. calm-said s []))
     (λ c. search needs) (λ c κs. search needs) (λ c. search needs)
-    (λ c. let k = c .before .before in let g = k .before .before in let m = g .before .before in let p = m .before in
-    let a = p .before .before .before .args in
-    rw (← m .command-of .ensures, g .enum-told4 .given .1) (rw (p .parts-of .ensures) at (k .answer .ensures (a .d .now) (a .s))))
-    (λ c κs. let p = c .before .before .before .before in rw (p .parts-of .ensures) (p .before .before .before .pre)) (λ c. search needs)
-    (λ c. search needs)
-    (λ c. let k = c .before .before .before .before in let g = k .before .before .before in let m = g .before in let p = m .before in
-    let f = rw (p .parts-of .ensures) at (k .to-object .ensures (p .before .before .before .args .s)) in
+    (λ c. let k = c .before .before in let g = k .before .before in let m = g .before .before in
+    rw (← m .command-of .ensures, g .enum-told4 .given .1) (k .answer .ensures (m .before .before .before .args .d .now)))
+    (λ c κs. search needs) (λ c. search needs) (λ c. search needs)
+    (λ c. let k = c .before .before .before .before in let g = k .before .before .before in let m = g .before in let f = k .to-object .ensures in
     ⊎-elim (λ t. rw (← m .command-of .ensures, t .1 .given .1) (rw (t .2) at f)) (λ t. rw (← m .command-of .ensures, t .1 .given .1) (rw (t .2) at f))
     (g .match .came)))

@@ -1,13 +1,11 @@
 -- `soundness::axis::is_drive_clear` meets its contract. Assumes nothing.
-use Rattle.rules.specs.Outcome.{statusOf}
-use Rattle.rules.specs.Sound.{statusAsMade, modeAsMade}
 use Rattle.soundness.specs.Parts.{driveClauses}
 use borrow.Author.Needs.{needs}
 use Rattle.soundness.proofs.axis.is_drive_clear.Statement.{statement}
 use Rattle.soundness.proofs.axis.is_drive_clear.Tie as tie
 
 returns : tie.Need-returns
-unfolding driveClauses statusAsMade statusOf modeAsMade
+unfolding driveClauses
 returns c =
     let b = c .before .before .before in
     rw (b .is-status-made .ensures, b .before .is-stopped .ensures, c .before .before .is-mode-made .ensures)

@@ -4,7 +4,7 @@ use Rattle.soundness.proofs.axis.is_mode_made.Statement.{statement}
 use Rattle.soundness.proofs.axis.is_mode_made.Tie as tie
 
 returns : tie.Need-returns
-returns c = rw (c .before .before .mode .ensures, c .before .mode-display .ensures, c .mode-number .ensures)
+returns c = rw (c .before .before .mode .ensures, c .before .mode-display .ensures, c .number .ensures)
 
 pub is-mode-made-spec : {M : Type 1} → statement M
 is-mode-made-spec =

@@ -20,13 +20,13 @@ returns-3 : tie.Need-returns-3
 returns-3 c =
     let a = c .before .before .before .before .before .before .args in
     sym (event-count (a .m) (a .d .now) (a .p) (a .count) (c .before .before .before .before .if1 .left)
-    (rw (← c .before .type-of .ensures) (c .if3 .taken)))
+    (rw (← c .before .transmission-type .ensures) (c .if3 .taken)))
 
 returns-4 : tie.Need-returns-4
 returns-4 c =
     let b = c .before .before in
     let a = b .before .before .before .before .args in
-    let e = c .before .type-of .ensures in
+    let e = c .before .transmission-type .ensures in
     rw e
     (sym (working-count (a .m) (a .d .now) (a .p) (a .count) (b .before .before .if1 .left)
     (sym (b .before .works .ensures) ∙ not-false _ (b .if2 .left)) (rw (← e) (omega arith))))

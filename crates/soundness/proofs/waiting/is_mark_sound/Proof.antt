@@ -18,7 +18,7 @@ returns-3 : tie.Need-returns-3
 unfolding dueSound
 returns-3 c =
     let b = c .before .before in
-    rw (b .before .if1 .left, sym (b .works .ensures) ∙ not-false _ (c .before .if2 .left), c .type-of .ensures)
+    rw (b .before .if1 .left, sym (b .works .ensures) ∙ not-false _ (c .before .if2 .left), c .transmission-type .ensures)
 
 pub is-mark-sound-spec : {M : Type 1} → statement M
 is-mark-sound-spec =

@@ -25,4 +25,4 @@ returns-2 c =
 
 pub pace-spec : {M : Type 1} → statement M
 pace-spec =
-    tie.close (tie.spec (λ c κs. search needs) (λ c κs. search needs) returns (λ c. search needs) (λ c κs. search needs) pace-of-requires returns-2)
+    tie.close (tie.spec (λ c. search needs) (λ c κs. search needs) (λ c κs. search needs) returns (λ c κs. search needs) pace-of-requires returns-2)

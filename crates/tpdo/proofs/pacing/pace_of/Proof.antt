@@ -30,16 +30,26 @@ unfolding paceOf
 returns-3 c =
     let t = c .before in
     let a = t .before .before .before .before .args in
-    rw (lt-leb 1 (a .kind) (omega arith), eq-eqb (a .kind) 0 (omega arith), t .if3 .taken, or-true (a .kept .due), ← (t .before .before .is-synced .ensures))
-    (c .acyclic .ensures)
+    rw (
+      lt-leb 1 (a .kind) (omega arith),
+      eq-eqb (a .kind) 0 (omega arith),
+      t .if3 .taken,
+      or-true (a .kept .due),
+      ← (t .before .before .is-synced .ensures),
+    ) (c .acyclic .ensures)
 
 returns-4 : tie.Need-returns-4
 unfolding paceOf
 returns-4 c =
     let t = c .before in
     let a = t .before .before .before .before .args in
-    rw (lt-leb 1 (a .kind) (omega arith), eq-eqb (a .kind) 0 (omega arith), t .if3 .left, or-false (a .kept .due), ← (t .before .before .is-synced .ensures))
-    (c .acyclic2 .ensures)
+    rw (
+      lt-leb 1 (a .kind) (omega arith),
+      eq-eqb (a .kind) 0 (omega arith),
+      t .if3 .left,
+      or-false (a .kept .due),
+      ← (t .before .before .is-synced .ensures),
+    ) (c .acyclic2 .ensures)
 
 pub pace-of-spec : {M : Type 1} → statement M
 pace-of-spec =

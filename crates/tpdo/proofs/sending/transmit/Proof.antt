@@ -12,7 +12,8 @@ returns-2 : tie.Need-returns-2
 returns-2 c =
     let k = c .before .before .before .before in
     let a = k .before .before .before .before .args in
-    sent (a .d .now) (a .t) (a .content) (a .output .now) (a .goes) (not-false _ (k .before .if1 .left)) _ (k .identifier .ensures) _ (c .before .before .send .ensures)
+    sent (a .d .now) (a .t) (a .content) (a .output .now) (a .goes) (not-false _ (k .before .if1 .left)) _ (k .identifier .ensures) _
+    (c .before .before .send .ensures)
 
 pub transmit-spec : {M : Type 1} → statement M
 transmit-spec =

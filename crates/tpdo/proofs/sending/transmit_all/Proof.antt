@@ -6,13 +6,13 @@ use mathlib.Core.Logic.{⊎-elim}
 use lib.ListN.{length, length-take, length-drop}
 use native.Mathlib.Omega.{arith}
 use borrow.Author.Needs.{needs}
-use Rattle.state.specs.declared.NmtState.{NmtState}
 use Rattle.state.specs.declared.NmtState.the-variants.{Operational}
 use Rattle.rules_dictionary.specs.Table.{eachWay}
 use Rattle.rules_services.specs.PdoTraffic.{noData}
 use Rattle.rules.specs.Outcome.{frameSize}
 use Rattle.output.proofs.Frames.{lent-back}
-use Rattle.tpdo.proofs.Rounds.{operational, any-default, one-at-most, count-below, Reached, none-yet, one-more, in-operational, Over, all-done, at-rest}
+use Rattle.tpdo.proofs.Rounds.{operational, any-default, one-at-most, count-below, Reached, none-yet, one-more}
+use Rattle.tpdo.proofs.Rounds.{in-operational, Over, all-done, at-rest}
 use Rattle.tpdo.proofs.sending.transmit_all.Statement.{statement}
 use Rattle.tpdo.proofs.sending.transmit_all.Tie as tie
 
@@ -67,15 +67,21 @@ transmit-requires c κs =
     let l = inside .before .loop in
     let start = c .before .before .before .before .before .before .before .before .before .before .before .before .before in
     let t = inside .loop-test .taken in
-    let four = ready-long start in
-    (start .pre .0 .long, (simp (length-take, length-drop) (omega (arith, l .inv .few, l .inv .long)), (t, rw (any-default (start .args .t6) (l .t) _ noData (omega arith)) (start .pre .0 .shape (l .t) t))))
+    let four = ready-long start in (
+      start .pre .0 .long,
+      (
+        simp (length-take, length-drop) (omega (arith, l .inv .few, l .inv .long)),
+        (t, rw (any-default (start .args .t6) (l .t) _ noData (omega arith)) (start .pre .0 .shape (l .t) t)),
+      ),
+    )
 
 add-sent : tie.Need-add-sent Inv-loop μ-loop
 add-sent c =
     let sent = c .before .before in
     let one : sent .transmit .result ≤ 1 = rw (sent .transmit .ensures .0) (one-at-most _ _ _ _) in
-    let r = c .before .before .before .before .before .before .before .before .before .before .before .loop .inv in
-    omega (arith, r .few, r .far, c .before .before .before .before .before .before .before .before .before .before .before .before .before .before .before .before .pre .1 .1)
+    let l = c .before .before .before .before .before .before .before .before .before .before .before in
+    let start = l .before .before .before .before .before in
+    omega (arith, l .loop .inv .few, l .loop .inv .far, start .pre .1 .1)
 
 loop-less : tie.Need-loop-less Inv-loop μ-loop
 loop-less c = omega (arith, c .before .before .before .before .before .before .before .before .before .before .before .before .loop .inv .far)
@@ -89,9 +95,12 @@ loop-again c =
     let start = inside .before .before .before .before .before .before in
     let a = start .args in
     let t = inside .loop-test .taken in
-    let is = told .pace .ensures ∙ in-operational (a .was) (a .occasion) Operational (a .t1) (a .t2) (a .d .now) (a .t6) refl t (kept-long start) (ready-long start) (paces-long start) _ _ _ (told .before .before .changed .ensures) in
+    let is = told .pace .ensures
+    ∙ in-operational (a .was) (a .occasion) Operational (a .t1) (a .t2) (a .d .now) (a .t6) refl t
+    (kept-long start) (ready-long start) (paces-long start) _ _ _ (told .before .before .changed .ensures) in
     one-more (a .was) (a .occasion) Operational (a .t1) (a .t2) (a .d .now) (a .t6) (l .inv) t (start .pre .1 .1) (start .pre .1 .0)
-    (told .pace .result) is _ (any-default (a .t6) (l .t) _ noData (omega (arith, ready-long start))) (sent .transmit .result) (sent .transmit .ensures .0) _
+    (told .pace .result) is _ (any-default (a .t6) (l .t) _ noData (omega (arith, ready-long start)))
+    (sent .transmit .result) (sent .transmit .ensures .0) _
     (lent-back (l .output) _ _ (l .sent) (length (l .output) - frameSize * l .sent) (omega arith) (sent .transmit .ensures .1))
 
 -- where the two ways meet

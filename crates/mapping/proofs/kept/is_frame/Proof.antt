@@ -1,0 +1,101 @@
+-- `mapping::kept::is_frame` meets its contract: what is left to compare is what was at the start. Assumes nothing.
+use Prim.Native.Nat.{_-_}
+use mathlib.Core.Path.{sym, _∙_}
+use native.Mathlib.Omega.{arith}
+use borrow.Author.Needs.{needs}
+use borrow.Author.Tests.{not-true, not-false}
+use Rattle.mapping.proofs.Assembly.{are-bytes}
+use Rattle.mapping.proofs.Framed.{count-at, Compared, none-compared, Comparable, value-room, one-more, other-value}
+use Rattle.mapping.proofs.Framed.{zeros-room, other-length, zeros-left}
+use Rattle.mapping.proofs.kept.is_frame.Statement.{statement}
+use Rattle.mapping.proofs.kept.is_frame.Tie as tie
+
+abbrev Inv-loop : tie.InvT-loop
+Inv-loop state d frame plan count first moves₀ at₀ k₀ moves at k = Compared d state frame plan moves at k
+
+abbrev μ-loop : tie.MeasureT-loop
+μ-loop state d frame plan count first moves₀ at₀ k₀ moves at k = count - k
+
+cast-count : tie.Need-cast-count Inv-loop μ-loop
+cast-count c =
+    let s = c .before .before .before in
+    omega (arith, count-at (s .args .plan) (s .args .state .now), s .pre .1 .1 .1 .few)
+
+loop-holds : tie.Need-loop-holds Inv-loop μ-loop
+loop-holds c =
+    let s = c .before .before .before in
+    none-compared (s .args .d .now) (s .args .state .now) (s .args .frame) (s .args .plan) (s .pre .1 .1 .1)
+
+comparable : (c : tie.At-loop Inv-loop μ-loop) →
+    let a = c .before .before .before .before .args in Comparable (a .d .now) (a .state .now) (a .frame) (a .plan)
+comparable c =
+    let s = c .before .before .before .before in
+    record {
+      full = s .pre .1 .1 .0;
+      inside = s .pre .0 .0;
+      fits = s .pre .1 .1 .1;
+      values = are-bytes (s .args .d .now) (λ i h. omega (arith, c .before .before .shared-slice-known2 .given i));
+      contents = are-bytes (s .args .state .now) (λ i h. omega (arith, c .before .before .before .shared-slice-known .given i));
+    }
+
+read4-requires : tie.Need-read4-requires Inv-loop μ-loop
+read4-requires c κs = let i = c .before .loop .inv in omega (arith, i .stands, i .few)
+
+is-value-requires : tie.Need-is-value-requires Inv-loop μ-loop
+is-value-requires c κs =
+    let w = c .before .before in
+    let l = w .before .before in
+    value-room (comparable l) (l .loop .inv) (w .before .loop-test .taken) (w .read4 .ensures) (c .place-of .ensures) (c .before .size-of .ensures)
+
+returns : tie.Need-returns Inv-loop μ-loop
+returns c =
+    let m = c .before .before in
+    let w = m .before .before in
+    let l = w .before .before in
+    other-value (comparable l) (l .loop .inv) (w .before .loop-test .taken) (w .read4 .ensures) (m .place-of .ensures) (m .before .size-of .ensures)
+    (sym (c .before .is-value .ensures) ∙ not-true _ (c .if1 .taken))
+
+add-at : tie.Need-add-at Inv-loop μ-loop
+add-at c =
+    let m = c .before .before in
+    let w = m .before .before in
+    let l = w .before .before in
+    let r =
+    value-room (comparable l) (l .loop .inv) (w .before .loop-test .taken) (w .read4 .ensures) (m .place-of .ensures) (m .before .size-of .ensures) in
+    search needs
+
+loop-again : tie.Need-loop-again Inv-loop μ-loop
+loop-again c =
+    let m = c .before .before in
+    let w = m .before .before in
+    let l = w .before .before in
+    one-more (comparable l) (l .loop .inv) (w .before .loop-test .taken) (w .read4 .ensures) (m .place-of .ensures) (m .before .size-of .ensures)
+    (sym (c .before .is-value .ensures) ∙ not-false _ (c .if1 .left))
+
+cast-if2 : tie.Need-cast-if2 Inv-loop μ-loop
+cast-if2 c =
+    let s = c .before .before .before .before .before .before in
+    omega (arith, c .shared-slice-known4 .given (s .args .frame), s .pre .0 .0)
+
+returns-2 : tie.Need-returns-2 Inv-loop μ-loop
+returns-2 c =
+    let l = c .before .before .before in
+    other-length (comparable l) (l .loop .inv) (omega arith) (c .if2 .taken)
+
+are-zero-requires : tie.Need-are-zero-requires Inv-loop μ-loop
+are-zero-requires c κs =
+    let l = c .before .before .before in
+    let r = zeros-room (comparable l) (l .loop .inv) (omega arith) in
+    (r .0, (omega arith, omega (arith, r .1, l .before .before .before .before .pre .1 .0 .0)))
+
+returns-3 : tie.Need-returns-3 Inv-loop μ-loop
+returns-3 c =
+    let l = c .before .before .before .before in
+    c .are-zero .ensures ∙ zeros-left (comparable l) (l .loop .inv) (omega arith) (c .before .if2 .left)
+
+pub is-frame-spec : {M : Type 1} → statement M
+is-frame-spec =
+    tie.close (tie.spec Inv-loop μ-loop (λ c. search needs) cast-count (λ c. search needs) (λ c. search needs) loop-holds read4-requires
+    (λ c κs. search needs) (λ c κs. search needs) (λ c. search needs) is-value-requires returns (λ c. search needs) add-at
+    (λ c. search needs) (λ c. search needs) (λ c. search needs) loop-again (λ c. search needs) (λ c. search needs) cast-if2
+    returns-2 (λ c. search needs) are-zero-requires returns-3)
