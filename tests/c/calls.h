@@ -4,25 +4,31 @@
 
 #include "cendurak.h"
 
+/* How many bytes the buffers stand behind a boundary. A node needs no alignment, and a test may say 1 to try it. */
+#ifndef PLACED
+#define PLACED 0
+#endif
+
 /* At fixed places in a line of the cache, so that what a call costs does not hang on how the program was linked. */
-static _Alignas(64) uint8_t state[CENDURAK_STATE_LEN];
-static _Alignas(64) uint8_t dict[CENDURAK_DICT_LEN];
-static _Alignas(64) uint8_t out[CENDURAK_OUT_LEN];
+static _Alignas(64) uint8_t state_room[PLACED + CENDURAK_STATE_LEN];
+static _Alignas(64) uint8_t dict_room[PLACED + CENDURAK_DICT_LEN];
+static _Alignas(64) uint8_t out_room[PLACED + CENDURAK_OUT_LEN];
+static uint8_t *const state = state_room + PLACED, *const dict = dict_room + PLACED, *const out = out_room + PLACED;
 static uint32_t answer;
 
 static inline void power_up(uint32_t n)
 {
-    answer = cendurak_power_up(state, sizeof state, dict, sizeof dict, out, sizeof out, n);
+    answer = cendurak_power_up(state, CENDURAK_STATE_LEN, dict, CENDURAK_DICT_LEN, out, CENDURAK_OUT_LEN, n);
 }
 
 static inline void frame(uint32_t identifier, const uint8_t *data, uint32_t length)
 {
-    answer = cendurak_frame(state, sizeof state, dict, sizeof dict, out, sizeof out, identifier, data, length);
+    answer = cendurak_frame(state, CENDURAK_STATE_LEN, dict, CENDURAK_DICT_LEN, out, CENDURAK_OUT_LEN, identifier, data, length);
 }
 
 static inline void event(uint32_t number, const uint8_t *args, uint32_t length)
 {
-    answer = cendurak_event(state, sizeof state, dict, sizeof dict, out, sizeof out, number, args, length);
+    answer = cendurak_event(state, CENDURAK_STATE_LEN, dict, CENDURAK_DICT_LEN, out, CENDURAK_OUT_LEN, number, args, length);
 }
 
 #endif

@@ -1,11 +1,14 @@
 /*
- * The kinds of call that docs/PERFORMANCE.md speaks of, by the letters of tools/measure: `prepare` brings the node to where the call is made,
- * `call` makes it for the i-th time.
+ * The kinds of call that docs/PERFORMANCE.md speaks of. A kind is a word of a letter and a digit: the letter is the call, the digit says what
+ * is mapped; without a digit the maps are the default ones. `prepare` brings the node to where the call is made, `call` makes it for the
+ * i-th time. tools/measure has the names of the kinds.
  */
 #ifndef KINDS_H
 #define KINDS_H
 
 #include "calls.h"
+
+/* ---- requests */
 
 static inline void sdo(uint8_t command, uint32_t index, uint8_t subindex, uint32_t value)
 {
@@ -28,59 +31,137 @@ static inline void ready(void)
     event(CENDURAK_VOLTAGE, &on, 1);
 }
 
+/* One transmission type for all four TPDOs. */
 static inline void types(uint8_t type)
 {
     for (uint32_t i = 0; i < 4; i++)
         sdo(0x2F, 0x1800 + i, 2, type);
 }
 
-/* Eight bytes in every map. */
+/* ---- maps. A PDO is mapped while its identifier is marked as not valid, bit 31. `is_mapped` tells that no map was refused. */
+
+enum { RPDO3 = 2, TPDO3 = 2 };
+
+static const uint32_t NOT_VALID = 0x80000000u, NO_RTR = 0x40000000u;
+static int is_mapped = 1;
+
+static inline void map(uint32_t communication, uint32_t identifier, uint32_t count, const uint32_t *entries)
+{
+    sdo(0x23, communication, 1, NOT_VALID + identifier);
+    sdo(0x2F, communication + 0x200, 0, 0);
+    for (uint32_t k = 0; k < count; k++)
+        sdo(0x23, communication + 0x200, (uint8_t)(k + 1), entries[k]);
+    sdo(0x2F, communication + 0x200, 0, count);
+    is_mapped &= cendurak_data(out, 0)[0] == 0x60;
+    sdo(0x23, communication, 1, identifier);
+}
+
+static inline void map_rpdo(uint32_t i, uint32_t count, const uint32_t *entries)
+{
+    map(0x1400 + i, 0x205 + 0x100 * i, count, entries);
+}
+
+static inline void map_tpdo(uint32_t i, uint32_t count, const uint32_t *entries)
+{
+    map(0x1800 + i, NO_RTR + 0x185 + 0x100 * i, count, entries);
+}
+
+/* Eight entries of a byte each in every map. */
 static inline void full_maps(void)
 {
+    uint32_t modes[8], displays[8];
+
+    for (uint32_t k = 0; k < 8; k++)
+        modes[k] = 0x60600008, displays[k] = 0x60610008;
     for (uint32_t i = 0; i < 4; i++) {
-        sdo(0x23, 0x1400 + i, 1, 0x80000000u + 0x205 + 0x100 * i);
-        sdo(0x2F, 0x1600 + i, 0, 0);
-        for (uint32_t k = 1; k <= 8; k++)
-            sdo(0x23, 0x1600 + i, (uint8_t)k, 0x60600008);
-        sdo(0x2F, 0x1600 + i, 0, 8);
-        sdo(0x23, 0x1400 + i, 1, 0x205 + 0x100 * i);
-        sdo(0x23, 0x1800 + i, 1, 0xC0000000u + 0x185 + 0x100 * i);
-        sdo(0x2F, 0x1A00 + i, 0, 0);
-        for (uint32_t k = 1; k <= 8; k++)
-            sdo(0x23, 0x1A00 + i, (uint8_t)k, 0x60610008);
-        sdo(0x2F, 0x1A00 + i, 0, 8);
-        sdo(0x23, 0x1800 + i, 1, 0x40000000u + 0x185 + 0x100 * i);
+        map_rpdo(i, 8, modes);
+        map_tpdo(i, 8, displays);
     }
 }
 
-static inline void prepare(int kind)
+static inline void prepare_maps(char maps)
+{
+    static const uint32_t position_velocity[] = {0x60640020, 0x606C0020}, three[] = {0x60410010, 0x60610008, 0x60640020};
+    static const uint32_t acceleration[] = {0x60830020}, target_first[] = {0x607A0020, 0x60400010};
+
+    switch (maps) {
+    case '1': map_tpdo(TPDO3, 2, position_velocity); break;
+    case '2': map_tpdo(TPDO3, 3, three); break;
+    case '3': map_tpdo(TPDO3, 0, 0); break;
+    case '4': map_rpdo(RPDO3, 1, acceleration); break;
+    case '5': map_rpdo(RPDO3, 2, target_first); break;
+    case '6': full_maps(); break;
+    default: break;
+    }
+}
+
+/* ---- the calls */
+
+/* RPDO3, as long as its map is: two frames of it that follow each other differ in what they write. */
+static inline void rpdo3(char maps, uint32_t i)
+{
+    const uint8_t word = i % 2 ? 0x07 : 0x06, mode = i % 2 ? 3 : 1;
+    const uint8_t usual[6] = {word, 0, 1, 2, 3, (uint8_t)i}, target_first[6] = {1, 2, 3, (uint8_t)i, word, 0};
+    const uint8_t modes[8] = {mode, mode, mode, mode, mode, mode, mode, mode};
+
+    switch (maps) {
+    case '4': frame(0x405, usual, 4); break;
+    case '5': frame(0x405, target_first, 6); break;
+    case '6': frame(0x405, modes, 8); break;
+    default: frame(0x405, usual, 6); break;
+    }
+}
+
+static inline void feedback(uint32_t i)
+{
+    const uint8_t at[8] = {(uint8_t)i, (uint8_t)(i >> 8)};
+    event(CENDURAK_FEEDBACK, at, 8);
+}
+
+/* What comes in a period of a machine: SYNC, for which all four TPDOs are sent; two RPDOs; two frames for others; an SDO upload; and twice
+ * what the amplifier measured, and a tick. */
+static inline void machine_cycle(char maps, uint32_t i)
+{
+    switch (i % 10) {
+    case 0: frame(0x80, 0, 0); break;
+    case 1: case 5: frame(0x7FF, 0, 0); break;
+    case 2: case 7: rpdo3(maps, i); break;
+    case 3: case 8: feedback(i); break;
+    case 4: case 9: event(CENDURAK_TICK, 0, 0); break;
+    case 6: sdo(0x40, 0x6041, 0, 0); break;
+    }
+}
+
+static inline void prepare(const char *kind)
 {
     ready();
-    switch (kind) {
-    case 'b': types(1); operational(); break;
+    prepare_maps(kind[1]);
+    switch (kind[0]) {
+    case 'b': case 'o': types(1); operational(); break;
     case 'c': types(0); operational(); frame(0x80, 0, 0); break;
-    case 'd': full_maps(); types(1); operational(); break;
     case 'f': sdo(0x2F, 0x1402, 2, 1); operational(); break;
     case 'e': case 'g': case 'i': case 'j': case 'l': case 'm': case 'n': operational(); break;
     default: break;
     }
 }
 
-static inline void call(int kind, uint32_t i)
+static inline void call(const char *kind, uint32_t i)
 {
-    uint8_t data[8] = {(uint8_t)(i % 2 ? 0x07 : 0x06), 0, 1, 2, 3, (uint8_t)i};
-    switch (kind) {
+    static const uint8_t five_bytes[5] = {0x06};
+
+    switch (kind[0]) {
     case 'a': power_up(5); break;
-    case 'b': case 'c': case 'd': frame(0x80, 0, 0); break;
-    case 'e': case 'f': frame(0x405, data, 6); break;
-    case 'g': frame(0x405, data, 5); break;
+    case 'b': case 'c': frame(0x80, 0, 0); break;
+    case 'e': case 'f': rpdo3(kind[1], i); break;
+    case 'g': frame(0x405, five_bytes, 5); break;
     case 'h': sdo(0x40, 0x6041, 0, 0); break;
     case 'i': sdo(0x23, 0x607A, 0, i); break;
     case 'j': sdo(0x2B, 0x6040, 0, i % 2 ? 0x07 : 0x06); break;
     case 'k': sdo(0x40, 0x6042, 0, 0); break;
     case 'l': frame(0x7FF, 0, 0); break;
     case 'm': event(CENDURAK_TICK, 0, 0); break;
-    case 'n': { uint8_t at[8] = {(uint8_t)i, (uint8_t)(i >> 8)}; event(CENDURAK_FEEDBACK, at, 8); break; }
+    case 'n': feedback(i); break;
+    case 'o': machine_cycle(kind[1], i); break;
     }
 }
 

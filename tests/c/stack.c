@@ -4,12 +4,13 @@
  *   stack check            measures a function of known depth, and says where the figure is wrong
  *   stack kind KIND        the deepest of 64 calls of that kind
  *   stack stream < FILE    the deepest call of a bench stream, and the number of its record
+ *   stack routines         the deepest of memcpy, memmove and memset, which a call may use, over lengths and alignments
  *
  * Why the figure is right. The call is made on a stack of the program's own, which was filled with one byte before; afterwards the byte
  * nearest to its far end that is not that one was written by the call, or by what it called. A byte that was written with the very value of
  * the paint would hide, so each call is made twice from the same buffers, with two paints, and the deeper answer counts. What the caller
- * itself puts there is found by calling a function that does nothing, and taken off; the return address is counted as the call's. The C
- * library's functions are bound at the program's start (tools/c-build), so the binding is no part of it.
+ * itself puts there is found by calling a function that does nothing, and taken off; where the return address stands on the stack it is
+ * counted as the call's. The C library's functions are bound at the program's start (tools/c-build), so the binding is no part of it.
  *
  * What it does not see: bytes that a function reserves and never writes, below the deepest byte written.
  */
@@ -19,7 +20,12 @@
 #include "cendurak.h"
 #include "own_stack.h"
 
-enum { RETURN_ADDRESS = 8, LEAST_LEFT = 1024, CALLS_OF_A_KIND = 64 };
+#ifdef __arm__
+enum { RETURN_ADDRESS = 0 }; /* it comes in a register */
+#else
+enum { RETURN_ADDRESS = 8 };
+#endif
+enum { LEAST_LEFT = 1024, CALLS_OF_A_KIND = 64 };
 
 static const uint8_t paints[2] = {0xA5, 0x5A};
 
@@ -83,6 +89,17 @@ static __attribute__((noinline)) uint32_t no_other(uint8_t *s, uint64_t sn, uint
 
 /* Goes down by its second argument, a length, and writes one byte there, the low byte of its fourth. */
 uint32_t goes_down(uint8_t *, uint64_t, uint8_t *, uint64_t, uint8_t *, uint64_t, uint32_t, const uint8_t *, uint64_t);
+#ifdef __arm__
+__asm__(".text\n"
+        ".thumb_func\n"
+        "goes_down:\n\t"
+        "ldr r1, [sp, #8]\n\t"
+        "sub sp, sp, r2\n\t"
+        "strb r1, [sp]\n\t"
+        "add sp, sp, r2\n\t"
+        "mov r0, #0\n\t"
+        "bx lr\n");
+#else
 __asm__(".text\n"
         "goes_down:\n\t"
         "subq %rsi, %rsp\n\t"
@@ -90,6 +107,7 @@ __asm__(".text\n"
         "addq %rsi, %rsp\n\t"
         "xorl %eax, %eax\n\t"
         "retq\n");
+#endif
 
 /* ---- the calls, measured: kinds.h and records.h call these in place of the node's */
 
@@ -177,6 +195,65 @@ static uint32_t measured_event(uint8_t *state, uint64_t state_len, uint8_t *dict
     return measured(make_other, 0, cendurak_event);
 }
 
+/* ---- the routines of the C library that a call may use */
+
+typedef void *copy_routine(void *, const void *, size_t);
+typedef void *fill_routine(void *, int, size_t);
+
+/* The routine that is called next. What it answers is kept, so that the call is not the last thing of its caller, whose frame stays below it. */
+static struct {
+    copy_routine *copy;
+    fill_routine *fill;
+    uint8_t *to;
+    const uint8_t *from;
+    size_t length;
+    void *answer;
+} routine;
+
+static void make_copy(void)
+{
+    routine.answer = routine.copy(routine.to, routine.from, routine.length);
+}
+
+static void make_fill(void)
+{
+    routine.answer = routine.fill(routine.to, 0, routine.length);
+}
+
+static __attribute__((noinline)) void *no_copy(void *to, const void *from, size_t length)
+{
+    (void)from, (void)length;
+    return to;
+}
+
+static __attribute__((noinline)) void *no_fill(void *to, int byte, size_t length)
+{
+    (void)byte, (void)length;
+    return to;
+}
+
+static uint32_t depth_of_routine(void (*make)(void))
+{
+    uint32_t one = depth_of(make, paints[0]), other = depth_of(make, paints[1]);
+    return one > other ? one : other;
+}
+
+static void note_copy(copy_routine *copy)
+{
+    routine.copy = no_copy;
+    uint32_t of_caller = depth_of_routine(make_copy);
+    routine.copy = copy;
+    note(depth_of_routine(make_copy), of_caller);
+}
+
+static void note_fill(fill_routine *fill)
+{
+    routine.fill = no_fill;
+    uint32_t of_caller = depth_of_routine(make_fill);
+    routine.fill = fill;
+    note(depth_of_routine(make_fill), of_caller);
+}
+
 #define cendurak_power_up measured_power_up
 #define cendurak_frame measured_frame
 #define cendurak_event measured_event
@@ -187,7 +264,7 @@ static uint32_t measured_event(uint8_t *state, uint64_t state_len, uint8_t *dict
 
 static int is_measured(uint32_t depth, uint8_t written)
 {
-    lend(state, depth, dict, written, out, sizeof out);
+    lend(state, depth, dict, written, out, CENDURAK_OUT_LEN);
     deepest = 0;
     measured(make_other, 0, goes_down);
     if (deepest != depth + RETURN_ADDRESS)
@@ -208,14 +285,14 @@ static int check(void)
     return wrong != 0;
 }
 
-static int of_kind(int kind)
+static int of_kind(const char *kind)
 {
     prepare(kind);
     deepest = 0;
     for (uint32_t i = 0; i < CALLS_OF_A_KIND; i++)
         call(kind, i);
     printf("%u\n", deepest);
-    return is_too_deep;
+    return is_too_deep || !is_mapped;
 }
 
 static int of_stream(void)
@@ -233,12 +310,35 @@ static int of_stream(void)
     return is_too_deep;
 }
 
+/* Lengths up to that of the longest buffer, at all places of a word; memmove to a little before and a little behind what it moves. */
+static int of_routines(void)
+{
+    enum { APART = CENDURAK_DICT_LEN + 8 };
+    static uint8_t bytes[3 * APART];
+
+    for (uint32_t i = 0; i < 16; i++)
+        for (uint32_t length = 0; length <= CENDURAK_DICT_LEN; length += 1 + length / 8) {
+            routine.to = bytes + APART + i / 4, routine.length = length;
+            note_fill(memset);
+            routine.from = bytes + i % 4;
+            note_copy(memcpy);
+            routine.from = routine.to + 8 + i % 4;
+            note_copy(memmove);
+            routine.from = routine.to - 8 + i % 4;
+            note_copy(memmove);
+        }
+    printf("%u\n", deepest);
+    return is_too_deep;
+}
+
 int main(int argc, char **argv)
 {
     if (argc == 2 && strcmp(argv[1], "check") == 0)
         return check();
+    if (argc == 2 && strcmp(argv[1], "routines") == 0)
+        return of_routines();
     if (argc == 3 && strcmp(argv[1], "kind") == 0)
-        return of_kind(argv[2][0]);
+        return of_kind(argv[2]);
     if (argc == 2 && strcmp(argv[1], "stream") == 0)
         return of_stream();
     return 2;
