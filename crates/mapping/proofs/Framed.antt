@@ -245,10 +245,13 @@ module _ {d bs : List ℕ} {frame place : ℕ} (g : Comparable d bs frame place)
     longer : bytesLeft d plan k ≡ s + bytesLeft d plan (k + 1)
     longer = length-next d bs plan (g .fits) (g .full) k in-count p s place-is size-is
 
+    pub value-within : at + s ≤ frame + dataLength
+    value-within = omega (arith, longer, c .bytes, c .room)
+
     pub value-room : (at + s ≤ length bs) × ((p + s ≤ length d) × IsSize s)
     value-room =
         let m = move-fits d bs plan (g .fits) (g .full) k in-count p s place-is size-is in
-        (omega (arith, longer, c .bytes, c .room, g .inside), (rw (g .full) (m .0), m .1))
+        (omega (arith, value-within, g .inside), (rw (g .full) (m .0), m .1))
 
     compared :
         sameLeft d bs plan 0 (frame + 1) 8

@@ -6,29 +6,34 @@ use mathlib.Core.Path.{_≡_, refl, sym, _∙_, ap}
 use mathlib.Core.Logic.{_⊎_, inl, inr}
 use mathlib.Core.Bool.{Bool, true, false, not, _&&_, _||_, true≢false, and-true, and-false, and-assoc}
 use mathlib.Core.List.{List, [], _∷_, map}
-use borrow.Author.Tests.{eqb-true, eqb-false, eq-eqb, ne-eqb, ltb-true}
+use borrow.Author.Tests.{eqb-true, eqb-false, eq-eqb, ne-eqb, leb-true, leb-false, ltb-true}
 use lib.Bits.{bitOr}
 use lib.Dec.{eqb, leb}
 use lib.ListN.{length, take, drop, getD}
 use Rattle.rules_dictionary.specs.declared.Move.{Move}
 use Rattle.rules_dictionary.specs.declared.Plan.{Plan}
 use Rattle.rules_dictionary.specs.Numbers.{value, part, all}
-use Rattle.rules_dictionary.specs.Table.{Row, Direction, receive, transmit, directionOf, placeOf, sizeOf, eachWay, mapCount, wordsPlace, mostMoves}
-use Rattle.rules_dictionary.specs.Table.{open-table}
+use Rattle.rules_dictionary.specs.Table.{Row, Direction, receive, transmit, directionOf, placeOf, sizeOf, mapCount, mappingPlace, wordsPlace}
+use Rattle.rules_dictionary.specs.Table.{mostMoves, open-table}
 use Rattle.rules_dictionary.specs.Values.{read}
-use Rattle.rules_dictionary.specs.Plans.{move, noMove}
+use Rattle.rules_dictionary.specs.Plans.{move, noMove, mapped, planFor}
 use Rattle.rules_dictionary.proofs.Tests.{and-left, and-right, all-in}
-use Rattle.rules.specs.Outcome.{sameMove, mostData}
+use Rattle.rules_dictionary.proofs.Packing.{regular}
+use Rattle.rules_dictionary.proofs.Members.{pdo-in}
+use Rattle.rules.specs.Outcome.{sameMove, samePlan, mostData}
+use Rattle.rules.specs.Sound.{mappingLegal}
+use Rattle.dictionary.specs.Sizes.{IsPdo}
+use Rattle.dictionary.proofs.Bytes.{value-step, value-none}
 use Rattle.form.specs.Form.{planPlace, half, wordAt, moveOf, moveAt, planAt, each}
 use Rattle.form.specs.Own.{isZero, small, everyAt, everyWord, planOwn}
 use Rattle.form.proofs.Tested.{or-zero}
-use Rattle.mapping.specs.Words.{mappables, wordMove, keptWord, namesOne, wayOf}
+use Rattle.mapping.specs.Words.{mappables, wordMove, keptWord, namesOne}
 use Rattle.mapping.specs.Slots.{wordsFrom}
-use Rattle.mapping.specs.Kept.{mapsKept, sparesKept, mappedKept, spareKept, planKeptIn}
+use Rattle.mapping.specs.Kept.{mapsKept, sparesKept, mappedKept, spareKept, planKeptIn, planKeptAt}
 use Rattle.mapping.proofs.Naming.{Names, facts, one-or-none, sizes}
 use Rattle.mapping.proofs.Worked.{Tested, tested, same-move, take-words, length-words-from}
 use Rattle.mapping.proofs.Legality.{asRuled, isMapped, isUnmapped, within, past, none-left, words-behind}
-use Rattle.mapping.proofs.Legality.{way-of, too-many, other-count, same-count}
+use Rattle.mapping.proofs.Legality.{too-many, other-count, same-count}
 
 -- ---- a move's word
 
@@ -259,47 +264,66 @@ module _ (way : Direction) (w k : ℕ) where
       go true f = absurd (h (eqb-true _ _ (or-zero w k ∙ rw (f, eq-eqb k 0 e))))
       go false f = refl
 
--- ---- as the code goes: the count, then the kept count, then the slots
+-- ---- by places, as the code goes: the count, then the kept count, then the slots
 
-module _ (bs d : List ℕ) (p count : ℕ) (is : count ≡ read d (mapCount p)) where
+module _ (bs d : List ℕ) (p : ℕ) (is : IsPdo p) where
   abbrev plan : Plan
   plan = planAt (planPlace p) bs
 
-  pub many-kept : mostMoves < count → false ≡ planKeptIn bs d p
+  abbrev count : ℕ
+  count = getD d (mappingPlace p) 0
+
+  abbrev kept-count : ℕ
+  kept-count = getD bs (planPlace p) 0
+
+  counted : count ≡ read d (mapCount p)
+  unfolding read
+  counted = sym (omega (arith, value-step 0 (mappingPlace p) d, value-none (mappingPlace p + 1) d))
+
+  -- what is no plan of the mapping's is not kept
+  refused : false ≡ (leb (read d (mapCount p)) mostMoves && (mappingLegal d p && samePlan plan (planFor (mapped d p)))) → false ≡ planKeptIn bs d p
   unfolding planKeptIn
-  many-kept h = sym (and-false (planOwn (planPlace p) bs)) ∙ ap (λ (b : Bool). planOwn (planPlace p) bs && b) (too-many d p plan count is h)
+  refused e = sym (and-false (planOwn (planPlace p) bs)) ∙ ap (λ (b : Bool). planOwn (planPlace p) bs && b) e
 
-  module _ (h : count ≤ mostMoves) (place : ℕ) (stands : place ≡ planPlace p) where
-    pub other-kept : (getD bs place 0 ≡ count → ⊥) → false ≡ planKeptIn bs d p
-    unfolding planKeptIn planAt
-    other-kept e =
-        sym (and-false (planOwn (planPlace p) bs))
-        ∙ ap (λ (b : Bool). planOwn (planPlace p) bs && b) (other-count d p plan count is h (rw stands at e))
+  -- the words within the count and those past it are kept where the plan is
+  slots : count ≤ mostMoves → kept-count ≡ count →
+      (mappedKept (directionOf p) 0 (wordsFrom count (mappingPlace p + 1) d) (wordsFrom count (planPlace p + 1) bs)
+      && spareKept (directionOf p) (wordsFrom (8 - count) (mappingPlace p + 1 + 4 * count) d)
+      (wordsFrom (8 - count) (planPlace p + 1 + 4 * count) bs))
+      ≡ planKeptIn bs d p
+  unfolding planKeptIn planAt planOwn everyWord
+  slots h e =
+      let first = mappingPlace p + 1 in
+      let at = planPlace p + 1 in
+      let ws = wordsFrom 8 first d in
+      let ks = wordsFrom 8 at bs in
+      let f : first ≡ wordsPlace p = sym (regular (pdo-in p is) .words) in
+      rw (
+        ← take-words 8 count first d h,
+        ← take-words 8 count at bs h,
+        ← drop-words d 8 count first h,
+        ← drop-words bs 8 count at h,
+        ← slots-kept p count 0 ws ks (length-words-from 8 first d ∙ sym (length-words-from 8 at bs)) (rw (length-words-from 8 first d) h),
+        f,
+        words-behind d p,
+        small-words bs 8 at,
+        moves-words bs 8 at,
+      )
+      (ap (λ (b : Bool). all small ks && b) (same-count d p (record { count = kept-count; moves = map moveOf ks }) count counted h e))
 
-    -- THE LAW: the words within the count and those past it are kept where the plan is
-    pub same-kept : getD bs place 0 ≡ count → (first : ℕ) → first ≡ wordsPlace p →
-        (mappedKept (wayOf (leb eachWay p)) 0 (wordsFrom count first d) (wordsFrom count (place + 1) bs)
-        && spareKept (wayOf (leb eachWay p)) (wordsFrom (8 - count) (first + 4 * count) d) (wordsFrom (8 - count) (place + 1 + 4 * count) bs))
-        ≡ planKeptIn bs d p
-    unfolding planKeptIn planAt planOwn everyWord
-    same-kept e first f =
-        let at = place + 1 in
-        let ws = wordsFrom 8 first d in
-        let ks = wordsFrom 8 at bs in
-        rw (
-          ← take-words 8 count first d h,
-          ← take-words 8 count at bs h,
-          ← drop-words d 8 count first h,
-          ← drop-words bs 8 count at h,
-          way-of p,
-          ← slots-kept p count 0 ws ks (length-words-from 8 first d ∙ sym (length-words-from 8 at bs)) (rw (length-words-from 8 first d) h),
-          f,
-          words-behind d p,
-          ← stands,
-          small-words bs 8 at,
-          moves-words bs 8 at,
-        )
-        (ap (λ (b : Bool). all small ks && b) (same-count d p (record { count = getD bs place 0; moves = map moveOf ks }) count is h e))
+  -- THE LAW: a PDO's plan is kept where that at its places is
+  pub at-places : planKeptAt (directionOf p) (planPlace p) (mappingPlace p) bs d ≡ planKeptIn bs d p
+  unfolding planKeptAt planAt
+  at-places = go (leb count mostMoves) refl (eqb kept-count count) refl
+    where
+      go : (b : Bool) → leb count mostMoves ≡ b → (c : Bool) → eqb kept-count count ≡ c →
+          (b && (c && (mappedKept (directionOf p) 0 (wordsFrom count (mappingPlace p + 1) d) (wordsFrom count (planPlace p + 1) bs)
+          && spareKept (directionOf p) (wordsFrom (8 - count) (mappingPlace p + 1 + 4 * count) d)
+          (wordsFrom (8 - count) (planPlace p + 1 + 4 * count) bs))))
+          ≡ planKeptIn bs d p
+      go false e c f = refused (too-many d p plan count counted (leb-false count mostMoves e))
+      go true e false f = refused (other-count d p plan count counted (leb-true count mostMoves e) (eqb-false kept-count count f))
+      go true e true f = slots (leb-true count mostMoves e) (eqb-true kept-count count f)
 
 -- THE LAW FOR CALLERS: what a plan is that is kept
 pub kept-tested : (bs d : List ℕ) (p : ℕ) → planKeptIn bs d p ≡ true → Tested d p (planAt (planPlace p) bs)

@@ -4,14 +4,16 @@ use Prim.Native.Nat.{ℕ, _+_, _-_, _*_}
 use mathlib.Core.List.{List, [], _∷_}
 use mathlib.Core.Bool.{Bool, true, false, _&&_, _||_}
 use lib.Dec.{eqb, leb}
-use Rattle.rules_dictionary.specs.Table.{Direction, eachWay, mapCount, mostMoves}
+use lib.ListN.{getD}
+use Rattle.rules_dictionary.specs.Table.{Direction, mapCount, mostMoves}
 use Rattle.rules_dictionary.specs.Values.{read}
 use Rattle.rules_dictionary.specs.Plans.{mapped, planFor}
 use Rattle.rules.specs.Outcome.{samePlan, sameData, mostData}
 use Rattle.rules.specs.Sound.{mappingLegal}
-use Rattle.form.specs.Form.{moveOf, planAt, planPlace, dataAt, dataLength, readyPlace}
+use Rattle.form.specs.Form.{wordLength, moveOf, planAt, planPlace, dataAt, dataLength, readyPlace}
 use Rattle.form.specs.Own.{planOwn, isZero, everyWord}
 use Rattle.mapping.specs.Words.{keptWord, namesOne}
+use Rattle.mapping.specs.Slots.{wordsFrom}
 use Rattle.mapping.specs.Moves.{readyBy}
 
 -- ---- mapping words beside the words that are kept for them
@@ -50,10 +52,23 @@ planKeptIn bs d p =
     planOwn (planPlace p) bs
     && (leb (read d (mapCount p)) mostMoves && (mappingLegal d p && samePlan (planAt (planPlace p) bs) (planFor (mapped d p))))
 
+-- the bytes of a mapping record: its count and eight words
+abbrev pub recordLength : ℕ
+recordLength = 1 + mostMoves * wordLength
+
+-- the same by places, as it is tested: the count of the mapping record, the plan's count, then the words within the count and those past it
+unfoldable pub planKeptAt : Direction → ℕ → ℕ → List ℕ → List ℕ → Bool
+planKeptAt way plan map bs d =
+    let count = getD d map 0 in
+    leb count mostMoves && (eqb (getD bs plan 0) count
+    && (mappedKept way 0 (wordsFrom count (map + 1) d) (wordsFrom count (plan + 1) bs)
+    && spareKept way (wordsFrom (mostMoves - count) (map + 1 + wordLength * count) d)
+    (wordsFrom (mostMoves - count) (plan + 1 + wordLength * count) bs)))
+
 -- where a transmit PDO's ready frame stands
 abbrev pub framePlace : ℕ → ℕ
 framePlace t = readyPlace + dataLength * t
 
--- the ready frame is the one that its kept plan gives
-unfoldable pub readyKeptIn : List ℕ → List ℕ → ℕ → Bool
-readyKeptIn bs d t = sameData (dataAt (framePlace t) bs) (readyBy d (planAt (planPlace (eachWay + t)) bs))
+-- the frame at a place is the one that the plan at a place gives
+abbrev pub frameKeptAt : ℕ → ℕ → List ℕ → List ℕ → Bool
+frameKeptAt frame plan bs d = sameData (dataAt frame bs) (readyBy d (planAt plan bs))

@@ -2,43 +2,48 @@
 use crate::words::kept_word;
 use crate::words::place_of;
 use crate::words::size_of;
-use dictionary::places::EACH_WAY;
+use dictionary::places;
 use dictionary::places::MOST_WORDS;
 use dictionary::places::WORD_LENGTH;
 use dictionary::read1;
 use dictionary::read2;
 use dictionary::read4;
-use dictionary::records;
 use form::bits_of_words;
 use form::layout;
 ghost use mathlib.Core.Path.{_≡_};
-ghost use mathlib.Core.Bool.{true, _&&_};
+ghost use mathlib.Core.Bool.{_&&_};
 ghost use Prim.Native.Nat.{_+_, _*_, _^_, _<_, _≤_};
 ghost use lib.Dec.{eqb};
 ghost use lib.ListN.{length};
 ghost use Rattle.rules_dictionary.specs.Numbers.{value, part};
-ghost use Rattle.rules_dictionary.specs.Table.{eachWay, dictionaryLength};
-ghost use Rattle.rules.specs.Outcome.{sameData, mostData};
-ghost use Rattle.dictionary.specs.Sizes.{IsSize, IsPdo};
-ghost use Rattle.form.specs.Form.{stateLength, dataLength, dataAt, planLength, planPlace, planAt};
+ghost use Rattle.rules_dictionary.specs.Table.{dictionaryLength};
+ghost use Rattle.rules.specs.Outcome.{mostData};
+ghost use Rattle.dictionary.specs.Sizes.{IsSize};
+ghost use Rattle.form.specs.Form.{dataLength, planLength, planAt};
 ghost use Rattle.mapping.specs.Words.{wayOf};
 ghost use Rattle.mapping.specs.Slots.{wordsFrom};
-ghost use Rattle.mapping.specs.Moves.{readyBy, MovesFit};
-ghost use Rattle.mapping.specs.Kept.{mapsKept, sparesKept, mappedKept, spareKept, endsEmpty, planKeptIn, readyKeptIn};
+ghost use Rattle.mapping.specs.Moves.{MovesFit};
+ghost use Rattle.mapping.specs.Kept.{mapsKept, sparesKept, mappedKept, spareKept, endsEmpty, recordLength, planKeptAt, frameKeptAt};
 
-// The bytes of half a word.
-const HALF_LENGTH: usize = WORD_LENGTH / 2;
+// Places and counts are words of the controller here. The bytes of a mapping word, and of half of one.
+const STEP: u32 = WORD_LENGTH as u32;
 
-// Half of the words of a mapping.
-const HALF: usize = MOST_WORDS / 2;
+const HALF_STEP: u32 = STEP / 2;
 
-// Where a PDO's plan stands.
-fn plan_place(p: usize) -> usize
-    requires { ⌜ IsPdo p ⌝ }
-    ensures { λ r. ⌜ (r ≡ planPlace p) × (r < 2 ^ 16) ⌝ }
-{
-    layout::PLANS + layout::PLAN_LENGTH * p
-}
+// The most bytes that a PDO maps.
+const MOST_DATA: u32 = layout::MOST_DATA as u32;
+
+// The most words that a PDO maps, and half of them.
+const MOST_MOVES: u32 = MOST_WORDS as u32;
+
+const HALF: u32 = MOST_MOVES / 2;
+
+// How far a plan's moves stand behind its count, a mapping record's words behind its count, and a frame's bytes behind its length.
+const MOVES_OFFSET: u32 = layout::MOVES_OFFSET as u32;
+
+const WORDS: u32 = places::WORDS as u32;
+
+const DATA_OFFSET: u32 = layout::DATA_OFFSET as u32;
 
 // Whether a mapping word within the count names an object, and the word of its move is kept.
 fn is_mapped(word: u32, kept: u32, transmit: bool) -> bool
@@ -64,14 +69,7 @@ fn is_spare(word: u32, kept: u32, transmit: bool) -> bool
 }
 
 // Whether so many mapping words name objects, of eight bytes at the most, and the words of their moves are kept.
-fn are_mapped(
-    state: &[u8],
-    d: &[u8],
-    moves: usize,
-    words: usize,
-    count: usize,
-    transmit: bool,
-) -> bool
+fn are_mapped(state: &[u8], d: &[u8], moves: u32, words: u32, count: u32, transmit: bool) -> bool
     requires { ⌜ (moves + 4 * count ≤ length (now state)) × (moves < 2 ^ 16) ⌝ }
     requires { ⌜ (words + 4 * count ≤ length (now d)) × ((words < 2 ^ 16) × (count ≤ 8)) ⌝ }
     ensures { λ r. ⌜ r ≡
@@ -80,29 +78,22 @@ fn are_mapped(
     let mut at = moves;
     let mut place = words;
     let mut left = count;
-    let mut used: usize = 0;
+    let mut used: u32 = 0;
     while 0 < left {
-        let kept = read4(state, at);
-        if !is_mapped(read4(d, place), kept, transmit) {
+        let kept = read4(state, at as usize);
+        if !is_mapped(read4(d, place as usize), kept, transmit) {
             return false;
         }
-        used += size_of(kept) as usize;
-        at += WORD_LENGTH;
-        place += WORD_LENGTH;
+        used += size_of(kept) as u32;
+        at += STEP;
+        place += STEP;
         left -= 1;
     }
-    used <= layout::MOST_DATA
+    used <= MOST_DATA
 }
 
 // Whether so many mapping words are legal, and nothing is kept for them: one after another.
-fn is_each_spare(
-    state: &[u8],
-    d: &[u8],
-    moves: usize,
-    words: usize,
-    count: usize,
-    transmit: bool,
-) -> bool
+fn is_each_spare(state: &[u8], d: &[u8], moves: u32, words: u32, count: u32, transmit: bool) -> bool
     requires { ⌜ (moves + 4 * count ≤ length (now state)) × (moves < 2 ^ 17) ⌝ }
     requires { ⌜ (words + 4 * count ≤ length (now d)) × ((words < 2 ^ 17) × (count ≤ 8)) ⌝ }
     ensures { λ r. ⌜ r ≡
@@ -112,37 +103,36 @@ fn is_each_spare(
     let mut place = words;
     let mut left = count;
     while 0 < left {
-        if !is_spare(read4(d, place), read4(state, at), transmit) {
+        if !is_spare(
+            read4(d, place as usize),
+            read4(state, at as usize),
+            transmit,
+        ) {
             return false;
         }
-        at += WORD_LENGTH;
-        place += WORD_LENGTH;
+        at += STEP;
+        place += STEP;
         left -= 1;
     }
     true
 }
 
 // Whether four to eight mapping words are zero and nothing is kept for them: read from both ends, where the reads may share words.
-fn are_empty(state: &[u8], d: &[u8], moves: usize, words: usize, count: usize) -> bool
+fn are_empty(state: &[u8], d: &[u8], moves: u32, words: u32, count: u32) -> bool
     requires { ⌜ (moves + 4 * count ≤ length (now state)) × (moves < 2 ^ 17) ⌝ }
     requires { ⌜ (words + 4 * count ≤ length (now d)) × ((words < 2 ^ 17) × ((4 ≤ count) × (count ≤ 8))) ⌝ }
     ensures { λ r. ⌜ r ≡ (endsEmpty count moves (now (state .entry)) && endsEmpty count words (now (d .entry))) ⌝ }
 {
-    let behind = WORD_LENGTH * (count - HALF);
-    let kept = bits_of_words(state, moves, HALF) | bits_of_words(state, moves + behind, HALF);
-    let named = bits_of_words(d, words, HALF) | bits_of_words(d, words + behind, HALF);
+    let behind = STEP * (count - HALF);
+    let kept = bits_of_words(state, moves as usize, HALF as usize)
+        | bits_of_words(state, (moves + behind) as usize, HALF as usize);
+    let named = bits_of_words(d, words as usize, HALF as usize)
+        | bits_of_words(d, (words + behind) as usize, HALF as usize);
     (kept | named) == 0
 }
 
 // Whether so many mapping words are legal, and nothing is kept for them. Mostly there is nothing at all, which needs no loop.
-fn are_spare(
-    state: &[u8],
-    d: &[u8],
-    moves: usize,
-    words: usize,
-    count: usize,
-    transmit: bool,
-) -> bool
+fn are_spare(state: &[u8], d: &[u8], moves: u32, words: u32, count: u32, transmit: bool) -> bool
     requires { ⌜ (moves + 4 * count ≤ length (now state)) × (moves < 2 ^ 17) ⌝ }
     requires { ⌜ (words + 4 * count ≤ length (now d)) × ((words < 2 ^ 17) × (count ≤ 8)) ⌝ }
     ensures { λ r. ⌜ r ≡
@@ -156,33 +146,32 @@ fn are_spare(
     is_each_spare(state, d, moves, words, count, transmit)
 }
 
-// Whether a PDO's mapping is legal, its count at most eight, and the plan that it gives is kept.
-pub fn is_plan_kept(state: &[u8], d: &[u8], p: usize) -> bool
-    requires { ⌜ (length (now state) ≡ stateLength) × ((length (now d) ≡ dictionaryLength) × IsPdo p) ⌝ }
-    ensures { λ r. ⌜ r ≡ planKeptIn (now (state .entry)) (now (d .entry)) p ⌝ }
+// Whether the mapping record at a place is legal, its count at most eight, and the plan at a place is the one that it gives.
+pub fn is_plan_kept(state: &[u8], d: &[u8], plan: u32, map: u32, transmit: bool) -> bool
+    requires { ⌜ (plan + planLength ≤ length (now state)) × (plan < 2 ^ 15) ⌝ }
+    requires { ⌜ (map + recordLength ≤ length (now d)) × (map < 2 ^ 15) ⌝ }
+    ensures { λ r. ⌜ r ≡ planKeptAt (wayOf transmit) plan map (now (state .entry)) (now (d .entry)) ⌝ }
 {
-    let plan = plan_place(p);
-    let mapped = records::map_count(d, p);
-    let count = mapped as usize;
-    if MOST_WORDS < count {
+    let mapped = d[map as usize];
+    let count = mapped as u32;
+    if MOST_MOVES < count {
         return false;
     }
-    if state[plan] != mapped {
+    if state[plan as usize] != mapped {
         return false;
     }
-    let kept = plan + layout::MOVES_OFFSET;
-    let words = records::words_place(p);
-    let transmit = EACH_WAY <= p;
-    if !are_mapped(state, d, kept, words, count, transmit) {
+    let moves = plan + MOVES_OFFSET;
+    let words = map + WORDS;
+    if !are_mapped(state, d, moves, words, count, transmit) {
         return false;
     }
-    let behind = WORD_LENGTH * count;
+    let behind = STEP * count;
     are_spare(
         state,
         d,
-        kept + behind,
+        moves + behind,
         words + behind,
-        MOST_WORDS - count,
+        MOST_MOVES - count,
         transmit,
     )
 }
@@ -202,57 +191,49 @@ fn is_value(state: &[u8], d: &[u8], at: usize, place: usize, size: u8) -> bool
 }
 
 // Whether so many bytes from a place on, eight at the most, are zero: read from both ends, where the reads may share bytes.
-fn are_zero(bytes: &[u8], place: usize, count: usize) -> bool
+fn are_zero(bytes: &[u8], place: u32, count: u32) -> bool
     requires { ⌜ (place + count ≤ length (now bytes)) × ((count ≤ mostData) × (place < 2 ^ 17)) ⌝ }
     ensures { λ r. ⌜ r ≡ eqb (value (part place count (now (bytes .entry)))) 0 ⌝ }
 {
-    if WORD_LENGTH <= count {
-        return (read4(bytes, place) | read4(bytes, place + (count - WORD_LENGTH))) == 0;
+    if STEP <= count {
+        return (read4(bytes, place as usize) | read4(bytes, (place + (count - STEP)) as usize))
+            == 0;
     }
-    if HALF_LENGTH <= count {
-        return (read2(bytes, place) | read2(bytes, place + (count - HALF_LENGTH))) == 0;
+    if HALF_STEP <= count {
+        return (read2(bytes, place as usize) | read2(bytes, (place + (count - HALF_STEP)) as usize))
+            == 0;
     }
     if 0 < count {
-        return read1(bytes, place) == 0;
+        return read1(bytes, place as usize) == 0;
     }
     true
 }
 
 // Whether the frame at a place is the one that the plan at a place gives: the bytes that it maps, one value behind another, then zeros.
-fn is_frame(state: &[u8], d: &[u8], frame: usize, plan: usize) -> bool
+pub fn is_frame_kept(state: &[u8], d: &[u8], frame: u32, plan: u32) -> bool
     requires { ⌜ (frame + dataLength ≤ length (now state)) × (plan + planLength ≤ length (now state)) ⌝ }
     requires { ⌜ (frame < 2 ^ 16) × (plan < 2 ^ 16) ⌝ }
     requires { ⌜ (length (now d) ≡ dictionaryLength) × MovesFit (planAt plan (now state) .moves) (planAt plan (now state) .count) ⌝ }
-    ensures { λ r. ⌜ r ≡ sameData (dataAt frame (now (state .entry))) (readyBy (now (d .entry)) (planAt plan (now (state .entry)))) ⌝ }
+    ensures { λ r. ⌜ r ≡ frameKeptAt frame plan (now (state .entry)) (now (d .entry)) ⌝ }
 {
-    let count = state[plan] as usize;
-    let first = frame + layout::DATA_OFFSET;
-    let mut moves = plan + layout::MOVES_OFFSET;
+    let count = state[plan as usize] as u32;
+    let first = frame + DATA_OFFSET;
+    let mut moves = plan + MOVES_OFFSET;
     let mut at = first;
-    let mut k: usize = 0;
+    let mut k: u32 = 0;
     while k < count {
-        let word = read4(state, moves);
+        let word = read4(state, moves as usize);
         let size = size_of(word);
-        if !is_value(state, d, at, place_of(word) as usize, size) {
+        if !is_value(state, d, at as usize, place_of(word) as usize, size) {
             return false;
         }
-        at += size as usize;
-        moves += layout::MOVE_LENGTH;
+        at += size as u32;
+        moves += STEP;
         k += 1;
     }
     let mapped = at - first;
-    if state[frame] as usize != mapped {
+    if state[frame as usize] as u32 != mapped {
         return false;
     }
-    are_zero(state, at, layout::MOST_DATA - mapped)
-}
-
-// Whether the ready frame of a transmit PDO, 0 to 3, is the one that its plan gives, where that is kept.
-pub fn is_ready_kept(state: &[u8], d: &[u8], t: usize) -> bool
-    requires { ⌜ (length (now state) ≡ stateLength) × ((length (now d) ≡ dictionaryLength) × (t < eachWay)) ⌝ }
-    requires { ⌜ planKeptIn (now state) (now d) (eachWay + t) ≡ true ⌝ }
-    ensures { λ r. ⌜ r ≡ readyKeptIn (now (state .entry)) (now (d .entry)) t ⌝ }
-{
-    let frame = layout::READY + layout::FRAME_LENGTH * t;
-    is_frame(state, d, frame, plan_place(EACH_WAY + t))
+    are_zero(state, at, MOST_DATA - mapped)
 }

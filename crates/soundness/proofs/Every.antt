@@ -3,18 +3,19 @@
 -- Assumes nothing.
 use Prim.Native.Nat.{ℕ, zero, suc, _+_, _-_, _*_, _<_, _≤_}
 use native.Mathlib.Omega.{arith}
-use mathlib.Core.Path.{_≡_, refl, sym, _∙_}
-use mathlib.Core.Bool.{Bool, true, false, not, _&&_}
+use mathlib.Core.Path.{_≡_, refl, sym, _∙_, ap₂}
+use mathlib.Core.Bool.{Bool, true, false, not, _&&_, and-assoc}
 use mathlib.Core.List.{List}
 use borrow.Author.Tests.{not-true, not-false}
-use Rattle.rules_dictionary.specs.Table.{eachWay}
+use Rattle.rules_dictionary.specs.Table.{Direction, receive, transmit, directionOf, eachWay, mappingPlace, open-table}
 use Rattle.rules_dictionary.proofs.Tests.{and-left, and-right}
 use Rattle.state.specs.declared.NmtState.{NmtState}
 use Rattle.rules.specs.Sound.{paceSound, heldSound}
-use Rattle.form.specs.Form.{planPlace, planAt, dataAt, paceAt, stateOf}
+use Rattle.form.specs.Form.{planLength, planPlace, planAt, dataAt, paceAt, stateOf}
 use Rattle.form.specs.Own.{everyAt, planOwn, plansOwn}
-use Rattle.mapping.specs.Kept.{planKeptIn, framePlace}
-use Rattle.soundness.specs.Kept.{planKept, plansKept, plansKeptIn, frameKept, readyKept}
+use Rattle.mapping.specs.Kept.{recordLength, planKeptIn, planKeptAt, framePlace}
+use Rattle.mapping.proofs.Keeping.{at-places}
+use Rattle.soundness.specs.Kept.{planKept, plansKept, plansKeptIn, plansKeptFrom, frameKept, readyKept}
 use Rattle.soundness.specs.Waiting.{pacePlace, heldFramePlace, waitSound}
 use Rattle.soundness.proofs.RowTests.{both}
 
@@ -62,9 +63,30 @@ every-both f g (suc n) first =
 -- ---- what a state's bytes keep
 
 module _ (bs d : List ℕ) where
+  -- the plan of a PDO, at its places
+  abbrev here : ℕ → Bool
+  here p = planKeptAt (directionOf p) (planPlace p) (mappingPlace p) bs d
+
   pub plans-by-pdo : every (planKeptIn bs d) (2 * eachWay) ≡ plansKeptIn bs d
   unfolding planKeptIn plansKeptIn plansOwn plansKept stateOf
   plans-by-pdo = every-both (λ p. planOwn (planPlace p) bs) (λ p. planKept d p (planAt (planPlace p) bs)) (2 * eachWay) 0
+
+  -- four PDOs, each at its places
+  four-kept : (p : ℕ) → p ≤ eachWay →
+      (here p && (here (p + 1) && (here (p + 2) && (here (p + 3) && true)))) ≡ everyAt (planKeptIn bs d) eachWay p 1
+  four-kept p h =
+      let at : (q : ℕ) → q < 2 * eachWay → here q ≡ planKeptIn bs d q = λ q l. at-places bs d q l in
+      let two : p + 1 + 1 ≡ p + 2 = omega arith in
+      let three : p + 2 + 1 ≡ p + 3 = omega arith in
+      rw (two, three, at p (omega arith), at (p + 1) (omega arith), at (p + 2) (omega arith), at (p + 3) (omega arith))
+
+  -- by direction, from place to place
+  pub plans-by-way :
+      (plansKeptFrom eachWay receive (planPlace 0) (mappingPlace 0) bs d
+      && plansKeptFrom eachWay transmit (planPlace eachWay) (mappingPlace eachWay) bs d)
+      ≡ plansKeptIn bs d
+  unfolding open-table plansKeptFrom
+  plans-by-way = ap₂ _&&_ (four-kept 0 (omega arith)) (four-kept eachWay (omega arith)) ∙ (simp and-assoc) ∙ plans-by-pdo
 
   -- the ready frame of transmit PDO t
   abbrev pub framed : ℕ → Bool
@@ -91,3 +113,18 @@ module _ (bs d : List ℕ) where
       -- where the pace is sound the held frame tells
       pub frame-tells : {o : Bool} → not r ≡ false → o ≡ heldSound m d t (dataAt (heldFramePlace t) bs) → o ≡ waits t
       frame-tells h f = f ∙ sym (rw (sym e ∙ not-false r h))
+
+-- ---- one plan behind another
+
+module _ (way : Direction) (bs d : List ℕ) where
+  pub plans-step : (n plan map : ℕ) → 0 < n →
+      plansKeptFrom n way plan map bs d
+      ≡ (planKeptAt way plan map bs d && plansKeptFrom (n - 1) way (plan + planLength) (map + recordLength) bs d)
+  unfolding plansKeptFrom
+  plans-step zero plan map h = absurd (omega arith)
+  plans-step (suc n) plan map h = let e : suc n - 1 ≡ n = omega arith in rw e
+
+  pub plans-end : (n plan map : ℕ) → n ≤ 0 → plansKeptFrom n way plan map bs d ≡ true
+  unfolding plansKeptFrom
+  plans-end zero plan map h = refl
+  plans-end (suc n) plan map h = absurd (omega arith)

@@ -17,10 +17,10 @@ use Rattle.rules.specs.Sound.{plansFresh, readyFresh}
 use Rattle.form.specs.Form.{planPlace, planAt, planIn, dataAt}
 use Rattle.form.specs.Own.{planOwn}
 use Rattle.form.proofs.OneForm.{plan-stands}
-use Rattle.mapping.specs.Kept.{planKeptIn, framePlace, readyKeptIn}
+use Rattle.mapping.specs.Kept.{planKeptIn, framePlace, frameKeptAt}
 use Rattle.mapping.proofs.Worked.{tested, same-plan}
-use Rattle.soundness.specs.Kept.{planKept, plansKeptIn, frameKept}
-use Rattle.soundness.proofs.Every.{every-in, plans-by-pdo}
+use Rattle.soundness.specs.Kept.{planKept, plansKeptIn}
+use Rattle.soundness.proofs.Every.{every-in, plans-by-pdo, framed}
 
 -- each of the plans that a state's bytes keep, where all are kept
 module _ (bs d : List ℕ) (p : ℕ) (h : p < 2 * eachWay) (kept : plansKeptIn bs d ≡ true) where
@@ -35,12 +35,11 @@ module _ (bs d : List ℕ) (p : ℕ) (h : p < 2 * eachWay) (kept : plansKeptIn b
   plan-in = rw (plan-stands bs p h) plan-at
 
 -- a ready frame that its plan gives is the one that its mapping gives
-pub frame-at : (bs d : List ℕ) (t : ℕ) → t < eachWay → plansKeptIn bs d ≡ true →
-    readyKeptIn bs d t ≡ frameKept d (eachWay + t) (dataAt (framePlace t) bs)
-unfolding readyKeptIn
-frame-at bs d t h kept =
+pub frame-at : (bs d : List ℕ) (t : ℕ) {frame plan : ℕ} → t < eachWay → plansKeptIn bs d ≡ true → frame ≡ framePlace t →
+    plan ≡ planPlace (eachWay + t) → frameKeptAt frame plan bs d ≡ framed bs d t
+frame-at bs d t h kept ef ep =
     let p = eachWay + t in
-    ap (sameData (dataAt (framePlace t) bs)) (tested d p (planAt (planPlace p) bs) (plan-at bs d p (omega arith) kept) .ready)
+    rw (ef, ep) (ap (sameData (dataAt (framePlace t) bs)) (tested d p (planAt (planPlace p) bs) (plan-at bs d p (omega arith) kept) .ready))
 
 -- ---- lists that are the same, element by element, are equal
 

@@ -48,6 +48,6 @@ returns-2 c =
 
 pub are-mapped-spec : {M : Type 1} → statement M
 are-mapped-spec =
-    tie.close (tie.spec Inv-loop μ-loop (λ c. (refl, search needs)) (λ c κs. search needs) (λ c κs. search needs) (λ c κs. search needs) returns
-    (λ c κs. search needs)
+    tie.close (tie.spec Inv-loop μ-loop (λ c. (refl, search needs)) (λ c. search needs) (λ c κs. search needs) (λ c. search needs)
+    (λ c κs. search needs) (λ c κs. search needs) returns (λ c κs. search needs)
     (λ c. search needs) (λ c. search needs) (λ c. search needs) (λ c. search needs) (λ c. search needs) (λ c. search needs) loop-again returns-2)

@@ -47,5 +47,6 @@ returns-2 c =
 
 pub is-each-spare-spec : {M : Type 1} → statement M
 is-each-spare-spec =
-    tie.close (tie.spec Inv-loop μ-loop (λ c. (refl, search needs)) (λ c κs. search needs) (λ c κs. search needs) (λ c κs. search needs) returns
-    (λ c. search needs) (λ c. search needs) (λ c. search needs) (λ c. search needs) loop-again returns-2)
+    tie.close (tie.spec Inv-loop μ-loop (λ c. (refl, search needs)) (λ c. search needs) (λ c κs. search needs) (λ c. search needs)
+    (λ c κs. search needs) (λ c κs. search needs) returns (λ c. search needs) (λ c. search needs) (λ c. search needs) (λ c. search needs)
+    loop-again returns-2)

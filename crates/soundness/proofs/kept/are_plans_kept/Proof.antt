@@ -1,46 +1,33 @@
--- `soundness::kept::are_plans_kept` meets its contract. Assumes nothing.
-use Prim.Native.Nat.{_-_, _*_, _≤_}
-use mathlib.Core.Path.{refl, _∙_}
-use native.Mathlib.Omega.{arith}
+-- `soundness::kept::are_plans_kept` meets its contract: one direction, then the other. Assumes nothing.
+use mathlib.Core.Path.{sym, _∙_}
 use borrow.Author.Needs.{needs}
-use Rattle.rules_dictionary.specs.Table.{eachWay}
-use Rattle.mapping.specs.Kept.{planKeptIn}
-use Rattle.soundness.proofs.Every.{Left, fails, passes, ends, plans-by-pdo}
+use borrow.Author.Tests.{not-true, not-false}
+use Rattle.rules_dictionary.specs.Table.{open-table}
+use Rattle.soundness.proofs.Every.{plans-by-way}
 use Rattle.soundness.proofs.kept.are_plans_kept.Statement.{statement}
 use Rattle.soundness.proofs.kept.are_plans_kept.Tie as tie
 
-abbrev Inv-loop : tie.InvT-loop
-Inv-loop state d p₀ p = Left (planKeptIn state d) (2 * eachWay) p × (p ≤ 2 * eachWay)
+are-kept-requires : tie.Need-are-kept-requires
+unfolding open-table
+are-kept-requires c κs = search needs
 
-abbrev μ-loop : tie.MeasureT-loop
-μ-loop state d p₀ p = 2 * eachWay - p
-
-returns : tie.Need-returns Inv-loop μ-loop
+returns : tie.Need-returns
+unfolding open-table
 returns c =
-    let b = c .before .before in
-    let l = b .before .loop in
-    let a = b .before .before .before .before .args in
-    fails (planKeptIn (a .state .now) (a .d .now)) (2 * eachWay) (l .p) (l .inv .0) (b .loop-test .taken)
-    (c .before .is-plan-kept .ensures) (c .if1 .taken)
-    ∙ plans-by-pdo (a .state .now) (a .d .now)
-
-loop-again : tie.Need-loop-again Inv-loop μ-loop
-loop-again c =
-    let b = c .before .before in
-    let l = b .before .loop in
-    let a = b .before .before .before .before .args in (
-      passes (planKeptIn (a .state .now) (a .d .now)) (2 * eachWay) (l .p) (l .inv .0) (b .loop-test .taken)
-          (c .before .is-plan-kept .ensures) (c .if1 .left),
-      search needs,
-    )
-
-returns-2 : tie.Need-returns-2 Inv-loop μ-loop
-returns-2 c =
-    let l = c .before .loop in
     let a = c .before .before .before .before .args in
-    ends (planKeptIn (a .state .now) (a .d .now)) (2 * eachWay) (l .p) (l .inv .0) (omega arith) ∙ plans-by-pdo (a .state .now) (a .d .now)
+    rw (sym (c .before .are-kept .ensures) ∙ not-true _ (c .if1 .taken)) at (plans-by-way (a .state .now) (a .d .now))
+
+are-kept-requires-2 : tie.Need-are-kept-requires-2
+unfolding open-table
+are-kept-requires-2 c κs = search needs
+
+returns-2 : tie.Need-returns-2
+unfolding open-table
+returns-2 c =
+    let b = c .before .before in
+    let a = b .before .before .before .args in
+    c .are-kept2 .ensures
+    ∙ rw (sym (b .are-kept .ensures) ∙ not-false _ (c .before .if1 .left)) at (plans-by-way (a .state .now) (a .d .now))
 
 pub are-plans-kept-spec : {M : Type 1} → statement M
-are-plans-kept-spec =
-    tie.close (tie.spec Inv-loop μ-loop (λ c. (refl, search needs)) (λ c. search needs) (λ c κs. search needs) returns (λ c. search needs)
-    (λ c. search needs) loop-again returns-2)
+are-plans-kept-spec = tie.close (tie.spec are-kept-requires returns are-kept-requires-2 returns-2)

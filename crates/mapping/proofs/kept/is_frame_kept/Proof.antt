@@ -1,14 +1,15 @@
--- `mapping::kept::is_frame` meets its contract: what is left to compare is what was at the start. Assumes nothing.
+-- `mapping::kept::is_frame_kept` meets its contract: what is left to compare is what was at the start. Assumes nothing.
 use Prim.Native.Nat.{_-_}
 use mathlib.Core.Path.{sym, _∙_}
 use native.Mathlib.Omega.{arith}
 use borrow.Author.Needs.{needs}
 use borrow.Author.Tests.{not-true, not-false}
 use Rattle.mapping.proofs.Assembly.{are-bytes}
-use Rattle.mapping.proofs.Framed.{count-at, Compared, none-compared, Comparable, value-room, one-more, other-value}
+use Rattle.mapping.proofs.Framed.{count-at, Compared, none-compared, Comparable, value-within, value-room}
+use Rattle.mapping.proofs.Framed.{one-more, other-value}
 use Rattle.mapping.proofs.Framed.{zeros-room, other-length, zeros-left}
-use Rattle.mapping.proofs.kept.is_frame.Statement.{statement}
-use Rattle.mapping.proofs.kept.is_frame.Tie as tie
+use Rattle.mapping.proofs.kept.is_frame_kept.Statement.{statement}
+use Rattle.mapping.proofs.kept.is_frame_kept.Tie as tie
 
 abbrev Inv-loop : tie.InvT-loop
 Inv-loop state d frame plan count first moves₀ at₀ k₀ moves at k = Compared d state frame plan moves at k
@@ -38,8 +39,18 @@ comparable c =
       contents = are-bytes (s .args .state .now) (λ i h. omega (arith, c .before .before .before .shared-slice-known .given i));
     }
 
+cast-read4 : tie.Need-cast-read4 Inv-loop μ-loop
+cast-read4 c =
+    let i = c .before .loop .inv in
+    omega (arith, i .stands, i .few, i .within, c .before .before .before .before .before .pre .1 .0 .1)
+
 read4-requires : tie.Need-read4-requires Inv-loop μ-loop
 read4-requires c κs = let i = c .before .loop .inv in omega (arith, i .stands, i .few)
+
+cast-is-value : tie.Need-cast-is-value Inv-loop μ-loop
+cast-is-value c =
+    let l = c .before .before .before in
+    omega (arith, l .loop .inv .bytes, l .loop .inv .room, l .before .before .before .before .pre .1 .0 .0)
 
 is-value-requires : tie.Need-is-value-requires Inv-loop μ-loop
 is-value-requires c κs =
@@ -60,9 +71,9 @@ add-at c =
     let m = c .before .before in
     let w = m .before .before in
     let l = w .before .before in
-    let r =
-    value-room (comparable l) (l .loop .inv) (w .before .loop-test .taken) (w .read4 .ensures) (m .place-of .ensures) (m .before .size-of .ensures) in
-    search needs
+    let t = w .before .loop-test .taken in
+    let r = value-within (comparable l) (l .loop .inv) t (w .read4 .ensures) (m .place-of .ensures) (m .before .size-of .ensures) in
+    omega (arith, r, l .before .before .before .before .pre .1 .0 .0)
 
 loop-again : tie.Need-loop-again Inv-loop μ-loop
 loop-again c =
@@ -93,9 +104,9 @@ returns-3 c =
     let l = c .before .before .before .before in
     c .are-zero .ensures ∙ zeros-left (comparable l) (l .loop .inv) (omega arith) (c .before .if2 .left)
 
-pub is-frame-spec : {M : Type 1} → statement M
-is-frame-spec =
-    tie.close (tie.spec Inv-loop μ-loop (λ c. search needs) cast-count (λ c. search needs) (λ c. search needs) loop-holds read4-requires
-    (λ c κs. search needs) (λ c κs. search needs) (λ c. search needs) is-value-requires returns (λ c. search needs) add-at
+pub is-frame-kept-spec : {M : Type 1} → statement M
+is-frame-kept-spec =
+    tie.close (tie.spec Inv-loop μ-loop (λ c. search needs) cast-count (λ c. search needs) (λ c. search needs) loop-holds cast-read4 read4-requires
+    (λ c κs. search needs) cast-is-value (λ c κs. search needs) (λ c. search needs) is-value-requires returns (λ c. search needs) add-at
     (λ c. search needs) (λ c. search needs) (λ c. search needs) loop-again (λ c. search needs) (λ c. search needs) cast-if2
     returns-2 (λ c. search needs) are-zero-requires returns-3)
