@@ -30,6 +30,7 @@ use Rattle.form.proofs.Tested.{or-zero}
 use Rattle.mapping.specs.Words.{mappables, wordMove, keptWord, namesOne}
 use Rattle.mapping.specs.Slots.{wordsFrom}
 use Rattle.mapping.specs.Kept.{mapsKept, sparesKept, mappedKept, spareKept, planKeptIn, planKeptAt}
+use Rattle.mapping.proofs.Orders.{swap, beside}
 use Rattle.mapping.proofs.Naming.{Names, facts, one-or-none, sizes}
 use Rattle.mapping.proofs.Worked.{Tested, tested, same-move, take-words, length-words-from}
 use Rattle.mapping.proofs.Legality.{asRuled, isMapped, isUnmapped, within, past, none-left, words-behind}
@@ -92,11 +93,6 @@ same-word k v s = go (small k && sameMove (moveOf k) (moveOf v)) refl (eqb k v) 
 
 -- ---- one slot
 
-swap : (a b c : Bool) → (a && (b && c)) ≡ (b && (a && c))
-swap true b c = refl
-swap false true c = refl
-swap false false c = refl
-
 module _ (p w k : ℕ) where
   abbrev way : Direction
   way = directionOf p
@@ -119,14 +115,6 @@ module _ (p w k : ℕ) where
       turn false b c = refl
 
 -- ---- all slots
-
--- the tests of one slot beside those of the rest
-beside : (a x b y : Bool) → ((a && x) && (b && y)) ≡ ((a && b) && (x && y))
-beside true true true y = refl
-beside true true false y = refl
-beside true false true y = refl
-beside true false false y = refl
-beside false x b y = refl
 
 -- nothing kept is no byte more
 no-more : (used k : ℕ) (t y s : Bool) → eqb k 0 ≡ t →

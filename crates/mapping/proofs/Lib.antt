@@ -1,3 +1,4 @@
+pub mod Orders
 pub mod Naming
 pub mod Legality
 pub mod Joining

@@ -14,10 +14,10 @@ use Rattle.rules.specs.Sound.{paceSound, heldSound}
 use Rattle.form.specs.Form.{planLength, planPlace, planAt, dataAt, paceAt, stateOf}
 use Rattle.form.specs.Own.{everyAt, planOwn, plansOwn}
 use Rattle.mapping.specs.Kept.{recordLength, planKeptIn, planKeptAt, framePlace}
+use Rattle.mapping.proofs.Orders.{beside}
 use Rattle.mapping.proofs.Keeping.{at-places}
 use Rattle.soundness.specs.Kept.{planKept, plansKept, plansKeptIn, plansKeptFrom, frameKept, readyKept}
 use Rattle.soundness.specs.Waiting.{pacePlace, heldFramePlace, waitSound}
-use Rattle.soundness.proofs.RowTests.{both}
 
 -- ---- one number after another
 
@@ -58,7 +58,7 @@ every-both : (f g : ℕ → Bool) (n first : ℕ) →
     everyAt (λ i. f i && g i) n first 1 ≡ (everyAt f n first 1 && everyAt g n first 1)
 every-both f g zero first = refl
 every-both f g (suc n) first =
-    rw (every-both f g n (first + 1)) (both (f first) (g first) (everyAt f n (first + 1) 1) (everyAt g n (first + 1) 1))
+    rw (every-both f g n (first + 1)) (beside (f first) (g first) (everyAt f n (first + 1) 1) (everyAt g n (first + 1) 1))
 
 -- ---- what a state's bytes keep
 

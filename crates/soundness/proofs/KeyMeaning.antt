@@ -6,7 +6,7 @@ use mathlib.Core.Path.{_≡_, refl, _∙_}
 use mathlib.Core.Bool.{Bool, true, false, cond, not, _&&_, _||_, and-true, and-assoc, Bool·beq}
 use borrow.Author.Tests.{eqb-true, eqb-false, eq-eqb, ne-eqb, leb-true, le-leb, ltb-true, ltb-false, lt-ltb, le-ltb, not-false}
 use lib.Bits.{bitOr, or-lt, or-add-and, and-le-l, and-le-r}
-use lib.Dec.{eqb, leb, ltb}
+use lib.Dec.{eqb, leb}
 use Rattle.rules_dictionary.specs.Numbers.{all, bit, between}
 use Rattle.rules_dictionary.specs.Table.{Direction, receive, transmit, byDirection, directionOf}
 use Rattle.rules_dictionary.specs.Legal.{isValid, frameIdentifier, reservedBits, transmits, transmitBit, invalidBit, identifierBits, firstIdentifier}

@@ -1,30 +1,25 @@
 -- The rows' clauses of soundness are the tests that bytes can fail, row by row and record by record.
 -- Assumes nothing.
-use Prim.Native.Nat.{ℕ, suc, _+_, _^_, _<_}
+use Prim.Native.Nat.{ℕ, suc, _^_, _<_}
 use native.Mathlib.Omega.{arith}
 use mathlib.Core.Path.{_≡_, refl, sym, _∙_, ap, ap₂}
-use mathlib.Core.Bool.{Bool, true, false, not, _&&_, _||_, and-true, and-false, and-assoc, Bool·not-not}
+use mathlib.Core.Bool.{Bool, true, false, not, _&&_, _||_, and-true, and-assoc, and-comm, Bool·not-not}
 use mathlib.Core.List.{List, [], _∷_, _++_, map, flatMap}
 use borrow.Author.Tests.{eqb-true, leb-true, leb-false, le-ltb, lt-ltb}
 use lib.Dec.{eqb, leb, ltb}
-use lib.ListN.{length, getD}
+use lib.ListN.{length}
 use Rattle.rules_dictionary.specs.Numbers.{all, areBytes}
-use Rattle.rules_dictionary.specs.Table.{Row, table, nodeRows, driveRows, receivePdos, transmitPdos, communicationRows, mappingRows, eachWay, sizeOf}
-use Rattle.rules_dictionary.specs.Table.{largest, isConstant, dictionaryLength}
+use Rattle.rules_dictionary.specs.Table.{Row, table, nodeRows, driveRows, receivePdos, transmitPdos, pdos, communicationRows, mappingRows, eachWay}
+use Rattle.rules_dictionary.specs.Table.{sizeOf, largest, isConstant, dictionaryLength}
 use Rattle.rules_dictionary.specs.Values.{Write, write, read, defaultOf}
 use Rattle.rules_dictionary.specs.Legal.{isBelow, isAbove, badChoice}
 use Rattle.rules_dictionary.specs.Members.{In, here, there}
-use Rattle.rules_dictionary.proofs.Tests.{and-both}
 use Rattle.rules_dictionary.proofs.Packing.{within}
 use Rattle.rules_dictionary.proofs.Rows.{read-fits}
 use Rattle.rules_dictionary.proofs.Members.{unpacked-table}
 use Rattle.rules.specs.Sound.{constantsAsListed, valuesInRange, inRange}
-use Rattle.soundness.specs.Rows.{testsOf, tests, communicationTests, countTests}
-
--- the elements of a slice are bytes
-pub are-bytes : (d : List ℕ) → ((i : ℕ) → i < length d → getD d i 0 < 256) → areBytes d ≡ true
-are-bytes [] h = refl
-are-bytes (b ∷ bs) h = and-both _ _ (lt-ltb b 256 (h 0 (omega arith))) (are-bytes bs (λ i l. h (suc i) (omega arith)))
+use Rattle.mapping.proofs.Orders.{swap, beside}
+use Rattle.soundness.specs.Rows.{testsOf, tests, communicationTests, rowTests, fewMoves}
 
 -- ---- a row
 
@@ -45,11 +40,6 @@ at-most k v most h = go (eqb k most) (leb v k) refl refl
     go false false e f = rw (lt-ltb k v (leb-false v k f))
 
 -- ---- rows
-
-pub both : (a b c e : Bool) → ((a && b) && (c && e)) ≡ ((a && c) && (b && e))
-both false b c e = refl
-both true false c e = sym (and-false c)
-both true true c e = refl
 
 -- "constants as listed" and "values in range", of one value
 listed : ℕ → Write → Bool
@@ -77,7 +67,7 @@ rows-tests n d [] h = refl
 rows-tests n d (x ∷ xs) h =
     let w = write x (read d x) in
     let ws = map (λ x. write x (read d x)) xs in
-    both (listed n w) (all (listed n) ws) (ranged w) (all ranged ws)
+    beside (listed n w) (all (listed n) ws) (ranged w) (all ranged ws)
     ∙ ap (λ (b : Bool). (listed n w && ranged w) && b) (rows-tests n d xs (λ y i. h y (there i)))
     ∙ row-tests n x (read d x) (tests n d xs) (h x here)
 
@@ -114,19 +104,23 @@ unfolding tests communicationRows flatMap
 communications n d = (simp (and-true, and-assoc, Bool·not-not), simp (and-true, and-assoc, Bool·not-not))
 
 counts : (n : ℕ) (d : List ℕ) →
-    (tests n d (flatMap mappingRows receivePdos) ≡ countTests d 0) × (tests n d (flatMap mappingRows transmitPdos) ≡ countTests d eachWay)
+    (tests n d (flatMap mappingRows receivePdos) && tests n d (flatMap mappingRows transmitPdos)) ≡ all (fewMoves d) pdos
 unfolding tests mappingRows flatMap
-counts n d = (simp and-true, simp and-true)
+counts n d = simp (and-true, and-assoc)
 
--- THE LAW: constants as listed and values in range, by record
+-- the counts of the mappings last
+counts-last : (n r m t k v : Bool) → (n && (r && (m && (t && (k && (v && true)))))) ≡ ((n && (r && (t && v))) && (m && k))
+counts-last n r m t k v = simp (and-true, and-assoc, and-comm, swap)
+
+-- THE LAW: constants as listed and values in range, by record; the counts of the mappings apart
 pub rows-tested : (n : ℕ) (d : List ℕ) → length d ≡ dictionaryLength → areBytes d ≡ true →
-    (constantsAsListed n d && valuesInRange d)
-    ≡ (tests n d nodeRows
-    && (communicationTests d 0 && (countTests d 0 && (communicationTests d eachWay && (countTests d eachWay && tests n d driveRows)))))
-unfolding constantsAsListed valuesInRange listed ranged parts
+    (constantsAsListed n d && valuesInRange d) ≡ (rowTests n d && all (fewMoves d) pdos)
+unfolding constantsAsListed valuesInRange rowTests listed ranged parts
 rows-tested n d long bytes =
     rw (unpacked-table d)
     (rows-tests n d table (λ x i. read-fits x d bytes (omega (arith, within i)))
     ∙ ap (tests n d) (sym parts-table)
     ∙ tests-joined n d parts
-    ∙ rw (communications n d .0, communications n d .1, counts n d .0, counts n d .1, and-true))
+    ∙ counts-last (tests n d nodeRows) (tests n d (flatMap communicationRows receivePdos)) (tests n d (flatMap mappingRows receivePdos))
+    (tests n d (flatMap communicationRows transmitPdos)) (tests n d (flatMap mappingRows transmitPdos)) (tests n d driveRows)
+    ∙ rw (communications n d .0, communications n d .1, counts n d))

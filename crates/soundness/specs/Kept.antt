@@ -3,21 +3,20 @@
 use Prim.Native.Nat.{ℕ, zero, suc, _+_}
 use mathlib.Core.List.{List}
 use mathlib.Core.Bool.{Bool, true, _&&_}
-use lib.Dec.{leb}
 use Rattle.rules_dictionary.specs.declared.Plan.{Plan}
 use Rattle.rules_dictionary.specs.declared.PdoData.{PdoData}
-use Rattle.rules_dictionary.specs.Table.{Direction, mapCount, mostMoves, pdos, transmitPdos}
-use Rattle.rules_dictionary.specs.Values.{read}
+use Rattle.rules_dictionary.specs.Table.{Direction, pdos, transmitPdos}
 use Rattle.rules_dictionary.specs.Plans.{mapped, planFor, readyFor}
 use Rattle.rules.specs.Outcome.{samePlan, sameData}
 use Rattle.rules.specs.Sound.{mappingLegal, pairwise}
 use Rattle.form.specs.Form.{planLength, stateOf}
 use Rattle.form.specs.Own.{plansOwn}
 use Rattle.mapping.specs.Kept.{recordLength, planKeptAt}
+use Rattle.soundness.specs.Rows.{fewMoves}
 
 -- a PDO's mapping is legal, its count in range, and the kept plan the one that it gives
 abbrev pub planKept : List ℕ → ℕ → Plan → Bool
-planKept d p plan = leb (read d (mapCount p)) mostMoves && (mappingLegal d p && samePlan plan (planFor (mapped d p)))
+planKept d p plan = fewMoves d p && (mappingLegal d p && samePlan plan (planFor (mapped d p)))
 
 -- so of all eight
 unfoldable pub plansKept : List ℕ → List Plan → Bool

@@ -4,7 +4,8 @@ use Prim.Native.Nat.{ℕ, _+_}
 use mathlib.Core.List.{List, [], _∷_}
 use mathlib.Core.Bool.{Bool, true, not, _&&_, _||_}
 use lib.Dec.{eqb, leb}
-use Rattle.rules_dictionary.specs.Table.{Row, isConstant, largest, communicationCount, transmissionType, mapCount, mostMoves}
+use Rattle.rules_dictionary.specs.Table.{Row, isConstant, largest, eachWay, communicationCount, transmissionType, mapCount, mostMoves}
+use Rattle.rules_dictionary.specs.Table.{nodeRows, driveRows}
 use Rattle.rules_dictionary.specs.Values.{read, defaultOf}
 use Rattle.rules_dictionary.specs.Legal.{badChoice, isType}
 
@@ -37,5 +38,10 @@ communicationTest d p = eqb (read d (communicationCount p)) recordEntries && isT
 abbrev pub communicationTests : List ℕ → ℕ → Bool
 communicationTests d p = fourFrom (communicationTest d) p
 
-abbrev pub countTests : List ℕ → ℕ → Bool
-countTests d p = fourFrom (λ q. leb (read d (mapCount q)) mostMoves) p
+-- all rows but the counts of the mappings, which are tested with the plans
+unfoldable pub rowTests : ℕ → List ℕ → Bool
+rowTests n d = tests n d nodeRows && (communicationTests d 0 && (communicationTests d eachWay && tests n d driveRows))
+
+-- a PDO maps eight objects at the most
+abbrev pub fewMoves : List ℕ → ℕ → Bool
+fewMoves d p = leb (read d (mapCount p)) mostMoves

@@ -1,18 +1,18 @@
-// The dictionary's own clauses of soundness but the mappings': constants as listed, values in range, PDO identifiers legal.
+// The dictionary's own clauses of soundness but the mappings': constants as listed, values in range, PDO identifiers legal. A mapping's count
+// goes with the mapping.
 // It is tested at every call, so all of it is reads at fixed places and comparisons, joined without branches.
 
 use crate::identifiers::identifiers_legal;
 use crate::rows::rows_legal;
 ghost use mathlib.Core.Path.{_≡_};
-ghost use mathlib.Core.Bool.{_&&_};
 ghost use lib.ListN.{length};
 ghost use Rattle.rules_dictionary.specs.Table.{dictionaryLength};
-ghost use Rattle.rules.specs.Sound.{constantsAsListed, valuesInRange, identifiersLegal};
+ghost use Rattle.soundness.specs.Parts.{dictionaryClauses};
 
-// Whether the dictionary's constants are as listed, its values in range and its PDO identifiers legal, on node n.
+// Whether the dictionary's constants are as listed, its values in range and its PDO identifiers legal, on node n, but for the mappings.
 pub fn dictionary_legal(d: &[u8], n: u8) -> bool
     requires { ⌜ length (now d) ≡ dictionaryLength ⌝ }
-    ensures { λ r. ⌜ r ≡ (constantsAsListed n (now (d .entry)) && (valuesInRange (now (d .entry)) && identifiersLegal (now (d .entry)))) ⌝ }
+    ensures { λ r. ⌜ r ≡ dictionaryClauses n (now (d .entry)) ⌝ }
 {
     if !rows_legal(d, n) {
         return false;

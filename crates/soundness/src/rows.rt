@@ -1,15 +1,14 @@
-// The rows of the table: constants as listed, values in range. A row that may hold any value of its type is not read.
+// The rows of the table: constants as listed, values in range. A row that may hold any value of its type is not read here, nor the count of a
+// mapping, which is read beside its plan.
 use dictionary::objects;
 use dictionary::places;
 use dictionary::records;
 ghost use mathlib.Core.Path.{_≡_};
-ghost use mathlib.Core.Bool.{_&&_};
 ghost use Prim.Native.Nat.{_≤_};
 ghost use lib.ListN.{length};
 ghost use Rattle.rules_dictionary.specs.Table.{nodeRows, driveRows, eachWay, dictionaryLength};
 ghost use Rattle.dictionary.specs.Sizes.{IsPdo};
-ghost use Rattle.rules.specs.Sound.{constantsAsListed, valuesInRange};
-ghost use Rattle.soundness.specs.Rows.{tests, communicationTest, communicationTests, countTests};
+ghost use Rattle.soundness.specs.Rows.{tests, communicationTest, communicationTests, rowTests};
 
 // Whether the node's rows, 1000h to 1018h, are legal.
 fn node_legal(d: &[u8], n: u8) -> bool
@@ -42,16 +41,6 @@ fn communications_legal(d: &[u8], p: usize) -> bool
             & (communication_legal(d, p + 2) & communication_legal(d, p + 3)))
 }
 
-// Whether the counts of the mappings of the four PDOs from PDO p on are eight at the most.
-fn counts_legal(d: &[u8], p: usize) -> bool
-    requires { ⌜ (length (now d) ≡ dictionaryLength) × (p ≤ eachWay) ⌝ }
-    ensures { λ r. ⌜ r ≡ countTests (now (d .entry)) p ⌝ }
-{
-    (records::map_count(d, p) <= 8)
-        & ((records::map_count(d, p + 1) <= 8)
-            & ((records::map_count(d, p + 2) <= 8) & (records::map_count(d, p + 3) <= 8)))
-}
-
 // Whether the drive's rows, 603Fh to 6502h, are legal; none of them depends on the node-ID.
 fn drive_legal(d: &[u8], n: u8) -> bool
     requires { ⌜ length (now d) ≡ dictionaryLength ⌝ }
@@ -66,14 +55,12 @@ fn drive_legal(d: &[u8], n: u8) -> bool
                         & (objects::supported_modes(d) == 5)))))
 }
 
-// Whether every constant is as listed and every value in range, on node n.
+// Whether every constant is as listed and every value in range, on node n, but the counts of the mappings: those are tested with the plans.
 pub fn rows_legal(d: &[u8], n: u8) -> bool
     requires { ⌜ length (now d) ≡ dictionaryLength ⌝ }
-    ensures { λ r. ⌜ r ≡ (constantsAsListed n (now (d .entry)) && valuesInRange (now (d .entry))) ⌝ }
+    ensures { λ r. ⌜ r ≡ rowTests n (now (d .entry)) ⌝ }
 {
     node_legal(d, n)
         & (communications_legal(d, 0)
-            & (counts_legal(d, 0)
-                & (communications_legal(d, places::EACH_WAY)
-                    & (counts_legal(d, places::EACH_WAY) & drive_legal(d, n)))))
+            & (communications_legal(d, places::EACH_WAY) & drive_legal(d, n)))
 }

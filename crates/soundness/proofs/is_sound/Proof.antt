@@ -11,7 +11,8 @@ returns : tie.Need-returns
 returns c =
     let k = c .before .before in
     let s = k .before .before in
-    sym (form-parts (s .args .state .now) (s .args .d .now) (λ i. omega (arith, k .before .shared-slice-known .given i)) (s .pre .0) refl refl
+    sym (form-parts (s .args .state .now) (s .args .d .now) (λ i. omega (arith, k .before .shared-slice-known .given i)) (s .pre .0)
+    (λ i. omega (arith, k .shared-slice-known2 .given i)) (s .pre .1) refl refl
     ∙ rw (sym (c .before .is-head-own .ensures) ∙ not-true _ (c .if1 .taken)))
 
 returns-2 : tie.Need-returns-2
@@ -21,6 +22,7 @@ returns-2 c =
     let k = h .before .before in
     let s = k .before .before in
     sym (form-parts (s .args .state .now) (s .args .d .now) (λ i. omega (arith, k .before .shared-slice-known .given i)) (s .pre .0)
+    (λ i. omega (arith, k .shared-slice-known2 .given i)) (s .pre .1)
     (i .read-node .ensures) refl
     ∙ rw (sym (h .before .is-head-own .ensures) ∙ not-false _ (h .if1 .left), sym (c .before .is-node-id .ensures) ∙ not-true _ (c .if2 .taken)))
 
@@ -32,6 +34,7 @@ returns-3 c =
     let k = h .before .before in
     let s = k .before .before in
     sym (form-parts (s .args .state .now) (s .args .d .now) (λ i. omega (arith, k .before .shared-slice-known .given i)) (s .pre .0)
+    (λ i. omega (arith, k .shared-slice-known2 .given i)) (s .pre .1)
     (i .read-node .ensures) refl
     ∙ rw (sym (h .before .is-head-own .ensures) ∙ not-false _ (h .if1 .left), sym (n .before .is-node-id .ensures) ∙ not-false _ (n .if2 .left))
     (rw (sym (c .before .dictionary-legal .ensures) ∙ not-true _ (c .if3 .taken))))
@@ -46,6 +49,7 @@ returns-4 c =
     let k = h .before .before in
     let s = k .before .before in
     sym (form-parts (s .args .state .now) (s .args .d .now) (λ i. omega (arith, k .before .shared-slice-known .given i)) (s .pre .0)
+    (λ i. omega (arith, k .shared-slice-known2 .given i)) (s .pre .1)
     (i .read-node .ensures) (v .read-drive .ensures)
     ∙ rw (sym (h .before .is-head-own .ensures) ∙ not-false _ (h .if1 .left), sym (n .before .is-node-id .ensures) ∙ not-false _ (n .if2 .left))
     (rw (
@@ -64,6 +68,7 @@ returns-5 c =
     let k = h .before .before in
     let s = k .before .before in
     sym (form-parts (s .args .state .now) (s .args .d .now) (λ i. omega (arith, k .before .shared-slice-known .given i)) (s .pre .0)
+    (λ i. omega (arith, k .shared-slice-known2 .given i)) (s .pre .1)
     (i .read-node .ensures) (v .read-drive .ensures)
     ∙ rw (sym (h .before .is-head-own .ensures) ∙ not-false _ (h .if1 .left), sym (n .before .is-node-id .ensures) ∙ not-false _ (n .if2 .left))
     (rw (

@@ -1,6 +1,6 @@
 -- `soundness::identifiers::identifiers_legal` meets its contract. Assumes nothing.
 use native.Mathlib.Omega.{arith}
-use Rattle.soundness.proofs.RowTests.{are-bytes}
+use Rattle.mapping.proofs.Assembly.{are-bytes}
 use Rattle.soundness.proofs.KeysLegal.{by-keys}
 use borrow.Author.Needs.{needs}
 use Rattle.soundness.proofs.identifiers.identifiers_legal.Statement.{statement}
