@@ -6,19 +6,20 @@ use native.Mathlib.Omega.{arith}
 use lib.Dec.{lit<}
 use mathlib.Core.Path.{_≡_, refl, sym, _∙_, ap}
 use mathlib.Core.Bool.{true}
-use mathlib.Core.List.{List, [], _∷_, _++_, map}
+use mathlib.Core.List.{List, [], _∷_, _++_}
 use borrow.Author.Tests.{ltb-true, lt-ltb}
 use lib.ListN.{length, take, drop, getD, length-append, length-drop, length-take, drop-of-length-le}
 use lib.Seq.{drop-cons, getD-take, length-take-le}
 use Rattle.rules_dictionary.specs.declared.Move.{Move}
 use Rattle.rules_dictionary.specs.declared.Plan.{Plan}
 use Rattle.rules_dictionary.specs.declared.PdoData.{PdoData}
-use Rattle.rules_dictionary.specs.Numbers.{value, bytes, part, isByte, areBytes, sum, padded}
+use Rattle.rules_dictionary.specs.Numbers.{value, bytes, part, isByte, areBytes, padded}
 use Rattle.rules_dictionary.specs.Table.{dictionaryLength}
 use Rattle.rules_dictionary.specs.Plans.{noMove, pdoData}
 use Rattle.rules_dictionary.proofs.Tests.{and-left, and-right, and-both}
 use Rattle.rules_dictionary.proofs.Rows.{value-fits, part-bytes}
 use Rattle.mapping.specs.Moves.{joinedMoves, readyBy, MoveFits, MovesFit}
+use Rattle.mapping.specs.Received.{sizes}
 
 -- ---- bytes
 
@@ -62,9 +63,6 @@ bytes-padded (suc n) (b ∷ bs) h l =
     rw (low, high, bytes-padded n bs (and-right (isByte b) (areBytes bs) h) (omega arith))
 
 -- ---- moves
-
-abbrev sizes : List Move → ℕ
-sizes ms = sum (map (λ m. m .size) ms)
 
 part-short : (place size : ℕ) (d : List ℕ) → length (part place size d) ≤ size
 part-short place size d = rw length-take (omega arith)

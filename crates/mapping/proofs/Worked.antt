@@ -4,7 +4,6 @@ use Prim.Native.Nat.{ℕ, zero, suc, _+_, _*_, _<_, _≤_}
 use native.Mathlib.Numerals.{add-one}
 use native.Mathlib.Omega.{arith}
 use mathlib.Core.Path.{_≡_, refl, sym, _∙_, ap, subst}
-use mathlib.Core.Logic.{_⊎_, inl, inr}
 use mathlib.Core.Bool.{true, not, _&&_}
 use mathlib.Core.List.{List, [], _∷_, _++_, map, map-append}
 use borrow.Author.Tests.{eqb-true, leb-true, ltb-false, not-true}
@@ -13,18 +12,15 @@ use lib.ListN.{length, take, getD, set, replicate, length-map}
 use Rattle.rules_dictionary.specs.declared.Move.{Move}
 use Rattle.rules_dictionary.specs.declared.Plan.{Plan}
 use Rattle.rules_dictionary.specs.Numbers.{value, part, all, any, sum, padded}
-use Rattle.rules_dictionary.specs.Table.{Row, Direction, eachWay, wordsPlace, table}
-use Rattle.rules_dictionary.specs.Table.{directionOf, wordIndex, wordSubindex, wordLength, Found, found, noObject, noSubindex, lookup}
-use Rattle.rules_dictionary.specs.Table.{mapCount, mostMoves}
+use Rattle.rules_dictionary.specs.Table.{Row, Direction, eachWay, wordsPlace, table, directionOf, wordLength, mapCount, mostMoves}
 use Rattle.rules_dictionary.specs.Values.{read}
 use Rattle.rules_dictionary.specs.Aborts.{isGood}
 use Rattle.rules_dictionary.specs.Legal.{entryVerdict, mapWords, mostBits}
-use Rattle.rules_dictionary.specs.Plans.{andThen, targets, mapped, move, noMove, planFor, joined, readyFor}
+use Rattle.rules_dictionary.specs.Plans.{targets, mapped, move, noMove, planFor, joined, readyFor}
 use Rattle.rules_dictionary.specs.Members.{In, here, there}
-use Rattle.rules_dictionary.proofs.Tests.{and-left, and-right, none-in}
-use Rattle.rules_dictionary.proofs.LookUp.{found-in}
+use Rattle.rules_dictionary.proofs.Tests.{and-left, and-right}
 use Rattle.rules_dictionary.proofs.Packing.{within}
-use Rattle.rules_dictionary.proofs.Members.{in-cons}
+use Rattle.rules_dictionary.proofs.Plans.{mapped-in}
 use Rattle.dictionary.proofs.Bytes.{is-size}
 use Rattle.rules.specs.Outcome.{sameBy, sameMove, samePlan}
 use Rattle.rules.specs.Sound.{mappingLegal}
@@ -118,20 +114,6 @@ module _ {A : Type 0} (s : A) where
 
 -- ---- the moves of mapped rows fit
 
-targets-in : (ws : List ℕ) {x : Row} → In x (targets ws) → In x table
-unfolding targets andThen
-targets-in [] i = absurd (none-in i)
-targets-in (w ∷ ws) {x} i = go (lookup (wordIndex w) (wordSubindex w)) refl i (λ j. targets-in ws j)
-  where
-    go : (f : Found) → lookup (wordIndex w) (wordSubindex w) ≡ f → In x (andThen f (targets ws)) → (In x (targets ws) → In x table) → In x table
-    go (found y) e j rest = cases (in-cons j)
-      where
-        cases : (x ≡ y) ⊎ In x (targets ws) → In x table
-        cases (inl q) = subst (λ (z : Row). In z table) (sym q) (found-in _ _ e)
-        cases (inr k) = rest k
-    go noObject e j rest = rest j
-    go noSubindex e j rest = rest j
-
 each-fits : (xs : List Row) → ((x : Row) → In x xs → In x table) → (i : ℕ) → i < length xs → MoveFits (getD (map move xs) i noMove)
 each-fits [] h i l = absurd (omega arith)
 each-fits (x ∷ xs) h zero l = record { size = is-size (x .type); inside = within (h x here) }
@@ -150,10 +132,6 @@ module _ (d : List ℕ) (p : ℕ) (h : mappingLegal d p ≡ true) (few : read d 
       let g = legal-mapping d p h in
       counted p (read d (mapCount p)) (mapWords d p) (g .words) (g .nonzero) (omega (arith, length-words d p))
 
-  mapped-in : {x : Row} → In x (mapped d p) → In x table
-  unfolding mapped
-  mapped-in j = targets-in (take (read d (mapCount p)) (mapWords d p)) j
-
   eight-bytes : sum (map (λ m. m .size) (map move (mapped d p))) ≤ 8
   unfolding mapped
   eight-bytes =
@@ -169,7 +147,7 @@ module _ (d : List ℕ) (p : ℕ) (h : mappingLegal d p ≡ true) (few : read d 
       let c = maps-count in
       record {
         few = omega arith;
-        each = λ i k. rw (getD-padded noMove mostMoves (map move xs) i (omega arith)) (each-fits xs (λ x j. mapped-in j) i k);
+        each = λ i k. rw (getD-padded noMove mostMoves (map move xs) i (omega arith)) (each-fits xs (λ x j. mapped-in d p j) i k);
         room = rw (← l, take-padded noMove mostMoves (map move xs) (omega arith)) eight-bytes;
       }
 
