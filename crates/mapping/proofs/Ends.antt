@@ -15,7 +15,7 @@ use Rattle.mapping.specs.Slots.{wordsFrom}
 use Rattle.mapping.specs.Kept.{spareKept, endsEmpty}
 
 -- a test that holds at every place, at one of them
-at-one : (test : ℕ → Bool) (n place width i : ℕ) → everyAt test n place width ≡ true → i < n → test (place + width * i) ≡ true
+pub at-one : (test : ℕ → Bool) (n place width i : ℕ) → everyAt test n place width ≡ true → i < n → test (place + width * i) ≡ true
 at-one test zero place width i h l = absurd (omega arith)
 at-one test (suc n) place width zero h l = let e : place + width * 0 ≡ place = omega arith in rw e (and-left (test place) _ h)
 at-one test (suc n) place width (suc i) h l =

@@ -31,7 +31,7 @@ use Rattle.mapping.proofs.Steps.{left, fits, step, none-left}
 -- ---- zeros, read from both ends
 
 module _ (bs : List ℕ) where
-  zeros-of : (n place : ℕ) → value (part place n bs) ≡ 0 → (i : ℕ) → i < n → getD bs (place + i) 0 ≡ 0
+  pub zeros-of : (n place : ℕ) → value (part place n bs) ≡ 0 → (i : ℕ) → i < n → getD bs (place + i) 0 ≡ 0
   zeros-of zero place e i h = absurd (omega arith)
   zeros-of (suc n) place e zero h =
       let z : place + 0 ≡ place = omega arith in
@@ -40,7 +40,7 @@ module _ (bs : List ℕ) where
       let z : place + suc i ≡ place + 1 + i = omega arith in
       rw z (zeros-of n (place + 1) (omega (arith, value-step n place bs)) i (omega arith))
 
-  zeros-to : (n place : ℕ) → ((i : ℕ) → i < n → getD bs (place + i) 0 ≡ 0) → value (part place n bs) ≡ 0
+  pub zeros-to : (n place : ℕ) → ((i : ℕ) → i < n → getD bs (place + i) 0 ≡ 0) → value (part place n bs) ≡ 0
   zeros-to zero place h = value-none place bs
   zeros-to (suc n) place h =
       let a : getD bs place 0 ≡ 0 = let z : place + 0 ≡ place = omega arith in rw z at (h 0 (omega arith)) in

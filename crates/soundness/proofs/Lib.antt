@@ -6,4 +6,5 @@ pub mod Counting
 pub mod Every
 pub mod Fresh
 pub mod Holding
+pub mod Idle
 pub mod Parts

@@ -1,8 +1,9 @@
-// What waits for SYNC, tested where the state's bytes keep it: SYNC counts, due marks and held frames. Mostly nothing waits: of a transmit
-// PDO two bytes tell that, of a receive PDO nine.
+// What waits for SYNC, tested where the state's bytes keep it: SYNC counts, due marks and held frames. Mostly nothing waits, which their bytes
+// tell all together; then of a transmit PDO two bytes tell it, of a receive PDO nine.
 use dictionary::places::EACH_WAY;
 use dictionary::read4;
 use dictionary::records;
+use form::bits_of_words;
 use form::layout;
 use form::read_frame;
 use form::read_plan;
@@ -26,13 +27,16 @@ ghost use Rattle.rules.specs.Outcome.{sameData};
 ghost use Rattle.rules_services.specs.PdoTraffic.{works, noData};
 ghost use Rattle.rules.specs.Sound.{countSound, dueSound, paceSound, heldSound};
 ghost use Rattle.soundness.specs.Kept.{planKept, plansKeptIn};
-ghost use Rattle.soundness.specs.Waiting.{pacePlace, heldFramePlace, waitSound, zeroFrom};
+ghost use Rattle.soundness.specs.Waiting.{pacePlace, heldFramePlace, noneWaiting, waitSound, zeroFrom};
 
 // The last type that waits for SYNC.
 const LAST_SYNCHRONOUS: u8 = 240;
 
 // The PDOs of a direction, counted in a word of the controller.
 const ROUNDS: u32 = EACH_WAY as u32;
+
+// The words of all that waits: the held frames, behind them the SYNC counts and due marks.
+const WAITING_WORDS: usize = (layout::PLANS - layout::HELD) / layout::WORD_LENGTH;
 
 // The byte of a mark that is set.
 const MARKED: u8 = 1;
@@ -169,8 +173,16 @@ fn is_held_sound(m: NmtState, state: &[u8], d: &[u8], p: usize) -> bool
     is_frame_sound(m, d, p, plan, frame)
 }
 
-// Whether all that waits for SYNC is sound; the plans are known to be the mappings'.
-pub fn is_waiting_sound(m: NmtState, state: &[u8], d: &[u8]) -> bool
+// Whether nothing waits: neither a SYNC count, nor a due mark, nor a held frame.
+fn is_none_waiting(state: &[u8]) -> bool
+    requires { ⌜ length (now state) ≡ stateLength ⌝ }
+    ensures { λ r. ⌜ r ≡ noneWaiting (now (state .entry)) ⌝ }
+{
+    bits_of_words(state, layout::HELD, WAITING_WORDS) == 0
+}
+
+// Whether what waits for SYNC is sound, one PDO of each way after another; the plans are known to be the mappings'.
+fn is_each_sound(m: NmtState, state: &[u8], d: &[u8]) -> bool
     requires { ⌜ (length (now state) ≡ stateLength) × ((length (now d) ≡ dictionaryLength) × (plansKeptIn (now state) (now d) ≡ true)) ⌝ }
     ensures { λ r. ⌜ r ≡ waitSound m (now (d .entry)) (stateOf (now (state .entry)) .axis .paces) (stateOf (now (state .entry)) .axis .held) ⌝ }
 {
@@ -185,4 +197,15 @@ pub fn is_waiting_sound(m: NmtState, state: &[u8], d: &[u8]) -> bool
         t += 1;
     }
     true
+}
+
+// Whether all that waits for SYNC is sound; the plans are known to be the mappings'. Mostly nothing waits, which needs no loop.
+pub fn is_waiting_sound(m: NmtState, state: &[u8], d: &[u8]) -> bool
+    requires { ⌜ (length (now state) ≡ stateLength) × ((length (now d) ≡ dictionaryLength) × (plansKeptIn (now state) (now d) ≡ true)) ⌝ }
+    ensures { λ r. ⌜ r ≡ waitSound m (now (d .entry)) (stateOf (now (state .entry)) .axis .paces) (stateOf (now (state .entry)) .axis .held) ⌝ }
+{
+    if is_none_waiting(state) {
+        return true;
+    }
+    is_each_sound(m, state, d)
 }
