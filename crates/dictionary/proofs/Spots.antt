@@ -2,9 +2,9 @@
 -- Assumes nothing.
 use Prim.Native.Nat.{ℕ, _+_, _-_, _*_, _/_, _%_, _^_, _<_}
 use native.Mathlib.Omega.{arith}
-use mathlib.Core.Path.{_≡_, refl, sym, _∙_}
+use mathlib.Core.Path.{_≡_, refl}
 use mathlib.Core.Bool.{true}
-use borrow.Author.Tests.{ltb-true, ne-eqb}
+use borrow.Author.Tests.{ltb-true}
 use lib.Dec.{ltb}
 use Rattle.rules_dictionary.specs.Members.{In}
 use Rattle.rules_dictionary.specs.Numbers.{all}
@@ -13,9 +13,8 @@ use Rattle.rules_dictionary.specs.Values.{read, store}
 use Rattle.rules_dictionary.proofs.Tests.{all-in}
 use Rattle.rules_dictionary.proofs.Packing.{within, short}
 use Rattle.rules_dictionary.proofs.LookUp.{found-in}
-use Rattle.dictionary.specs.declared.Presence.the-variants.{Listed, NoObject, NoSubindex}
-use Rattle.dictionary.specs.Entries.{entryOf, Stands, presenceOf}
-use Rattle.dictionary.specs.Lines.{lineOf, entryIn, spotOf, presenceIn}
+use Rattle.dictionary.specs.Entries.{entryOf, Stands}
+use Rattle.dictionary.specs.Lines.{lineOf, entryIn, spotOf}
 use Rattle.dictionary.proofs.Bytes.{is-size}
 use Rattle.dictionary.proofs.Lines.{entry-of}
 
@@ -50,37 +49,26 @@ module _ {x : Row} (l : In x table) (r : ℕ) (e : r ≡ lineOf x * 2 ^ 16 + pla
   is-place = omega (arith, place-of, within l, short)
 
 module _ (i s r : ℕ) (e : r ≡ spotOf (lookup i s)) where
-  pub tells : presenceIn r ≡ presenceOf (lookup i s)
-  tells = go (lookup i s) refl e
+  pub tells-entry : r % 2 ^ 16 < 2 ^ 16 - 2 → Stands i s (entryIn (r / 2 ^ 16 % 2 ^ 32) (r % 2 ^ 16))
+  tells-entry h = go (lookup i s) refl e
     where
-      go : (f : Found) → lookup i s ≡ f → r ≡ spotOf f → presenceIn r ≡ presenceOf f
-      go (found x) q e =
-          let h = is-place (found-in i s q) r e in
-          let place = r % 2 ^ 16 in
-          simp (ne-eqb place (2 ^ 16 - 2) (λ k. absurd (omega (arith, h, k))), ne-eqb place (2 ^ 16 - 1) (λ k. absurd (omega (arith, h, k))))
-      go noObject q e = rw e
-      go noSubindex q e = rw e
+      go : (f : Found) → lookup i s ≡ f → r ≡ spotOf f → Stands i s (entryIn (r / 2 ^ 16 % 2 ^ 32) (r % 2 ^ 16))
+      go (found x) q e = let l = found-in i s q in rw (line-of l r e, place-of l r e, entry-of l) (stands i s x q)
+      go noObject q e = absurd (omega arith)
+      go noSubindex q e = absurd (omega arith)
 
-  pub tells-entry : presenceIn r ≡ Listed → Stands i s (entryIn (r / 2 ^ 16 % 2 ^ 32) (r % 2 ^ 16))
-  tells-entry h = go (lookup i s) refl e (sym tells ∙ h)
+  pub tells-no-object : r % 2 ^ 16 ≡ 2 ^ 16 - 2 → lookup i s ≡ noObject
+  tells-no-object h = go (lookup i s) refl e
     where
-      go : (f : Found) → lookup i s ≡ f → r ≡ spotOf f → presenceOf f ≡ Listed → Stands i s (entryIn (r / 2 ^ 16 % 2 ^ 32) (r % 2 ^ 16))
-      go (found x) q e p = let l = found-in i s q in rw (line-of l r e, place-of l r e, entry-of l) (stands i s x q)
-      go noObject q e p = let z : _≡_ {A = ℕ} 0 1 = cc p in absurd (omega arith)
-      go noSubindex q e p = let z : _≡_ {A = ℕ} 0 1 = cc p in absurd (omega arith)
+      go : (f : Found) → lookup i s ≡ f → r ≡ spotOf f → f ≡ noObject
+      go (found x) q e = absurd (omega (arith, is-place (found-in i s q) r e))
+      go noObject q e = refl
+      go noSubindex q e = absurd (omega arith)
 
-  pub tells-no-object : presenceIn r ≡ NoObject → lookup i s ≡ noObject
-  tells-no-object h = go (lookup i s) (sym tells ∙ h)
+  pub tells-no-subindex : (r % 2 ^ 16 < 2 ^ 16 - 2 → ⊥) → (r % 2 ^ 16 ≡ 2 ^ 16 - 2 → ⊥) → lookup i s ≡ noSubindex
+  tells-no-subindex h k = go (lookup i s) refl e
     where
-      go : (f : Found) → presenceOf f ≡ NoObject → f ≡ noObject
-      go (found x) p = let z : _≡_ {A = ℕ} 0 1 = cc p in absurd (omega arith)
-      go noObject p = refl
-      go noSubindex p = let z : _≡_ {A = ℕ} 0 1 = cc p in absurd (omega arith)
-
-  pub tells-no-subindex : presenceIn r ≡ NoSubindex → lookup i s ≡ noSubindex
-  tells-no-subindex h = go (lookup i s) (sym tells ∙ h)
-    where
-      go : (f : Found) → presenceOf f ≡ NoSubindex → f ≡ noSubindex
-      go (found x) p = let z : _≡_ {A = ℕ} 0 1 = cc p in absurd (omega arith)
-      go noObject p = let z : _≡_ {A = ℕ} 0 1 = cc p in absurd (omega arith)
-      go noSubindex p = refl
+      go : (f : Found) → lookup i s ≡ f → r ≡ spotOf f → f ≡ noSubindex
+      go (found x) q e = absurd (h (is-place (found-in i s q) r e))
+      go noObject q e = absurd (k (omega arith))
+      go noSubindex q e = refl

@@ -11,8 +11,6 @@ use Rattle.rules_dictionary.specs.declared.Access.the-variants.{Constant, NodeW
 use Rattle.rules_dictionary.specs.declared.Role.{Role}
 use Rattle.rules_dictionary.specs.declared.Role.the-variants.{Plain, ModeOfOperation, PdoIdentifier, PdoType, MappingCount, MappingEntry}
 use Rattle.dictionary.specs.declared.Entry.{Entry}
-use Rattle.dictionary.specs.declared.Presence.{Presence}
-use Rattle.dictionary.specs.declared.Presence.the-variants.{Listed, NoObject, NoSubindex}
 use Rattle.dictionary.specs.declared.table.Room.{Room}
 use Rattle.dictionary.specs.declared.table.Room.the-variants.{Node, Communication, Mapping, Drive}
 use Rattle.dictionary.specs.Sizes.{IsPdo}
@@ -144,7 +142,3 @@ abbrev pub spotOf : rows.Found → ℕ
 spotOf (rows.found x) = lineOf x * 2 ^ 16 + rows.placeOf x
 spotOf rows.noSubindex = 2 ^ 16 - 1
 spotOf rows.noObject = 2 ^ 16 - 2
-
--- whether that number is a row's
-abbrev pub presenceIn : ℕ → Presence
-presenceIn spot = cond (eqb (spot % 2 ^ 16) (2 ^ 16 - 2)) NoObject (cond (eqb (spot % 2 ^ 16) (2 ^ 16 - 1)) NoSubindex Listed)

@@ -3,6 +3,7 @@
 pub mod places; // where the values stand
 pub mod objects; // the objects that the node itself reads and writes
 pub mod records; // the records of the PDOs
+pub mod choices; // modes of operation and transmission types
 mod values; // a value read and written at a place
 mod table; // the rows, and the look-up by index and subindex
 mod defaults; // the values after power-up

@@ -13,7 +13,7 @@ ghost use Prim.Native.Nat.{_-_, _<_, _≤_, _^_};
 ghost use Rattle.rules_dictionary.specs.Table.{table, entries, rowAt, placeOf, lookup};
 ghost use Rattle.dictionary.specs.Entries.{IsFound, presenceOf};
 ghost use Rattle.dictionary.specs.Lines.{lineOf, LastUpTo, accessIn, leastIn, greatestIn, roomOf, roleIn, PdoIn, communicationOffset};
-ghost use Rattle.dictionary.specs.Lines.{mappingOffset, sizesFrom, drivePlace, placeIn, entryIn, spotOf, presenceIn};
+ghost use Rattle.dictionary.specs.Lines.{mappingOffset, sizesFrom, drivePlace, placeIn, entryIn, spotOf};
 
 // What a line of the table holds: index and subindex, six digits, stand above one byte, ..
 const KEY: u32 = 0x100;
@@ -419,37 +419,31 @@ fn entry_in(line: u32, place: u16) -> Entry
     }
 }
 
-// Whether a look-up found a row, by its number.
-fn presence_in(spot: u64) -> Presence
-    ensures { λ r. ⌜ r ≡ presenceIn spot ⌝ }
-{
-    let place = spot % LINE;
-    if place == NO_OBJECT {
-        return Presence::NoObject;
-    }
-    if place == NO_SUBINDEX {
-        return Presence::NoSubindex;
-    }
-    Presence::Listed
-}
-
-// Whether there is a row of that index and subindex; without one, whether the object is there.
-pub fn seek(index: u16, subindex: u8) -> Presence
-    ensures { λ r. ⌜ r ≡ presenceOf (lookup index subindex) ⌝ }
-{
-    presence_in(spot_of(index, subindex))
-}
-
-// The same with the row's entry.
+// The entry of an index and subindex; without one, whether the object is there.
 pub fn find(index: u16, subindex: u8) -> Found
     ensures { λ r. ⌜ IsFound index subindex r ⌝ }
 {
     let spot = spot_of(index, subindex);
-    match presence_in(spot) {
-        Presence::Listed => {
-            Found::Entry(entry_in((spot / LINE % 0x1_0000_0000) as u32, (spot % LINE) as u16))
-        }
-        Presence::NoObject => Found::NoObject,
-        Presence::NoSubindex => Found::NoSubindex,
+    let place = spot % LINE;
+    if place < NO_OBJECT {
+        return Found::Entry(entry_in((spot / LINE % 0x1_0000_0000) as u32, place as u16));
     }
+    if place == NO_OBJECT {
+        return Found::NoObject;
+    }
+    Found::NoSubindex
+}
+
+// The same without the entry.
+pub fn seek(index: u16, subindex: u8) -> Presence
+    ensures { λ r. ⌜ r ≡ presenceOf (lookup index subindex) ⌝ }
+{
+    let place = spot_of(index, subindex) % LINE;
+    if place < NO_OBJECT {
+        return Presence::Listed;
+    }
+    if place == NO_OBJECT {
+        return Presence::NoObject;
+    }
+    Presence::NoSubindex
 }

@@ -1,6 +1,7 @@
 // The values that stand packed in a received frame, by the plan of its receive PDO: how many bytes they are, whether they may be
 // received, and where they go. Proved against specs/Received.antt; proofs/Unpacked.antt ties that to the rows of the rules.
 
+use dictionary::choices::is_mode;
 use dictionary::places;
 use dictionary::read;
 use dictionary::write;
@@ -10,7 +11,6 @@ ghost use mathlib.Core.Bool.{true};
 ghost use lib.ListN.{length};
 ghost use Rattle.rules_dictionary.specs.Numbers.{areBytes};
 ghost use Rattle.rules_dictionary.specs.Table.{dictionaryLength};
-ghost use Rattle.rules_dictionary.specs.Legal.{isMode};
 ghost use Rattle.mapping.specs.Moves.{MovesFit};
 ghost use Rattle.mapping.specs.Received.{movesOf, sizes, isLegal, movesLegal, storedMoves, hasPlace};
 
@@ -45,18 +45,6 @@ pub fn maps(plan: Plan, place: u16) -> bool
         k += 1;
     }
     false
-}
-
-// Whether a number is a mode of operation.
-fn is_mode(v: u32) -> bool
-    ensures { λ r. ⌜ r ≡ isMode v ⌝ }
-{
-    match v {
-        0 => true,
-        1 => true,
-        3 => true,
-        _ => false,
-    }
 }
 
 // Whether a value may be received for the object at a place.

@@ -4,7 +4,6 @@ use Prim.Native.Nat.{ℕ, _*_, _≤_}
 use native.Mathlib.Omega.{arith}
 use mathlib.Core.Path.{_≡_, refl}
 use mathlib.Core.Logic.{inl, inr}
-use mathlib.Core.Bool.{Bool, true, false, _||_, false≢true}
 use borrow.Author.Tests.{ltb-true}
 use lib.Dec.{eqb, ltb}
 use Rattle.rules_dictionary.specs.Table.{Row, eachWay, table}
@@ -49,8 +48,3 @@ pub four-at-most : (n : ℕ) → IsSize n → n ≤ 4
 four-at-most n (inl e) = omega arith
 four-at-most n (inr (inl e)) = omega arith
 four-at-most n (inr (inr e)) = omega arith
-
--- the three modes, with nothing behind them
-pub three-or-none : (a b c : Bool) → (a || (b || c)) ≡ (a || (b || (c || false)))
-three-or-none a b true = refl
-three-or-none a b false = refl

@@ -7,33 +7,14 @@ use crate::identifiers::bad_identifier;
 use crate::mappings::count_verdict;
 use crate::mappings::entry_verdict;
 use dictionary::Entry;
+use dictionary::choices::is_mode;
+use dictionary::choices::is_type;
 use rules_dictionary::Role;
 ghost use mathlib.Core.Path.{_≡_};
 ghost use lib.ListN.{length};
 ghost use Rattle.rules_dictionary.specs.Table.{dictionaryLength};
-ghost use Rattle.rules_dictionary.specs.Legal.{isMode, isType};
 ghost use Rattle.dictionary.specs.Sizes.{IsPdo};
 ghost use Rattle.sdo.specs.Verdicts.{verdictCode, badIf, pdoOf, roleVerdict, valueVerdictOf};
-
-// The transmission types up to this one wait for SYNC.
-const LAST_SYNCHRONOUS: u32 = 240;
-
-// The transmission types from this one on go at once.
-const FIRST_EVENT_DRIVEN: u32 = 254;
-
-// Whether a number is a mode of operation: none, profile position or profile velocity.
-fn is_mode(v: u32) -> bool
-    ensures { λ r. ⌜ r ≡ isMode v ⌝ }
-{
-    (v == 0) | ((v == 1) | (v == 3))
-}
-
-// Whether a number is a transmission type.
-fn is_type(t: u32) -> bool
-    ensures { λ r. ⌜ r ≡ isType t ⌝ }
-{
-    (t <= LAST_SYNCHRONOUS) | (FIRST_EVENT_DRIVEN <= t)
-}
 
 // The verdict on a value that is bad, or not, for another reason than its range.
 fn bad_if(bad: bool) -> u32
