@@ -1,18 +1,17 @@
 -- The laws for callers: what the code does by a receive PDO's plan is what the rules do by the rows that it maps.
 -- Assumes nothing.
 use Prim.Native.Nat.{ℕ, zero, suc, _^_, _<_, _≤_}
-use native.Mathlib.Nat.{pow-suc}
 use native.Mathlib.Omega.{arith}
 use mathlib.Core.Path.{_≡_, refl, sym, _∙_, ap, ap₂, subst}
 use mathlib.Core.Logic.{_⊎_, inl, inr}
 use mathlib.Core.Bool.{Bool, true, false, not, _&&_, _||_}
 use mathlib.Core.List.{List, [], _∷_, map}
 use borrow.Author.Tests.{eqb-true, ne-eqb, lt-ltb, le-ltb, ltb-true, ltb-false, not-true}
-use lib.Dec.{eqb, ltb, lit<}
+use lib.Dec.{eqb, ltb}
 use lib.ListN.{length, take, drop, length-map}
 use Rattle.rules_dictionary.specs.declared.Plan.{Plan}
 use Rattle.rules_dictionary.specs.declared.Move.{Move}
-use Rattle.rules_dictionary.specs.Numbers.{value, isByte, areBytes, all, any, padded}
+use Rattle.rules_dictionary.specs.Numbers.{value, areBytes, all, any, padded}
 use Rattle.rules_dictionary.specs.declared.Role.the-variants.{Plain, ModeOfOperation}
 use Rattle.rules_dictionary.specs.Table.{Row, sizeOf, placeOf, same, Direction, receive, transmit, directionOf, pdos, receivePdos}
 use Rattle.rules_dictionary.specs.Table.{transmitPdos, mapCount, mapEntry, mapSlots, eachWay, mostMoves, controlWord, mode, targetPosition}
@@ -24,7 +23,7 @@ use Rattle.rules_dictionary.specs.Legal.{isMode, suits, isBelow, isAbove, other
 use Rattle.rules_dictionary.specs.Plans.{targets, mapped, move, noMove, planFor}
 use Rattle.rules_dictionary.specs.Members.{In, here, there, Each}
 use Rattle.rules_dictionary.proofs.Tests.{and-left, and-right, and-both, all-in, each-in, none-in}
-use Rattle.rules_dictionary.proofs.Rows.{all-drop}
+use Rattle.rules_dictionary.proofs.Rows.{all-drop, value-take}
 use Rattle.rules_dictionary.proofs.Members.{all-of, in-left, count-in, map-in, in-cons}
 use Rattle.rules_services.specs.PdoTraffic.{mappedLength, areLegal}
 use Rattle.rules_services.specs.Written.{wrote}
@@ -92,15 +91,6 @@ judged = (
   ),
 )
 
-value-fits : (n : ℕ) (bs : List ℕ) → areBytes bs ≡ true → value (take n bs) < 256 ^ n
-unfolding value
-value-fits zero bs h = lit< tt
-value-fits (suc n) [] h = rw pow-suc (omega (arith, value-fits n [] refl))
-value-fits (suc n) (b ∷ bs) h =
-    let l : b < 256 = ltb-true b 256 (and-left (isByte b) (areBytes bs) h) in
-    let r = value-fits n bs (and-right (isByte b) (areBytes bs) h) in
-    rw pow-suc (omega arith)
-
 -- ---- rows that may be received
 
 -- each by a computed test: 6040h and 6060h are told by their places; 1017h is not among them, nor what may be mapped to transmit, nor a PDO's row
@@ -138,7 +128,7 @@ pub legal-rows : (xs : List Row) (d bs : List ℕ) → Received xs → areBytes 
 unfolding movesLegal areLegal unpacked
 legal-rows [] d bs r h = refl
 legal-rows (x ∷ xs) d bs r h =
-    ap₂ _&&_ (sym (each-in Judged (r x here) judged d (value (take (sizeOf x) bs)) (value-fits (sizeOf x) bs h)))
+    ap₂ _&&_ (sym (each-in Judged (r x here) judged d (value (take (sizeOf x) bs)) (value-take (sizeOf x) bs h)))
     (legal-rows xs d (drop (sizeOf x) bs) (λ y j. r y (there j)) (all-drop (sizeOf x) bs h))
 
 -- a row that is told by its place among those that may be received

@@ -7,6 +7,8 @@ use mathlib.Core.Bool.{Bool, true, false, cond, not, _&&_, _||_, and-assoc, fals
 use mathlib.Core.List.{List, [], _∷_, _++_}
 use lib.Dec.{eqb}
 use borrow.Author.Tests.{eqb-true, eq-eqb, ne-eqb}
+-- the name that `soundness` and `calls` still have for it
+pub use borrow.Author.Tests.{not-true as not-false}
 use Rattle.rules_dictionary.specs.{Numbers.all, Numbers.any, Members.In, Members.here, Members.there}
 
 -- a test passes or fails
@@ -56,10 +58,6 @@ and-false-if false b h = refl
 pub and-then-false : (a b : Bool) → (a && b) ≡ false → a ≡ true → b ≡ false
 and-then-false true b h p = h
 and-then-false false b h p = absurd (false≢true p)
-
-pub not-false : (b : Bool) → not b ≡ true → b ≡ false
-not-false true h = absurd (false≢true h)
-not-false false h = refl
 
 pub false-not : (b : Bool) → b ≡ false → not b ≡ true
 false-not b h = rw h

@@ -7,7 +7,7 @@ use Rattle.theorems.proofs.Words.{Bool·beq, map, List, [], _∷_, eq-e
 use Rattle.theorems.proofs.Words.{ModeOfOperation, PdoIdentifier, PdoType, MappingCount, MappingEntry, PdoData, NmtState, In, here, there}
 use Rattle.theorems.proofs.Words.{each-in, and-left, and-right, and-both, all-in, within, same-or-apart, read-apart, read-same, all-of}
 use Rattle.theorems.proofs.Words.{unpacked-table, words-read, pdo-in, identifier-in, count-in, entry-in, type-in, clash, or-false-left}
-use Rattle.theorems.proofs.Words.{or-false-right, or-both-false, and-false-if, and-then-false, not-false, any-false-in, any-false-of, eqb-comm}
+use Rattle.theorems.proofs.Words.{or-false-right, or-both-false, and-false-if, and-then-false, not-true, any-false-in, any-false-of, eqb-comm}
 use Rattle.theorems.proofs.Words.{either, false-not, implied, implies}
 use Rattle.rules_dictionary.specs.Numbers.{bit, between, any, all, value}
 use Rattle.rules_dictionary.specs.Table.{pdos, directionOf, Row, table, sizeOf, dictionaryLength, isConstant, identifier, mapCount, mapEntry}
@@ -66,7 +66,7 @@ module _ (f : ℕ → ℕ) {p : ℕ} (w : ℕ) (i : In p pdos) where
       free q j valid =
           subst (λ (v : ℕ). (not (eqb q p) && isValid v && eqb (frameIdentifier w) (frameIdentifier v)) ≡ false) (sym (of-pdo f 0 j))
           (and-false-if (not (eqb q p) && isValid (f q)) _ (λ h.
-          g .unlike j (not-false (eqb q p) (and-left (not (eqb q p)) (isValid (f q)) h)) valid (and-right (not (eqb q p)) (isValid (f q)) h)))
+          g .unlike j (not-true (eqb q p) (and-left (not (eqb q p)) (isValid (f q)) h)) valid (and-right (not (eqb q p)) (isValid (f q)) h)))
 
 -- THE LAW: f are the words before and g those after, of which one at most is another, and that one is legal beside those before
 module _ (f g : ℕ → ℕ) (legal : (q : ℕ) → In q pdos → badIdentifier (map f pdos) q (f q) ≡ false)
@@ -139,7 +139,7 @@ from-test n d h =
       ranged = λ x i. all-in (λ x. inRange x (read d x)) i (sym (of-values ranged d) ∙ and-right (constantsAsListed n d) (valuesInRange d) b);
       words = λ p k i j. all-in (λ k. isGood (entryVerdict p (read d (mapEntry p k)))) j (sym (entries-good d i) ∙ and-left _ _ (maps p i));
       counts = λ p i. and-right (all (λ w. isGood (entryVerdict p w)) (mapWords d p)) _ (maps p i);
-      named = λ p i. rw (← named-at d i) (not-false _ (all-in (λ p. not (badIdentifier (identifiers d) p (getD (identifiers d) p 0))) i
+      named = λ p i. rw (← named-at d i) (not-true _ (all-in (λ p. not (badIdentifier (identifiers d) p (getD (identifiers d) p 0))) i
           (and-right (constantsAsListed n d && valuesInRange d && mappingsLegal d) _ h)));
     }
 

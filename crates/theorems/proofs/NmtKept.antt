@@ -6,7 +6,7 @@ use Rattle.theorems.proofs.Words.{bitOr, or-lt, NmtState, PreOperationa
 use Rattle.theorems.proofs.Words.{Plain, Event, Started, QuickStopDone, ReactionDone, SetPointReached, Tick, CauseGone, Feedback, Voltage, In}
 use Rattle.theorems.proofs.Words.{here, there, and-left, each-in, all-in, allBelow, on-nodes, none-in, and-both, words-read, identifier-in}
 use Rattle.theorems.proofs.Words.{count-in, entry-in, length-store, length-stored, read-same, read-apart, read-fits, within, same-or-apart}
-use Rattle.theorems.proofs.Words.{apart, found-in, isOperational, either, clash, not-false, implied, on-states}
+use Rattle.theorems.proofs.Words.{apart, found-in, isOperational, either, clash, not-true, implied, on-states}
 use Rattle.theorems.proofs.Dictionary.{DictionaryOk, map-same, isPdo}
 use Rattle.theorems.proofs.Settled.{mode-in, control-in, drive-may, whole-range, status-in, display-in}
 use Rattle.theorems.proofs.Lawful.{Lawful, Waits, drive-lawful, pairwise-map, count-at, sound-lawful, node-lawful}
@@ -158,7 +158,7 @@ module _ (n : ℕ) (rs : List Row) (d : List ℕ) (legal : isNodeId n ≡ true) 
         counts = λ p i. ap₂ (λ (ws : List ℕ) (c : ℕ). isGood (countVerdict ws c)) (entries p i) (now (mapCount p) (count-in i) (pdo p 1 i here .1))
             ∙ all-in (λ p. isGood (countVerdict (map (λ k. defaultOf n (mapEntry p k)) mapSlots) (defaultOf n (mapCount p)))) i (maps-test .1);
         named = λ p i. ap₂ (λ (ws : List ℕ) (w : ℕ). badIdentifier ws p w) names (now (identifier p) (identifier-in i) (pdo p 1 i here .0))
-            ∙ not-false _ (all-in (nameLegal n) i (on-nodes (λ n. all (nameLegal n) pdos) names-test n legal));
+            ∙ not-true _ (all-in (nameLegal n) i (on-nodes (λ n. all (nameLegal n) pdos) names-test n legal));
       }
 
 -- ---- power-up: every row
@@ -269,7 +269,7 @@ ArgumentsFit (Voltage b) = Unit
 
 pub unfaulty : (s : DriveState) → (isNotReady s || isQuickStop s) ≡ true → isFaulty s ≡ false
 unfaulty s h =
-    not-false _ (implied (isNotReady s || isQuickStop s) _ (on-states (λ s. not (isNotReady s || isQuickStop s) || not (isFaulty s)) refl s) h)
+    not-true _ (implied (isNotReady s || isQuickStop s) _ (on-states (λ s. not (isNotReady s || isQuickStop s) || not (isFaulty s)) refl s) h)
 
 module _ (s : State) (d : List ℕ) (law : Lawful s d) where
   -- to a fault state, or from a state that has no cause

@@ -5,7 +5,7 @@ use Rattle.theorems.proofs.Words.{ℕ, zero, suc, _*_, _^_, _<_, _≤_,
 use Rattle.theorems.proofs.Words.{inl, inr, Bool, true, false, not, _&&_, _||_, and-eq-true-iff, Bool·not-not, List, [], _∷_, map, eqb-true}
 use Rattle.theorems.proofs.Words.{ltb-true, ltb-false, eqb, ltb, length, take, drop, getD, set, length-take-le, take-take, take-nil, PdoData}
 use Rattle.theorems.proofs.Words.{NmtState, State, In, here, there, and-left, and-right, none-in, all-in, each-in, all-of, in-left}
-use Rattle.theorems.proofs.Words.{length-store, either, by-match, false-not, clash, implied, or-false-left, or-false-right, not-false, is-good}
+use Rattle.theorems.proofs.Words.{length-store, either, by-match, false-not, clash, implied, or-false-left, or-false-right, not-true, is-good}
 use Rattle.theorems.proofs.Words.{all-leading, take-padded}
 use Rattle.theorems.proofs.Dictionary.{DictionaryOk, store-ok, entries-good, isPdo, mapped-in}
 use Rattle.theorems.proofs.{Writes.in-cons, Writes.MayApply, Settled.drive-may, SdoKept.GoodValue, SdoKept.good-passes, SdoKept.good-value}
@@ -120,7 +120,7 @@ received-row {d = d} ok {p} i {x} j =
     let way : directionOf p ≡ receive = each-in (λ p. directionOf p ≡ receive) i (refl, (refl, (refl, (refl, tt)))) in
     let test = and-left (receivable x) _ (all-in (λ x. receivable x && ltb (x .range .greatest) (256 ^ sizeOf x)) inside rows-test) in
     let r = simp and-eq-true-iff at (implied (suits receive (x .mappable)) _ test (rw way at (mapped-way ok (in-left transmitPdos i) x j))) in
-    ((inside, not-false _ (r .0)), not-false _ (r .1))
+    ((inside, not-true _ (r .0)), not-true _ (r .1))
 
 -- ---- values that a receive PDO may write
 

@@ -9,7 +9,7 @@ use Rattle.theorems.proofs.Words.{eq-eqb, eqb-true, le-leb, ltb-true, e
 use Rattle.theorems.proofs.Words.{DictionaryLength, OutputLength, NodeId, NotSound, BadFrame, BadEvent, OutOfPlace, Event, Started}
 use Rattle.theorems.proofs.Words.{QuickStopDone, ReactionDone, SetPointReached, Tick, CauseGone, Feedback, Voltage, Told, Happened, Bad}
 use Rattle.theorems.proofs.Words.{and-left, and-right, stored-bytes, store-bytes, length-stored, all-drop, clash, by-match, or-either}
-use Rattle.theorems.proofs.Words.{not-false, false-not, value-take}
+use Rattle.theorems.proofs.Words.{not-true, false-not, value-take}
 use Rattle.theorems.proofs.Settled.{settled-length, status-fits, mode-fits, settled-status, settled-display, settled-motion, status-same}
 use Rattle.theorems.proofs.Lawful.{Lawful, finally, sound-lawful, drive-lawful, node-lawful, at-end-lawful, paced-sound, same-refl, plan-refl}
 use Rattle.theorems.proofs.Lawful.{data-refl, same-rules}
@@ -258,6 +258,6 @@ never-unsound r k =
     sure : (s : State) (d : List ℕ) {x : Decision} → Decides s d (k .call) x → sound s d ≡ true → answered x s d (k .output) .refusal ≡ NotSound → ⊥
     sure s d (refuses x q) h e =
         clash (isUnsound x) (ap isUnsound e)
-        (not-false (isUnsound x) (elim (or-either (not (isUnsound x)) _ q) [ inl k ↦ k | inr k ↦ clash (sound s d) h (not-false _ k) ]))
+        (not-true (isUnsound x) (elim (or-either (not (isUnsound x)) _ q) [ inl k ↦ k | inr k ↦ clash (sound s d) h (not-true _ k) ]))
     sure s d (begins n q legal long) h e = clash (isUnsound Accepted) (ap isUnsound e) refl
     sure s d (serves xs q law v) h e = clash (isUnsound Accepted) (ap isUnsound e) refl

@@ -6,7 +6,7 @@ use Rattle.theorems.proofs.Words.{eq-eqb, lt-ltb, leb-true, length, get
 use Rattle.theorems.proofs.Words.{DriveState, Drive, Command, NmtState, PreOperational, Operational, Stopped, State, Paced, In, here, there}
 use Rattle.theorems.proofs.Words.{and-both, and-left, and-right, all-drop, part-bytes, all-take, store-bytes, stored-bytes, length-store}
 use Rattle.theorems.proofs.Words.{length-stored, bytes-are, read-fits, within, isStopped, all-both, either, by-match, clash, implied}
-use Rattle.theorems.proofs.Words.{not-false, by-test, whichever, on-ways, length-padded}
+use Rattle.theorems.proofs.Words.{not-true, by-test, whichever, on-ways, length-padded}
 use Rattle.theorems.proofs.Services.{Serves, Releases, Before, longer}
 use Rattle.theorems.proofs.{Lawful.finally, DriveKept.emptied-same, DriveKept.rule-same}
 use Rattle.theorems.proofs.{Runs.run-holds, Runs.ended-bytes, Runs.Decides, Runs.decides, Demands.ready-at, Settled.register-in}
@@ -154,13 +154,13 @@ beat-spoken n c h =
 not-fault-next : (cause : Bool) (s : DriveState) (c : Command) → isFault s ≡ false → isFault (next cause s c) ≡ false
 unfolding next
 not-fault-next cause s c h =
-    not-false _ (implied (not (isFault s)) _ (on-ways (λ b s c. not (not (isFault s)) || not (isFault (next b s c))) refl cause s c) (rw h))
+    not-true _ (implied (not (isFault s)) _ (on-ways (λ b s c. not (not (isFault s)) || not (isFault (next b s c))) refl cause s c) (rw h))
 
 -- a reset leaves Fault, and there is none outside
 reset-leaves : (cause : Bool) (s : DriveState) (c : Command) → resets cause s c ≡ true → isFault (next cause s c) ≡ false
 unfolding resets next
 reset-leaves cause s c h =
-    not-false _ (implied (resets cause s c) _ (on-ways (λ b s c. not (resets b s c) || not (isFault (next b s c))) refl cause s c) h)
+    not-true _ (implied (resets cause s c) _ (on-ways (λ b s c. not (resets b s c) || not (isFault (next b s c))) refl cause s c) h)
 
 control-state : (d : List ℕ) (old : ℕ) (v : Drive) →
     controlWritten d old v .drive .state ≡ next (v .cause) (v .state) (command old (read d controlWord))

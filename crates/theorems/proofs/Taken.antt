@@ -3,7 +3,7 @@
 use Rattle.theorems.proofs.Words.{ℕ, _+_, _≤_, _^_, _<_, arith, _≡_, refl, sym, _∙_, ap, subst, _⊎_, inl, inr, Bool, true, not, _&&_, _||_}
 use Rattle.theorems.proofs.Words.{drop-of-length-le, and-eq-true-iff, List, [], _∷_, _++_, append-nil, length, drop, drop-drop, DriveState}
 use Rattle.theorems.proofs.Words.{SetPoint, Store, Empty, Rested, Moving, Queued, Drive, State, within, same-or-apart, length-store, read-same}
-use Rattle.theorems.proofs.Words.{read-apart, here, there, In, and-left, and-right, by-test, all-both, not-false, implied, whichever}
+use Rattle.theorems.proofs.Words.{read-apart, here, there, In, and-left, and-right, by-test, all-both, not-true, implied, whichever}
 use Rattle.theorems.proofs.Services.{Serves, Releases, applied-all}
 use Rattle.theorems.proofs.{Settled.control-in, Settled.register-in, Writes.Fitting, Lawful.Lawful, Lawful.finally, Runs.Decides, Runs.decides}
 use Rattle.rules_dictionary.specs.Table.{Row, same, dictionaryLength, controlWord, mode, heartbeatTime, table, sizeOf}
@@ -129,7 +129,7 @@ one-edge-takes-one d old v =
       t .2,
       t .3,
       elim
-          (t .4) [ inl e ↦ inl e | inr e ↦ inr (not-false _ (and-left rose (bit newSetPointBit word) e), and-right rose _ e) ],
+          (t .4) [ inl e ↦ inl e | inr e ↦ inr (not-true _ (and-left rose (bit newSetPointBit word) e), and-right rose _ e) ],
     )
 
 -- ---- bit 4 stays 1 over writes that leave it so

@@ -8,7 +8,7 @@ pub use mathlib.Core.Logic.{_⊎_, inl, inr}
 pub use mathlib.Core.Bool.{Bool, true, false, cond, not, _&&_, _||_, false≢true, Bool·beq, and-not-self, and-eq-true-iff, Bool·not-not}
 pub use mathlib.Core.Bool.{or-true}
 pub use mathlib.Core.List.{List, [], _∷_, _++_, append-nil, map, append-assoc}
-pub use borrow.Author.Tests.{eqb-true, eq-eqb, leb-false, ltb-false, ne-eqb, leb-true, lt-ltb, le-leb, ltb-true, eqb-false, le-ltb}
+pub use borrow.Author.Tests.{eqb-true, eq-eqb, leb-false, ltb-false, ne-eqb, leb-true, lt-ltb, le-leb, ltb-true, eqb-false, le-ltb, not-true}
 pub use lib.Dec.{eqb, leb, ltb}
 pub use lib.ListN.{drop-of-length-le, length, getD, set, drop, take-append-drop, length-drop, take, length-append, length-take}
 pub use lib.Seq.{sets, getD-set-other, sets-eq, length-take-le, drop-drop, take-take, take-nil}
@@ -43,5 +43,5 @@ pub use Rattle.rules_dictionary.proofs.{LookUp.found-in, Packing.within, Packin
 pub use Rattle.rules_dictionary.proofs.{Padded.length-padded, Padded.take-padded, Plans.joined-same}
 pub use Rattle.drive.proofs.Every.{on-states, on-ways}
 pub use Rattle.theorems.proofs.Booleans.{either, and-then-false, or-false-left, or-false-right, any-false-in, by-match, false-not, clash}
-pub use Rattle.theorems.proofs.Booleans.{by-test, whichever, or-both-false, and-false-if, not-false, any-false-of, eqb-comm, implied, implies}
+pub use Rattle.theorems.proofs.Booleans.{by-test, whichever, or-both-false, and-false-if, any-false-of, eqb-comm, implied, implies}
 pub use Rattle.theorems.proofs.Booleans.{or-either, all-both}
