@@ -1,4 +1,7 @@
 // The values of a row that may be chosen, whatever the rest of the dictionary holds: modes of operation and transmission types.
+use rules_dictionary::NO_MODE;
+use rules_dictionary::PROFILE_POSITION;
+use rules_dictionary::PROFILE_VELOCITY;
 ghost use mathlib.Core.Path.{_≡_};
 ghost use Rattle.rules_dictionary.specs.Legal.{isMode, isType};
 
@@ -12,7 +15,7 @@ const FIRST_EVENT_DRIVEN: u8 = 254;
 pub fn is_mode(v: u32) -> bool
     ensures { λ r. ⌜ r ≡ isMode v ⌝ }
 {
-    (v == 0) | ((v == 1) | (v == 3))
+    (v == (NO_MODE as u32)) | ((v == (PROFILE_POSITION as u32)) | (v == (PROFILE_VELOCITY as u32)))
 }
 
 // Whether a number is a transmission type.

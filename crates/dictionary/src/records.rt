@@ -11,6 +11,11 @@ ghost use Rattle.rules_dictionary.specs.Table.{wordsPlace, dictionaryLength};
 ghost use Rattle.rules_dictionary.specs.Values.{read, store};
 ghost use Rattle.dictionary.specs.Sizes.{IsPdo};
 
+// The word of a PDO's identifier: bit 31 says that the PDO is not valid, and the identifier is the rest by this.
+pub const INVALID: u32 = 0x8000_0000;
+
+pub const IDENTIFIERS: u32 = 0x800;
+
 // Where a PDO's communication record stands.
 pub fn communication_place(p: usize) -> usize
     requires { ⌜ IsPdo p ⌝ }

@@ -22,9 +22,11 @@ use crate::states::resets;
 use crate::words::aim;
 use dictionary::objects;
 use rules_dictionary::Mode;
+use rules_dictionary::PROFILE_POSITION;
+use rules_dictionary::PROFILE_VELOCITY;
 
 // The bits of 6040h in mode 1.
-const NEW_SET_POINT: u16 = 16;
+pub const NEW_SET_POINT: u16 = 16;
 
 const AT_ONCE: u16 = 32;
 
@@ -119,10 +121,10 @@ fn is_position(m: Mode) -> bool
 pub fn mode_of(number: u8) -> Mode
     ensures { λ r. ⌜ r ≡ modeOf number ⌝ }
 {
-    if number == 1 {
+    if number == PROFILE_POSITION {
         return Mode::ProfilePosition;
     }
-    if number == 3 {
+    if number == PROFILE_VELOCITY {
         Mode::ProfileVelocity
     } else {
         Mode::NoMode

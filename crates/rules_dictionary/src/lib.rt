@@ -4,22 +4,29 @@
 ghost use mathlib.Core.Path.{_≡_};
 ghost use Rattle.rules_dictionary.specs.Legal.{modeNumber};
 
-// The modes of operation: 0, 1 and 3.
+// The modes of operation, ..
 pub enum Mode {
     NoMode,
     ProfilePosition,
     ProfileVelocity,
 }
 
+// .. and their numbers in 6060h and 6061h.
+pub const NO_MODE: u8 = 0;
+
+pub const PROFILE_POSITION: u8 = 1;
+
+pub const PROFILE_VELOCITY: u8 = 3;
+
 impl Mode {
-    // Its number in 6060h and 6061h.
+    // Its number.
     pub fn number(self) -> u8
         ensures { λ r. ⌜ r ≡ modeNumber self ⌝ }
     {
         match self {
-            Mode::NoMode => 0,
-            Mode::ProfilePosition => 1,
-            Mode::ProfileVelocity => 3,
+            Mode::NoMode => NO_MODE,
+            Mode::ProfilePosition => PROFILE_POSITION,
+            Mode::ProfileVelocity => PROFILE_VELOCITY,
         }
     }
 }

@@ -9,15 +9,10 @@ ghost use Rattle.rules_dictionary.specs.Legal.{isValid, frameIdentifier, identi
 ghost use Rattle.dictionary.specs.Sizes.{IsPdo};
 ghost use Rattle.sdo.specs.Verdicts.{illFormed, outside, takes};
 
-// Bit 31: the PDO is not valid.
-const INVALID: u32 = 0x8000_0000;
-
 // Bit 30: the PDO transmits.
 const TRANSMITS: u32 = 0x4000_0000;
 
-// The eleven bits of the identifier, and the nineteen between them and bit 30.
-const ELEVEN: u32 = 0x800;
-
+// The nineteen bits between bit 30 and the identifier.
 const NINETEEN: u32 = 0x8_0000;
 
 // The least and the greatest identifier of a valid PDO.
@@ -29,14 +24,14 @@ const LAST: u32 = 0x57F;
 pub fn is_valid(w: u32) -> bool
     ensures { λ r. ⌜ r ≡ isValid w ⌝ }
 {
-    !(w / INVALID % 2 == 1)
+    !(w / records::INVALID % 2 == 1)
 }
 
 // The identifier in a word.
 fn frame_identifier(w: u32) -> u32
     ensures { λ r. ⌜ r ≡ frameIdentifier w ⌝ }
 {
-    w % ELEVEN
+    w % records::IDENTIFIERS
 }
 
 // Whether bit 30 of a word is not its PDO's direction, or one of bits 29 to 11 is set.
@@ -44,7 +39,7 @@ fn ill_formed(p: usize, w: u32) -> bool
     ensures { λ r. ⌜ r ≡ illFormed p w ⌝ }
 {
     let transmits = w / TRANSMITS % 2 == 1;
-    let reserved = w / ELEVEN % NINETEEN != 0;
+    let reserved = w / records::IDENTIFIERS % NINETEEN != 0;
     if p < places::EACH_WAY {
         return transmits | reserved;
     }
