@@ -8,12 +8,14 @@ use Rattle.rules_dictionary.specs.Members.{In}
 use Rattle.rules_dictionary.specs.Numbers.{value, bytes, part}
 use Rattle.rules_dictionary.specs.Table as rows
 use Rattle.rules_dictionary.specs.Values as values
+use Rattle.dictionary.specs.declared.Spot.{Spot}
 use Rattle.dictionary.specs.declared.Entry.{Entry}
 use Rattle.dictionary.specs.declared.Found.{Found}
 use Rattle.dictionary.specs.declared.Found.the-variants as found
 use Rattle.dictionary.specs.declared.Presence.{Presence}
 use Rattle.dictionary.specs.declared.Presence.the-variants as presence
 use Rattle.dictionary.specs.Sizes.{IsSize}
+use Rattle.dictionary.specs.Lines.{entryIn}
 
 abbrev pub entryOf : rows.Row → Entry
 entryOf x =
@@ -25,6 +27,10 @@ entryOf x =
       greatest = x .range .greatest;
       role = x .role;
     }
+
+-- .. and the entry of a row as it was found
+abbrev pub entryAt : Spot → Entry
+entryAt p = entryIn (p .line) (p .place)
 
 -- the entry of the row of that index and subindex: its value lies in the dictionary, and what stands at the entry's place and size is
 -- the row's value, read or stored
@@ -38,9 +44,9 @@ pub record Stands (i s : ℕ) (e : Entry) : Type 0 where
   pub reads : (d : List ℕ) → value (part (e .place) (e .size) d) ≡ values.read d row
   pub writes : (v : ℕ) (d : List ℕ) → sets d (e .place) (bytes (e .size) v) ≡ values.store row v d
 
--- what the look-up of an index and subindex finds: the row's entry, or that none is there
+-- what the look-up of an index and subindex finds: the row, or that none is there
 abbrev pub IsFound : ℕ → ℕ → Found → Type 0
-IsFound i s (found.Entry e) = Stands i s e
+IsFound i s (found.Row p) = Stands i s (entryAt p)
 IsFound i s found.NoObject = rows.lookup i s ≡ rows.noObject
 IsFound i s found.NoSubindex = rows.lookup i s ≡ rows.noSubindex
 

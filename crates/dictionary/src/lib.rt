@@ -23,7 +23,13 @@ pub use values::write1;
 pub use values::write2;
 pub use values::write4;
 
-// A row of the table: where its value stands and what it may be.
+// A row of the table as a look-up finds it: its line, and where its value stands.
+pub struct Spot {
+    line: u32,
+    pub place: u16,
+}
+
+// A row taken apart: where its value stands and what it may be.
 pub struct Entry {
     pub place: u16,
     pub size: u8,
@@ -35,7 +41,7 @@ pub struct Entry {
 
 // What a look-up finds.
 pub enum Found {
-    Entry(Entry),
+    Row(Spot),
     NoObject,
     NoSubindex,
 }

@@ -2,6 +2,7 @@
 use crate::Entry;
 use crate::Found;
 use crate::Presence;
+use crate::Spot;
 use crate::places;
 use crate::records::communication_place;
 use crate::records::mapping_place;
@@ -11,25 +12,33 @@ ghost use mathlib.Core.Path.{_≡_};
 ghost use mathlib.Core.List.{map};
 ghost use Prim.Native.Nat.{_-_, _<_, _≤_, _^_};
 ghost use Rattle.rules_dictionary.specs.Table.{table, entries, rowAt, placeOf, lookup};
-ghost use Rattle.dictionary.specs.Entries.{IsFound, presenceOf};
+ghost use Rattle.dictionary.specs.Entries.{entryAt, IsFound, presenceOf};
 ghost use Rattle.dictionary.specs.Lines.{lineOf, LastUpTo, accessIn, leastIn, greatestIn, roomOf, roleIn, PdoIn, communicationOffset};
-ghost use Rattle.dictionary.specs.Lines.{mappingOffset, sizesFrom, drivePlace, placeIn, entryIn, spotOf};
+ghost use Rattle.dictionary.specs.Lines.{mappingOffset, sizesFrom, drivePlace, placeIn, spotOf};
 
 // What a line of the table holds: index and subindex, six digits, stand above one byte, ..
 const KEY: u32 = 0x100;
 
-// .. in which are the type: the size in bytes, and 8 for a sign; ..
+const INDEXES: u32 = 0x1_0000;
+
+const SUBINDEXES: u32 = 0x100;
+
+// .. in which are the type: the size in bytes, and a sign; ..
+const SIGN: u32 = 8;
+
 const U8: u32 = 1;
 
 const U16: u32 = 2;
 
 const U32: u32 = 4;
 
-const I8: u32 = 8 + U8;
+const I8: u32 = SIGN + U8;
 
-const I32: u32 = 8 + U32;
+const I32: u32 = SIGN + U32;
 
-// .. the access; ..
+// .. the access, and the range where it is not the whole of the type, each one of four.
+const CODES: u32 = 4;
+
 const ACCESS: u32 = 0x10;
 
 const CONSTANT: u32 = 0 * ACCESS;
@@ -38,7 +47,6 @@ const NODE_WRITTEN: u32 = 1 * ACCESS;
 
 const WRITABLE: u32 = 2 * ACCESS;
 
-// .. and the range, where it is not the whole of the type.
 const RANGE: u32 = 0x40;
 
 const FROM_1: u32 = 1 * RANGE;
@@ -322,18 +330,19 @@ fn mapping_offset(subindex: u8) -> usize
     places::WORDS + places::WORD_LENGTH * (subindex as usize - 1)
 }
 
-// The bytes of the rows from one rank up to another.
+// The bytes of the rows from one rank up to another, counted in a controller's word.
 fn sizes_from(rows: &[u32], first: usize, last: usize) -> usize
-    requires { ⌜ (now rows ≡ map lineOf table) × (last ≤ entries) ⌝ }
+    requires { ⌜ (now rows ≡ map lineOf table) × ((first ≤ entries) × (last ≤ entries)) ⌝ }
     ensures { λ r. ⌜ (r ≡ sizesFrom (now (rows .entry)) first (last - first)) × (r < 2 ^ 16) ⌝ }
 {
-    let mut bytes: usize = 0;
-    let mut k = first;
-    while k < last {
-        bytes += (rows[k] % 8) as usize;
+    let end = last as u32;
+    let mut bytes: u32 = 0;
+    let mut k = first as u32;
+    while k < end {
+        bytes += rows[k as usize] % SIGN;
         k += 1;
     }
-    bytes
+    bytes as usize
 }
 
 // The place of a row of the drive: behind the rows before it, or in front of those from it to the end.
@@ -366,8 +375,8 @@ fn place_at(rows: &[u32], rank: usize) -> usize
     ensures { λ r. ⌜ (r ≡ placeOf (rowAt rank)) × (r < 2 ^ 16) ⌝ }
 {
     let line = rows[rank];
-    let room = room_of((line / KEY / 0x100 % 0x1_0000) as u16);
-    place_in(rows, room, rank, (line / KEY % 0x100) as u8)
+    let room = room_of((line / KEY / SUBINDEXES % INDEXES) as u16);
+    place_in(rows, room, rank, (line / KEY % SUBINDEXES) as u8)
 }
 
 // A line as a number of 64 bits.
@@ -383,13 +392,13 @@ fn spot_in(rows: &[u32], index: u16, subindex: u8) -> u64
     ensures { λ r. ⌜ r ≡ spotOf (lookup index subindex) ⌝ }
 {
     let object = index as u32;
-    let key = object * 256 + (subindex as u32);
+    let key = object * SUBINDEXES + (subindex as u32);
     let rank = last_up_to(rows, key);
     let line = rows[rank];
     if line / KEY == key {
         return wide(line) * LINE + (place_at(rows, rank) as u64);
     }
-    if line / KEY / 256 == object {
+    if line / KEY / SUBINDEXES == object {
         return NO_SUBINDEX;
     }
     NO_OBJECT
@@ -402,31 +411,44 @@ fn spot_of(index: u16, subindex: u8) -> u64
     spot_in(&ROWS, index, subindex)
 }
 
-// The entry of a line with that place.
-fn entry_in(line: u32, place: u16) -> Entry
-    ensures { λ r. ⌜ r ≡ entryIn line place ⌝ }
-{
-    let index = (line / KEY / 0x100 % 0x1_0000) as u16;
-    let size = (line % 8) as u8;
-    let range = line / RANGE % 4;
-    Entry {
-        place,
-        size,
-        access: access_in(line / ACCESS % 4),
-        least: least_in(range),
-        greatest: greatest_in(range, size),
-        role: role_in(room_of(index), index, (line / KEY % 0x100) as u8),
+impl Spot {
+    // The size of the row's value: all that an upload needs beside the place.
+    pub fn size(self) -> u8
+        ensures { λ r. ⌜ r ≡ entryAt self .size ⌝ }
+    {
+        (self.line % SIGN) as u8
+    }
+
+    // The row's entry.
+    pub fn entry(self) -> Entry
+        ensures { λ r. ⌜ r ≡ entryAt self ⌝ }
+    {
+        let line = self.line;
+        let index = (line / KEY / SUBINDEXES % INDEXES) as u16;
+        let size = (line % SIGN) as u8;
+        let range = line / RANGE % CODES;
+        Entry {
+            place: self.place,
+            size,
+            access: access_in(line / ACCESS % CODES),
+            least: least_in(range),
+            greatest: greatest_in(range, size),
+            role: role_in(room_of(index), index, (line / KEY % SUBINDEXES) as u8),
+        }
     }
 }
 
-// The entry of an index and subindex; without one, whether the object is there.
+// The row of an index and subindex; without one, whether the object is there.
 pub fn find(index: u16, subindex: u8) -> Found
     ensures { λ r. ⌜ IsFound index subindex r ⌝ }
 {
     let spot = spot_of(index, subindex);
     let place = spot % LINE;
     if place < NO_OBJECT {
-        return Found::Entry(entry_in((spot / LINE % 0x1_0000_0000) as u32, place as u16));
+        return Found::Row(Spot {
+            line: (spot / LINE % 0x1_0000_0000) as u32,
+            place: place as u16,
+        });
     }
     if place == NO_OBJECT {
         return Found::NoObject;
@@ -434,7 +456,7 @@ pub fn find(index: u16, subindex: u8) -> Found
     Found::NoSubindex
 }
 
-// The same without the entry.
+// The same without the row.
 pub fn seek(index: u16, subindex: u8) -> Presence
     ensures { λ r. ⌜ r ≡ presenceOf (lookup index subindex) ⌝ }
 {

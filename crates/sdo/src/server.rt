@@ -29,11 +29,11 @@ fn to_object(writing: bool, request: [u8; 8], parts: Parts, d: &mut [u8], output
 {
     let found = find(read2(&request, INDEX_PLACE), request[SUBINDEX_PLACE]);
     match found {
-        Found::Entry(e) => {
+        Found::Row(row) => {
             if writing {
-                return download(request, e, parts, d, output);
+                return download(request, row.entry(), parts, d, output);
             }
-            upload(request, e, parts, d, output)
+            upload(request, row, parts, d, output)
         }
         Found::NoObject => answer(ABORTED, NO_OBJECT, request, parts, output),
         Found::NoSubindex => answer(ABORTED, NO_SUBINDEX, request, parts, output),

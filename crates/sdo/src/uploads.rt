@@ -1,13 +1,13 @@
-// Uploads: the value of an entry.
+// Uploads: the value of a row.
 ghost use mathlib.Core.Path.{_≡_};
 ghost use mathlib.Core.Bool.{false};
 ghost use Rattle.rules_services.specs.Sdo.{askedIndex, askedSubindex};
-ghost use Rattle.dictionary.specs.Entries.{Stands};
+ghost use Rattle.dictionary.specs.Entries.{entryAt, Stands};
 ghost use Rattle.output.specs.Leaves.{LeavesBy};
 ghost use Rattle.sdo.specs.Requests.{objectAsked, uploadedBy};
 ghost use Rattle.sdo.specs.Serving.{Servable};
 use crate::replies::answer;
-use dictionary::Entry;
+use dictionary::Spot;
 use dictionary::read;
 use output::Done;
 use output::Parts;
@@ -23,12 +23,12 @@ fn uploaded(size: u8) -> u8
     }
 }
 
-// An upload of an entry.
-pub fn upload(request: [u8; 8], e: Entry, parts: Parts, d: &[u8], output: &mut [u8]) -> Done
-    requires { ⌜ Servable (parts .node) (now d) (now output) × Stands (askedIndex request) (askedSubindex request) e ⌝ }
+// An upload of a row.
+pub fn upload(request: [u8; 8], row: Spot, parts: Parts, d: &[u8], output: &mut [u8]) -> Done
+    requires { ⌜ Servable (parts .node) (now d) (now output) × Stands (askedIndex request) (askedSubindex request) (entryAt row) ⌝ }
     ensures { λ r. ⌜ LeavesBy parts (objectAsked false request) (now (d .entry)) (now (output .entry)) r (now (d .entry)) (now (output .exit)) ⌝ }
 {
-    let size = e.size;
-    let v = read(d, e.place as usize, size);
+    let size = row.size();
+    let v = read(d, row.place as usize, size);
     answer(uploaded(size), v, request, parts, output)
 }

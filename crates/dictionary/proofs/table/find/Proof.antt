@@ -7,7 +7,7 @@ use Rattle.dictionary.proofs.table.find.Tie as tie
 
 pub find-spec : {M : Type 1} → statement M
 find-spec =
-    tie.close (tie.spec (λ c κs. search needs) (λ c. search needs) (λ c. search needs) (λ c κs. search needs)
-    (λ c. rw (c .entry-in .ensures) (tells-entry _ _ _ (c .before .before .spot-of .ensures) (c .before .if1 .taken)))
+    tie.close (tie.spec (λ c κs. search needs) (λ c. search needs) (λ c. search needs)
+    (λ c. tells-entry _ _ _ (c .before .spot-of .ensures) (c .if1 .taken))
     (λ c. tells-no-object _ _ _ (c .before .before .spot-of .ensures) (c .if2 .taken))
     (λ c. tells-no-subindex _ _ _ (c .before .before .spot-of .ensures) (λ h. absurd (omega (arith, h, c .before .if1 .left))) (c .if2 .left)))

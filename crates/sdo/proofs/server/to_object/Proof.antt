@@ -17,10 +17,12 @@ pub to-object-spec : {M : Type 1} → statement M
 unfolding toObject abort
 to-object-spec =
     tie.close (tie.spec (λ c. search needs) (λ c κs. search needs) (λ c. search needs) (λ c κs. search needs) (λ c. search needs)
-    (λ c κs. let g = c .before .before .before .before in let f = g .before .before in let s = f .before .before .before .before .before in
-    (s .pre, found (s .args .t2) (f .before .read2 .ensures) (f .find .ensures) (g .found .given .1)))
+    (λ c κs. search needs)
+    (λ c κs. let x = c .before .before in let g = x .before .before .before in let f = g .before .before in
+    let s = f .before .before .before .before .before in
+    (s .pre, rw (x .entry .ensures) (found (s .args .t2) (f .before .read2 .ensures) (f .find .ensures) (g .found .given .1))))
     (λ c. search needs) (λ c. search needs)
-    (λ c. let k = c .before .before .before .before in rw (k .before .before .before .if1 .taken) (k .download .ensures))
+    (λ c. let k = c .before .before .before .before in rw (k .before .before .before .before .if1 .taken) (k .download .ensures))
     (λ c κs. let g = c .before .before .before .before in let f = g .before .before in let s = f .before .before .before .before .before in
     (s .pre, found (s .args .t2) (f .before .read2 .ensures) (f .find .ensures) (g .found .given .1)))
     (λ c. search needs) (λ c κs. search needs) (λ c. search needs) (λ c κs. search needs) (λ c. search needs) (λ c. search needs)

@@ -1,12 +1,12 @@
 -- Field by field. Assumes nothing.
 use borrow.Author.Needs.{needs}
 use Rattle.dictionary.specs.Lines.{entryIn}
-use Rattle.dictionary.proofs.table.entry_in.Statement.{statement}
-use Rattle.dictionary.proofs.table.entry_in.Tie as tie
+use Rattle.dictionary.proofs.Spot.entry.Statement.{statement}
+use Rattle.dictionary.proofs.Spot.entry.Tie as tie
 
-pub entry-in-spec : {M : Type 1} → statement M
+pub entry-spec : {M : Type 1} → statement M
 unfolding entryIn
-entry-in-spec =
+entry-spec =
     tie.close (tie.spec (λ c. search needs) (λ c. search needs) (λ c κs. search needs) (λ c κs. search needs) (λ c κs. search needs)
     (λ c κs. search needs) (λ c. search needs) (λ c κs. search needs)
     (λ c.
