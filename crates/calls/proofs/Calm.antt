@@ -2,7 +2,7 @@
 -- Assumes nothing.
 use Prim.Native.Nat.{ℕ, zero, suc, _+_}
 use native.Mathlib.Omega.{arith}
-use mathlib.Core.Path.{_≡_, refl, sym, _∙_, ap}
+use mathlib.Core.Path.{_≡_, refl, sym, _∙_}
 use mathlib.Core.Bool.{Bool, true, false, cond, not, _&&_, _||_, and-not-self, and-false, or-false, false≢true, true≢false}
 use mathlib.Core.List.{List, [], _∷_, map}
 use borrow.Author.Tests.{eqb-true, ne-eqb}
@@ -13,7 +13,8 @@ use Rattle.rules_dictionary.specs.Numbers.{areBytes}
 use Rattle.rules_dictionary.specs.Table.{dictionaryLength, eachWay, receivePdos, transmitPdos, statusWord, modeDisplay, mode}
 use Rattle.rules_dictionary.specs.Values.{read}
 use Rattle.rules_dictionary.specs.Legal.{isCyclic, modeNumber}
-use Rattle.rules_dictionary.specs.Plans.{readyOf}
+use Rattle.rules_dictionary.specs.declared.Plan.{Plan}
+use Rattle.rules_dictionary.specs.Plans.{plansOf, readyOf}
 use Rattle.rules_dictionary.proofs.Tests.{and-left, and-right}
 use Rattle.state.specs.declared.NmtState.{NmtState}
 use Rattle.state.specs.declared.State.{State}
@@ -23,10 +24,10 @@ use Rattle.state.specs.NmtStates.{isOperational}
 use Rattle.state.specs.Occasions.{isSynced}
 use Rattle.rules_services.specs.declared.Paced.{Paced}
 use Rattle.rules_services.specs.PdoTraffic.{paced, paceOf, cyclic, acyclic, eventDriven, works, typeOf, noData, idle}
-use Rattle.rules.specs.Outcome.{statusOf, transmissions, transmitters}
+use Rattle.rules_services.specs.Effects.{Frame}
+use Rattle.rules.specs.Outcome.{End, statusOf, transmissions, transmitters}
 use Rattle.rules.specs.Sound.{sound, statusAsMade, modeAsMade, waitingSound, countSound, dueSound, paceSound, heldSound, pairwise}
 use Rattle.theorems.proofs.Lawful.{clauses, data-refl}
-use Rattle.output.specs.declared.Parts.{Parts}
 use Rattle.tpdo.specs.Sending.{turn}
 use Rattle.calls.specs.Ending.{settledBy, turnsOf, endWith, endOf}
 use Rattle.calls.proofs.StatusMade.{both-stand}
@@ -84,34 +85,52 @@ at-each f (a ∷ b ∷ c ∷ e ∷ x ∷ ks) p turns h d ready =
 
 -- ---- the end of such a call
 
-module _ (s : State) (parts : Parts) (occasion : Occasion) (d : List ℕ) (long : length d ≡ dictionaryLength) (bytes : areBytes d ≡ true)
-    (good : sound s d ≡ true) (nmt : parts .node .nmt ≡ s .node .nmt) (voltage : parts .node .voltage ≡ s .node .voltage)
-    (drive : parts .drive ≡ s .axis .drive) (ready : s .axis .ready ≡ readyOf d) (off : isSynced occasion ≡ false) where
+-- an end that leaves that state
+as-end : (t : State) (d : List ℕ) {plans : List Plan} {ready : List PdoData} {paces : List Pace} {sent : List Frame} →
+    plans ≡ t .axis .plans → ready ≡ t .axis .ready → paces ≡ t .axis .paces → sent ≡ [] →
+    _≡_ {A = End}
+    (record {
+      state = record {
+        node = t .node;
+        axis = record { drive = t .axis .drive; plans = plans; ready = ready; held = t .axis .held; paces = paces };
+      };
+      dictionary = d;
+      sent = sent;
+    })
+    (record { state = t; dictionary = d; sent = [] })
+as-end t d p r k f = rw (p, r, k, f)
+
+module _ (s t : State) (occasion : Occasion) (d : List ℕ) (long : length d ≡ dictionaryLength) (bytes : areBytes d ≡ true)
+    (good : sound s d ≡ true) (nmt : t .node .nmt ≡ s .node .nmt) (voltage : t .node .voltage ≡ s .node .voltage)
+    (drive : t .axis .drive ≡ s .axis .drive) (plans : t .axis .plans ≡ plansOf d) (ready : t .axis .ready ≡ readyOf d)
+    (paces : t .axis .paces ≡ s .axis .paces) (off : isSynced occasion ≡ false) where
   -- 6041h and 6061h made again are those that stand there
-  made-still : settledBy (parts .node) (parts .drive) d ≡ d
+  made-still : settledBy (t .node) (t .axis .drive) d ≡ d
   unfolding statusAsMade modeAsMade statusOf
   made-still =
       let c = clauses s d good in
       let asked = eqb (read d modeDisplay) (read d mode) in
       let shown : read d modeDisplay ≡ modeNumber (s .axis .drive .mode) =
       eqb-true _ _ (and-left asked _ (c .mode)) ∙ eqb-true _ _ (and-right asked _ (c .mode)) in
-      sym (both-stand (parts .node) (parts .drive) d (read d statusWord) (read d modeDisplay)
+      sym (both-stand (t .node) (t .axis .drive) d (read d statusWord) (read d modeDisplay)
       (eqb-true _ _ (c .status) ∙ rw (nmt, voltage, drive)) (shown ∙ rw drive) bytes long refl refl)
 
-  turn-still : (t : ℕ) → paceSound (s .node .nmt) d (eachWay + t) (getD (s .axis .paces) t idle) ≡ true →
-      turnsOf s parts occasion d t ≡ record { send = false; kept = getD (s .axis .paces) t idle }
+  abbrev was : Bool
+  was = isOperational (s .node .nmt)
+
+  turn-still : (k : ℕ) → paceSound (s .node .nmt) d (eachWay + k) (getD (s .axis .paces) k idle) ≡ true →
+      turnsOf was t occasion d k ≡ record { send = false; kept = getD (s .axis .paces) k idle }
   unfolding turn
-  turn-still t h =
-      rw (nmt, ready, data-refl (getD (readyOf d) t noData), and-not-self (isOperational (s .node .nmt)))
-      (idles (s .node .nmt) d (eachWay + t) (getD (s .axis .paces) t idle) occasion off h)
+  turn-still k h =
+      rw (nmt, ready, paces, data-refl (getD (readyOf d) k noData), and-not-self (isOperational (s .node .nmt)))
+      (idles (s .node .nmt) d (eachWay + k) (getD (s .axis .paces) k idle) occasion off h)
 
   -- THE LAW
-  pub end-still : let f = endOf s parts occasion d in
-      (f .dictionary ≡ d) × ((f .sent ≡ []) × ((f .state .axis .ready ≡ s .axis .ready) × (f .state .axis .paces ≡ s .axis .paces)))
+  pub end-still : endOf was t occasion d ≡ record { state = t; dictionary = d; sent = [] }
   unfolding endWith waitingSound
   end-still =
       let m = s .node .nmt in
       let w = and-left (pairwise (paceSound m d) transmitPdos (s .axis .paces)) (pairwise (heldSound m d) receivePdos (s .axis .held))
       (clauses s d good .waiting) in
-      let each = at-each (paceSound m d) (s .axis .paces) w (turnsOf s parts occasion d) turn-still d (readyOf d) in
-      rw made-still (refl, (each .0, (sym ready, each .1)))
+      let each = at-each (paceSound m d) (s .axis .paces) w (turnsOf was t occasion d) turn-still d (readyOf d) in
+      rw made-still (as-end t d (sym plans) (sym ready) (each .1 ∙ sym paces) (each .0))

@@ -6,7 +6,7 @@ pub mod Regular
 pub mod Stays
 pub mod Concluding
 pub mod Anew
-pub mod Briefly
+pub mod Answered
 pub mod Refusals
 pub mod Serving
 pub mod Telling

@@ -2,10 +2,10 @@
 -- Assumes nothing.
 use Prim.Native.Nat.{ℕ, zero, suc, _+_, _<_, _≤_}
 use native.Mathlib.Omega.{arith}
-use mathlib.Core.Path.{_≡_, refl, sym, _∙_, ap, subst}
+use mathlib.Core.Path.{_≡_, refl, sym, _∙_, subst}
 use mathlib.Core.Bool.{true, not, _&&_}
 use mathlib.Core.List.{List}
-use borrow.Author.Tests.{ltb-false}
+use borrow.Author.Tests.{ltb-false, not-true}
 use lib.ListN.{length, getD}
 use Rattle.rules_dictionary.specs.declared.PdoData.{PdoData}
 use Rattle.rules_dictionary.specs.Members.{In}
@@ -17,7 +17,6 @@ use Rattle.rules_dictionary.specs.Plans.{mapped, planFor, readyFor, readyOf}
 use Rattle.rules_dictionary.proofs.Tests.{and-left, and-right, and-both}
 use Rattle.rules_dictionary.proofs.Members.{all-of, count-in, pdo-in}
 use Rattle.rules.specs.Sound.{mappingLegal, inRange}
-use Rattle.theorems.proofs.Booleans.{not-false}
 use Rattle.theorems.proofs.Dictionary.{DictionaryOk, entries-good}
 use Rattle.mapping.specs.Afresh.{GivesPlans}
 use Rattle.mapping.specs.Moves.{readyBy}
@@ -39,7 +38,7 @@ module _ {n : ℕ} {d : List ℕ} (ok : DictionaryOk n d) {p : ℕ} (i : In p pd
       let v = read d (mapCount p) in
       let r = and-left (not (isBelow (mapCount p) v) && not (isAbove (mapCount p) v)) (not (badChoice (mapCount p .role) v))
       (ok .ranged (mapCount p) (count-in i)) in
-      ltb-false mostMoves v (not-false _ (and-right (not (isBelow (mapCount p) v)) _ r))
+      ltb-false mostMoves v (not-true _ (and-right (not (isBelow (mapCount p) v)) _ r))
 
 pub plannable : {n : ℕ} {d : List ℕ} → length d ≡ dictionaryLength → DictionaryOk n d → GivesPlans d
 plannable l ok = (l, λ p h. (few ok (pdo-in p h), legal ok (pdo-in p h)))

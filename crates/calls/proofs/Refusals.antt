@@ -24,13 +24,12 @@ use Rattle.rules.specs.Calls.{Call, powerUpCall, frameCall, eventCall, Decision
 use Rattle.rules.specs.Calls.{answered, answer, outputLength, lastFrameIdentifier}
 use Rattle.theorems.proofs.Runs.{passed}
 use Rattle.theorems.proofs.Booleans.{clash}
-use Rattle.calls.specs.declared.Opening.{Opening}
 use Rattle.form.specs.Form.{stateLength, stateOf, form, isForm}
 use Rattle.form.specs.Typed.{Typed}
 use Rattle.form.proofs.Rows.{length-form}
 use Rattle.form.proofs.OneForm.{stateOf-form, isForm-form}
 use Rattle.calls.specs.Opening.{refusedFor, notRefused, lending, thenBy, opening, holdsSound, openingOf}
-use Rattle.calls.specs.Briefs.{outcome, refusedAnswer}
+use Rattle.calls.specs.Answers.{outcome, refusedAnswer}
 use Rattle.calls.specs.Ending.{Stands}
 
 -- ---- a decision, where its test is known

@@ -2,24 +2,21 @@
 -- in Operational the paces of the call's start.
 -- Assumes nothing.
 use Prim.Native.Nat.{ℕ}
-use mathlib.Core.Path.{_≡_, refl, sym, _∙_, ap}
+use mathlib.Core.Path.{_≡_, refl, _∙_}
 use mathlib.Core.Logic.{_⊎_, inl, inr}
-use mathlib.Core.Bool.{Bool, true, false, cond, _||_, false≢true}
+use mathlib.Core.Bool.{Bool, true, false, cond, false≢true}
 use mathlib.Core.List.{List, [], _∷_, _++_, append-nil}
-use Rattle.rules_dictionary.specs.Numbers.{any, filter}
+use Rattle.rules_dictionary.specs.Numbers.{filter}
 use Rattle.rules_dictionary.specs.Members.{In, here, there}
-use Rattle.rules_dictionary.specs.declared.Role.{Role}
-use Rattle.rules_dictionary.specs.declared.Role.the-variants.{Plain, ModeOfOperation, PdoIdentifier, PdoType, MappingCount, MappingEntry}
 use Rattle.rules_dictionary.specs.Table.{Row, table, controlWord, mode, heartbeatTime, errorRegister, isReset}
-use Rattle.rules_dictionary.specs.Values.{Write, write, read, stored, toDefaults}
+use Rattle.rules_dictionary.specs.Values.{Write, write, read, stored}
 use Rattle.rules_dictionary.proofs.Tests.{none-in}
-use Rattle.drive.specs.declared.Controlled.{Controlled}
 use Rattle.drive.specs.SetPoints.{modeWritten, controlWritten}
 use Rattle.state.specs.declared.State.{State}
 use Rattle.state.specs.NmtStates.{isOperational}
-use Rattle.rules_services.specs.Effects.{Effect, becomes, andThen, withDrive, withHeartbeat, withHeld}
+use Rattle.rules_services.specs.Effects.{Effect, andThen, withDrive, withHeartbeat, withHeld}
 use Rattle.rules_services.specs.Written.{wrote, countRestarted, modeActed, faultReset, controlActed, applied}
-use Rattle.rules_services.specs.Nmt.{left, voltageDisabled, freshState, powerUp, commanded, resetCommunication}
+use Rattle.rules_services.specs.Nmt.{left, voltageDisabled, freshState, powerUp, commanded}
 use Rattle.rules_services.specs.Events.{faulted}
 use Rattle.theorems.proofs.Dictionary.{isPdo}
 use Rattle.theorems.proofs.Booleans.{clash, whichever}
@@ -29,7 +26,8 @@ use Rattle.theorems.proofs.Services.{Serves, Releases}
 use Rattle.rules_dictionary.proofs.Members.{in-append, filtered}
 use Rattle.theorems.proofs.Writes.{InTable, NoPdo, MayApply, defaults-within, one-row}
 use Rattle.theorems.proofs.NmtKept.{position-row, velocity-row, code-row}
-use Rattle.output.specs.Leaves.{isMapping, remaps}
+use Rattle.output.specs.Leaves.{remaps}
+use Rattle.rpdo.proofs.Applied.{no-mapping}
 
 pub record Regular (s : State) (e : Effect) : Type 0 where
   pub rows : InTable (e .writes)
@@ -47,20 +45,6 @@ unwritten s e none paces =
 outside : (s : State) (e : Effect) → InTable (e .writes) → isOperational (e .state .node .nmt) ≡ false → Regular s e
 outside s e rows off = record { rows = rows; paces = λ on. clash (isOperational (e .state .node .nmt)) on off; idle = λ h. off }
 
--- ---- rows that are of no PDO
-
-no-mapping : (r : Role) → isPdo r ≡ false → isMapping r ≡ false
-no-mapping Plain h = refl
-no-mapping ModeOfOperation h = refl
-no-mapping (PdoIdentifier p) h = refl
-no-mapping (PdoType p) h = refl
-no-mapping (MappingCount p) h = h
-no-mapping (MappingEntry p) h = h
-
-no-remap : (ws : List Write) → NoPdo ws → remaps ws ≡ false
-no-remap [] h = refl
-no-remap (w ∷ ws) h = rw (no-mapping (w .row .role) (h w here), no-remap ws (λ v i. h v (there i)))
-
 -- ---- values stored and acted on
 
 -- what a service that writes values leaves: the NMT state and the paces; its rows; and of a PDO's it writes none in Operational
@@ -75,7 +59,7 @@ applies-regular {s} {e} a =
     record {
       rows = a .rows;
       paces = λ on. a .paces;
-      idle = λ h. elim (a .quiet) [ inl off ↦ rw (a .nmt) off | inr none ↦ clash (remaps (e .writes)) h (no-remap (e .writes) none) ];
+      idle = λ h. elim (a .quiet) [ inl off ↦ rw (a .nmt) off | inr none ↦ clash (remaps (e .writes)) h (no-mapping (e .writes) none) ];
     }
 
 -- the state that the control word finds

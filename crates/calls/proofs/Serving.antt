@@ -1,8 +1,8 @@
 -- A frame, by its identifier: what each service needs of a sound state, and which effect it serves.
 -- Assumes nothing.
-use Prim.Native.Nat.{ℕ, _+_, _≤_}
+use Prim.Native.Nat.{ℕ, _+_}
 use native.Mathlib.Omega.{arith}
-use mathlib.Core.Path.{_≡_, refl, sym, _∙_, ap}
+use mathlib.Core.Path.{_≡_, sym, _∙_, ap}
 use mathlib.Core.Bool.{Bool, true, false, cond, and-false}
 use mathlib.Core.List.{List, []}
 use borrow.Author.Tests.{leb-true, eq-eqb, ne-eqb}
@@ -10,7 +10,7 @@ use lib.Dec.{eqb, leb}
 use lib.ListN.{length}
 use lib.Seq.{take-all}
 use Rattle.rules_dictionary.specs.declared.PdoData.{PdoData}
-use Rattle.rules_dictionary.specs.TheNode.{firstNode, lastNode}
+use Rattle.rules_dictionary.specs.TheNode.{firstNode}
 use Rattle.rules_dictionary.specs.Table.{receivePdos}
 use Rattle.rules_dictionary.proofs.Tests.{and-left, and-right}
 use Rattle.state.specs.declared.State.{State}
@@ -19,61 +19,47 @@ use Rattle.rules_services.specs.Effects.{Effect, becomes}
 use Rattle.rules_services.specs.Sdo.{sdo, requestBase, requestLength}
 use Rattle.rules_services.specs.PdoTraffic.{sync, syncBase, receivedBy}
 use Rattle.rules_services.specs.Nmt.{nmt, nmtIdentifier}
-use Rattle.rules.specs.Outcome.{mostData}
-use Rattle.rules.specs.Calls.{framed}
+use Rattle.rules.specs.Outcome.{mostData, frameSize}
+use Rattle.rules.specs.Calls.{framed, outputLength}
 use Rattle.theorems.proofs.Lawful.{Lawful, clauses, sound-lawful}
 use Rattle.rules_dictionary.proofs.Padded.{length-padded}
 use Rattle.soundness.proofs.Fresh.{plans-are}
 use Rattle.form.specs.Form.{stateOf}
-use Rattle.output.specs.declared.Parts.{Parts}
+use Rattle.form.specs.Holding.{Holds}
 use Rattle.output.specs.declared.Done.{Done}
 use Rattle.output.specs.Laying.{OnBus, dataOf}
 use Rattle.output.proofs.Frames.{length-data}
-use Rattle.output.proofs.Left.{as-effect, left-as, calm-said}
-use Rattle.output.specs.Leaves.{partsOf, became, Leaves, Rests}
-use Rattle.sdo.specs.Serving.{Servable}
-use Rattle.nmt.specs.Commanding.{MayReset}
+use Rattle.output.proofs.Left.{lent, left-as, calm-said}
+use Rattle.output.specs.Leaves.{Lent, nothingDone, Leaves, Rests}
+use Rattle.nmt.specs.Commanding.{Commandable}
 use Rattle.rpdo.specs.Kept.{Kept}
 use Rattle.rpdo.specs.Traffic.{syncOf}
 use Rattle.rpdo.proofs.Callable.{lawful-kept, sync-by-length}
-use Rattle.calls.specs.Frames.{Starts, requested, serviced, ServedBy}
+use Rattle.calls.specs.Frames.{Starts, requested, serviced}
 
 -- ---- of a sound state and dictionary
 
-module _ {parts : Parts} {bs d o : List ℕ} (h : Starts parts bs d o) where
+module _ {bs d o : List ℕ} (h : Starts bs d o) where
   law : Lawful (stateOf bs) d
   law = sound-lawful (stateOf bs) d (h .stands .long) (h .stands .sound)
 
-  -- the rules' state in the words of its parts
-  pub nmt-own : parts .node .nmt ≡ stateOf bs .node .nmt
-  nmt-own = ap (λ (p : Parts). p .node .nmt) (h .own)
+  pub lent-all : Lent outputLength bs d o
+  lent-all = lent (h .own) (h .stands .long) (h .stands .room) (leb-true _ _ (and-right (leb firstNode (stateOf bs .node .id)) _ (law .id)))
 
-  pub id-own : parts .node .id ≡ stateOf bs .node .id
-  id-own = ap (λ (p : Parts). p .node .id) (h .own)
+  pub lent-frame : Lent frameSize bs d o
+  lent-frame = lent (h .own) (h .stands .long) (omega (arith, h .stands .room)) (lent-all .id)
 
-  pub last-node : parts .node .id ≤ lastNode
-  last-node = rw (h .own) (leb-true _ _ (and-right (leb firstNode (stateOf bs .node .id)) _ (law .id)))
+  pub commandable : Commandable bs d o
+  commandable =
+      record { lent = lent-frame; first = leb-true _ _ (and-left (leb firstNode (stateOf bs .node .id)) _ (law .id)) }
 
-  pub servable : Servable (parts .node) d o
-  servable = record { long = h .stands .long; room = h .stands .room; id = last-node }
-
-  pub may-reset : MayReset (parts .node .id) d o
-  may-reset =
-      record {
-        long = h .stands .long;
-        room = omega (arith, h .stands .room);
-        first = rw (h .own) (leb-true _ _ (and-left (leb firstNode (stateOf bs .node .id)) _ (law .id)));
-        last = last-node;
-      }
-
-  pub kept : Kept parts bs d o
-  kept =
-      rw (h .own) (lawful-kept (h .bytes) law (plans-are (stateOf bs) d (clauses (stateOf bs) d (h .stands .sound) .plans)) (h .stands .room))
+  pub kept : Kept bs d o
+  kept = lawful-kept (h .own) law (plans-are (stateOf bs) d (clauses (stateOf bs) d (h .stands .sound) .plans)) (h .stands .room)
 
 -- ---- another name for the effect
 
-pub as-served : {s : State} {e e′ : Effect} {d o : List ℕ} {r : Done} {d′ o′ : List ℕ} → e′ ≡ e → ServedBy s e d o r d′ o′ →
-    ServedBy s e′ d o r d′ o′
+pub as-served : {s : State} {e e′ : Effect} {d o : List ℕ} {r : Done} {bs′ d′ o′ : List ℕ} → e′ ≡ e →
+    Leaves s e d o r bs′ d′ o′ × Rests s e r → Leaves s e′ d o r bs′ d′ o′ × Rests s e′ r
 as-served is h = rw is h
 
 module _ (bs : List ℕ) (s : State) (d : List ℕ) where
@@ -123,5 +109,7 @@ module _ (content : PdoData) (c : OnBus content) (s : State) (d : List ℕ) wher
       let other : eqb (length (dataOf content)) requestLength ≡ false = ne-eqb _ _ (λ e. n (sym (length-data content (c .shape)) ∙ e)) in
       rw other
 
-pub idle-served : {s : State} {e : Effect} {d o : List ℕ} {r : Done} → e ≡ becomes s → r ≡ became (partsOf s) true → ServedBy s e d o r d o
-idle-served {s} {e} {d} {o} {r} is e′ = rw (is, e′) (left-as s (partsOf s) true d o refl, λ q. calm-said s [])
+-- a frame that is not served
+pub idle-served : {s : State} {e : Effect} {bs d o : List ℕ} {r : Done} → Holds bs s → e ≡ becomes s → r ≡ nothingDone true →
+    Leaves s e d o r bs d o × Rests s e r
+idle-served {s} {e} {bs} {d} {o} own is q = rw (is, q) (left-as s s true d o own, λ _. calm-said s [])

@@ -2,18 +2,17 @@
 -- Assumes nothing.
 use Prim.Native.Nat.{ℕ}
 use native.Mathlib.Omega.{arith}
-use mathlib.Core.Path.{_≡_, refl, sym, _∙_, ap, ap₂}
+use mathlib.Core.Path.{_≡_, refl, sym, _∙_, ap}
 use mathlib.Core.Bool.{true}
 use mathlib.Core.List.{List}
 use lib.ListN.{length}
 use Rattle.drive.specs.declared.Drive.{Drive}
 use Rattle.state.specs.declared.Node.{Node}
-use Rattle.rules_dictionary.specs.Numbers.{areBytes, all}
+use Rattle.rules_dictionary.specs.Numbers.{areBytes}
 use Rattle.rules_dictionary.specs.Members.{In}
-use Rattle.rules_dictionary.specs.Table.{Row, table, dictionaryLength, statusWord, modeDisplay, pdos, mapCount}
+use Rattle.rules_dictionary.specs.Table.{Row, table, dictionaryLength, statusWord, modeDisplay, pdos}
 use Rattle.rules_dictionary.specs.Values.{read, store}
-use Rattle.rules_dictionary.specs.Aborts.{isGood}
-use Rattle.rules_dictionary.specs.Legal.{modeNumber, entryVerdict, countVerdict}
+use Rattle.rules_dictionary.specs.Legal.{modeNumber}
 use Rattle.rules_dictionary.specs.Plans.{mapped, planFor, plansOf}
 use Rattle.rules_dictionary.proofs.Packing.{within}
 use Rattle.rules_dictionary.proofs.Members.{pdo-in}
@@ -23,8 +22,7 @@ use Rattle.theorems.proofs.Dictionary.{isPdo, mapped-alike, words-alike, count-
 use Rattle.theorems.proofs.Demands.{store-self}
 use Rattle.theorems.proofs.Settled.{status-in, display-in, settled-length, settled-pdo}
 use Rattle.mapping.specs.Afresh.{GivesPlans}
-use Rattle.output.specs.declared.Parts.{Parts}
-use Rattle.output.specs.Leaves.{bare}
+use Rattle.state.specs.declared.State.{State}
 use Rattle.calls.specs.Ending.{statusBy, settledBy}
 
 module _ (node : Node) (drive : Drive) (d : List ℕ) (word shown : ℕ) (w : word ≡ statusBy node drive d) (m : shown ≡ modeNumber (drive .mode)) where
@@ -65,12 +63,12 @@ module _ (d d′ : List ℕ) (alike : AlikeInPdos d d′) where
 
 -- ---- 6041h and 6061h are no rows of a PDO
 
-settled-by : (p : Parts) (d : List ℕ) → settled (bare p) d ≡ settledBy (p .node) (p .drive) d
+settled-by : (t : State) (d : List ℕ) → settled t d ≡ settledBy (t .node) (t .axis .drive) d
 unfolding settled statusOf settledBy
-settled-by p d = refl
+settled-by t d = refl
 
-pub made-long : (p : Parts) (d : List ℕ) → length (settledBy (p .node) (p .drive) d) ≡ length d
-made-long p d = rw (← settled-by) (settled-length (bare p) d)
+pub made-long : (t : State) (d : List ℕ) → length (settledBy (t .node) (t .axis .drive) d) ≡ length d
+made-long t d = rw (← settled-by) (settled-length t d)
 
-pub made-alike : (p : Parts) (d : List ℕ) → AlikeInPdos d (settledBy (p .node) (p .drive) d)
-made-alike p d y i h = rw (← settled-by) (settled-pdo (bare p) d y i h)
+pub made-alike : (t : State) (d : List ℕ) → AlikeInPdos d (settledBy (t .node) (t .axis .drive) d)
+made-alike t d y i h = rw (← settled-by) (settled-pdo t d y i h)

@@ -4,10 +4,10 @@ use Prim.Native.Nat.{ℕ}
 use mathlib.Core.Path.{_≡_, refl, sym, _∙_, ap, ap₂}
 use mathlib.Core.Logic.{_⊎_, inl, inr}
 use mathlib.Core.Bool.{Bool, true, false}
-use mathlib.Core.List.{List, [], _∷_, _++_}
+use mathlib.Core.List.{List}
 use lib.ListN.{take}
 use Rattle.rules_dictionary.specs.Numbers.{any, value}
-use Rattle.rules_dictionary.specs.Members.{In, here, there}
+use Rattle.rules_dictionary.specs.Members.{In}
 use Rattle.rules_dictionary.specs.Table.{Row, table, transmit, receivePdos, transmitPdos, pdos, mapCount, mapEntry, mapSlots, directionOf}
 use Rattle.rules_dictionary.specs.Values.{Write, read, field, stored}
 use Rattle.rules_dictionary.specs.Legal.{suits, mapWords}
@@ -16,16 +16,12 @@ use Rattle.rules_dictionary.proofs.Tests.{each-in}
 use Rattle.rules_dictionary.proofs.Members.{all-of, in-right, words-read, count-in, entry-in}
 use Rattle.rules_dictionary.proofs.Packing.{apart, same-or-apart}
 use Rattle.rules_dictionary.proofs.Rows.{field-stored}
+use Rattle.rules_dictionary.proofs.Plans.{joined-same}
 use Rattle.theorems.proofs.Dictionary.{mapped-in, DictionaryOk, map-same}
 use Rattle.theorems.proofs.Booleans.{clash, any-false-in}
 use Rattle.theorems.proofs.PdoKept.{mapped-way}
 use Rattle.theorems.proofs.Writes.{InTable}
 use Rattle.output.specs.Leaves.{touches, remaps, isMapping}
-
-joined-same : (d d′ : List ℕ) (xs : List Row) → ((x : Row) → In x xs → field d′ x ≡ field d x) → joined d′ xs ≡ joined d xs
-unfolding joined
-joined-same d d′ [] h = refl
-joined-same d d′ (x ∷ xs) h = ap₂ (λ (a b : List ℕ). a ++ b) (h x here) (joined-same d d′ xs (λ y i. h y (there i)))
 
 transmits : {p : ℕ} → In p transmitPdos → directionOf p ≡ transmit
 transmits i = each-in (λ p. directionOf p ≡ transmit) i (refl, (refl, (refl, (refl, tt))))

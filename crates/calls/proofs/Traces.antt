@@ -4,16 +4,12 @@ use Prim.Native.Nat.{ℕ}
 use mathlib.Core.Path.{_≡_, refl, _∙_, ap}
 use mathlib.Core.List.{List, [], _∷_}
 use Rattle.state.specs.declared.Answer.{Answer}
-use Rattle.rules.specs.Calls.{Outcome}
 use Rattle.theorems.specs.Promises.{Step, Stand, left, after}
-use Rattle.calls.specs.Traces.{Allowed, Trace, ends, goes, TracesAreRuns}
-
-standing : Outcome → Stand
-standing x = record { state = x .state; dictionary = x .dictionary }
+use Rattle.theorems.proofs.Runs.{standing}
+use Rattle.calls.specs.Traces.{Allowed, ends, goes, TracesAreRuns}
 
 stand-left : (k : Step) (a : Stand) (r : Answer) (d o : List ℕ) → Allowed k a r d o →
     _≡_ {A = Stand} (record { state = r .state; dictionary = d }) (left k a)
-unfolding standing
 stand-left k a r d o e = ap standing e
 
 pub traces-are-runs : TracesAreRuns

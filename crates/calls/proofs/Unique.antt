@@ -1,5 +1,5 @@
--- Each public call's promise determines everything: any two answers that it allows, with every lent byte, are the same; of a call in brief,
--- the whole answers. It is stated of the contract as Rattle reads it (`Reads`), and not of a copy.
+-- Each public call's promise determines everything: any two answers that it allows, with every lent byte, are the same; so of a call on a state
+-- that stays in its bytes. It is stated of the contract as Rattle reads it (`Reads`), and not of a copy.
 -- Assumes nothing.
 use Prim.Native.Nat.{ℕ}
 use mathlib.Core.Path.{_≡_, sym, _∙_, ap}
@@ -14,7 +14,8 @@ use Rattle.state.specs.declared.Refusal.{Refusal}
 use Rattle.state.specs.declared.Answer.{Answer}
 use Rattle.rules.specs.Calls.{Outcome}
 use Rattle.form.specs.Form.{stateOf}
-use Rattle.calls.specs.Briefs.{outcome, whole}
+use Rattle.calls.specs.declared.Given.{Given}
+use Rattle.calls.specs.Answers.{outcome, Answers}
 use Rattle.calls.proofs.power_up as power-up
 use Rattle.calls.proofs.power_up.Kinds as power-up-kinds
 use Rattle.calls.proofs.power_up.Reads as power-up-reads
@@ -24,15 +25,15 @@ use Rattle.calls.proofs.frame.Reads as frame-reads
 use Rattle.calls.proofs.event as event
 use Rattle.calls.proofs.event.Kinds as event-kinds
 use Rattle.calls.proofs.event.Reads as event-reads
-use Rattle.calls.proofs.brief_power_up as brief-power-up
-use Rattle.calls.proofs.brief_power_up.Kinds as brief-power-up-kinds
-use Rattle.calls.proofs.brief_power_up.Reads as brief-power-up-reads
-use Rattle.calls.proofs.brief_frame as brief-frame
-use Rattle.calls.proofs.brief_frame.Kinds as brief-frame-kinds
-use Rattle.calls.proofs.brief_frame.Reads as brief-frame-reads
-use Rattle.calls.proofs.brief_event as brief-event
-use Rattle.calls.proofs.brief_event.Kinds as brief-event-kinds
-use Rattle.calls.proofs.brief_event.Reads as brief-event-reads
+use Rattle.calls.proofs.power_up_in as power-up-in
+use Rattle.calls.proofs.power_up_in.Kinds as power-up-in-kinds
+use Rattle.calls.proofs.power_up_in.Reads as power-up-in-reads
+use Rattle.calls.proofs.frame_in as frame-in
+use Rattle.calls.proofs.frame_in.Kinds as frame-in-kinds
+use Rattle.calls.proofs.frame_in.Reads as frame-in-reads
+use Rattle.calls.proofs.event_in as event-in
+use Rattle.calls.proofs.event_in.Kinds as event-in-kinds
+use Rattle.calls.proofs.event_in.Reads as event-in-reads
 
 as-answer : {x y : Refusal} {k m : ℕ} {s t : State} → x ≡ y → k ≡ m → s ≡ t →
     _≡_ {A = Answer} (record { refusal = x; frames = k; state = s }) (record { refusal = y; frames = m; state = t })
@@ -64,31 +65,35 @@ module _ (κs : Lfts 3) (a : ArgsD event.signature κs) where
       event-reads.Post κs a r x → event-reads.Post κs a r′ x′ → Same r (now (x .1 .0)) (now (x .1 .1 .0)) r′ (now (x′ .1 .0)) (now (x′ .1 .1 .0))
   event-unique r r′ x x′ p q = same r r′ (now (x .1 .0)) (now (x .1 .1 .0)) (now (x′ .1 .0)) (now (x′ .1 .1 .0)) (p ∙ sym q)
 
--- ---- in brief
+-- ---- on a state that stays in its bytes
 
-module _ (κs : Lfts 2) (a : ArgsD brief-power-up.signature κs) where
-  pub brief-power-up-unique : (s : State) (r r′ : ResD brief-power-up.signature κs)
-      (x x′ : AtExit (endedOf 2 brief-power-up-kinds.ps brief-power-up-kinds.r) κs) →
-      brief-power-up-reads.Post κs a r x → brief-power-up-reads.Post κs a r′ x′ →
-      Same (whole s (now (x .0)) r) (now (x .0)) (now (x .1 .0)) (whole s (now (x′ .0)) r′) (now (x′ .0)) (now (x′ .1 .0))
-  brief-power-up-unique s r r′ x x′ p q =
-      same (whole s (now (x .0)) r) (whole s (now (x′ .0)) r′) (now (x .0)) (now (x .1 .0)) (now (x′ .0)) (now (x′ .1 .0))
-      (p .0 s .0 ∙ sym (q .0 s .0))
+as-given : {x y : Refusal} {k m : ℕ} → x ≡ y → k ≡ m → _≡_ {A = Given} (record { refusal = x; frames = k }) (record { refusal = y; frames = m })
+as-given e f = rw (e, f)
 
-module _ (κs : Lfts 4) (a : ArgsD brief-frame.signature κs) where
-  pub brief-frame-unique : (r r′ : ResD brief-frame.signature κs) (x x′ : AtExit (endedOf 4 brief-frame-kinds.ps brief-frame-kinds.r) κs) →
-      brief-frame-reads.Post κs a r x → brief-frame-reads.Post κs a r′ x′ → let s = stateOf (now (a .0)) in
-      Same (whole s (now (x .1 .0)) r) (now (x .1 .0)) (now (x .1 .1 .0)) (whole s (now (x′ .1 .0)) r′) (now (x′ .1 .0)) (now (x′ .1 .1 .0))
-  brief-frame-unique r r′ x x′ p q =
-      let s = stateOf (now (a .0)) in
-      same (whole s (now (x .1 .0)) r) (whole s (now (x′ .1 .0)) r′) (now (x .1 .0)) (now (x .1 .1 .0)) (now (x′ .1 .0)) (now (x′ .1 .1 .0))
-      (p .0 ∙ sym (q .0))
+-- what is given and all lent bytes, the state's among them, are the same
+abbrev pub SameIn : Given → List ℕ → List ℕ → List ℕ → Given → List ℕ → List ℕ → List ℕ → Type 0
+SameIn r bs d o r′ bs′ d′ o′ = (r ≡ r′) × ((bs ≡ bs′) × ((d ≡ d′) × (o ≡ o′)))
 
-module _ (κs : Lfts 4) (a : ArgsD brief-event.signature κs) where
-  pub brief-event-unique : (r r′ : ResD brief-event.signature κs) (x x′ : AtExit (endedOf 4 brief-event-kinds.ps brief-event-kinds.r) κs) →
-      brief-event-reads.Post κs a r x → brief-event-reads.Post κs a r′ x′ → let s = stateOf (now (a .0)) in
-      Same (whole s (now (x .1 .0)) r) (now (x .1 .0)) (now (x .1 .1 .0)) (whole s (now (x′ .1 .0)) r′) (now (x′ .1 .0)) (now (x′ .1 .1 .0))
-  brief-event-unique r r′ x x′ p q =
-      let s = stateOf (now (a .0)) in
-      same (whole s (now (x .1 .0)) r) (whole s (now (x′ .1 .0)) r′) (now (x .1 .0)) (now (x .1 .1 .0)) (now (x′ .1 .0)) (now (x′ .1 .1 .0))
-      (p .0 ∙ sym (q .0))
+same-in : (x : Outcome) {r r′ : Given} {bs d o bs′ d′ o′ : List ℕ} → Answers x r bs d o → Answers x r′ bs′ d′ o′ → SameIn r bs d o r′ bs′ d′ o′
+same-in x p q = (
+  as-given (p .refusal ∙ sym (q .refusal)) (p .frames ∙ sym (q .frames)),
+  (p .state .bytes ∙ sym (q .state .bytes), (p .dictionary ∙ sym (q .dictionary), p .output ∙ sym (q .output))),
+)
+
+module _ (κs : Lfts 3) (a : ArgsD power-up-in.signature κs) where
+  pub power-up-in-unique : (r r′ : ResD power-up-in.signature κs) (x x′ : AtExit (endedOf 3 power-up-in-kinds.ps power-up-in-kinds.r) κs) →
+      power-up-in-reads.Post κs a r x → power-up-in-reads.Post κs a r′ x′ →
+      SameIn r (now (x .0)) (now (x .1 .0)) (now (x .1 .1 .0)) r′ (now (x′ .0)) (now (x′ .1 .0)) (now (x′ .1 .1 .0))
+  power-up-in-unique r r′ x x′ p q = let s = stateOf (now (a .0)) in same-in _ (p s) (q s)
+
+module _ (κs : Lfts 4) (a : ArgsD frame-in.signature κs) where
+  pub frame-in-unique : (r r′ : ResD frame-in.signature κs) (x x′ : AtExit (endedOf 4 frame-in-kinds.ps frame-in-kinds.r) κs) →
+      frame-in-reads.Post κs a r x → frame-in-reads.Post κs a r′ x′ →
+      SameIn r (now (x .0)) (now (x .1 .0)) (now (x .1 .1 .0)) r′ (now (x′ .0)) (now (x′ .1 .0)) (now (x′ .1 .1 .0))
+  frame-in-unique r r′ x x′ p q = same-in _ p q
+
+module _ (κs : Lfts 4) (a : ArgsD event-in.signature κs) where
+  pub event-in-unique : (r r′ : ResD event-in.signature κs) (x x′ : AtExit (endedOf 4 event-in-kinds.ps event-in-kinds.r) κs) →
+      event-in-reads.Post κs a r x → event-in-reads.Post κs a r′ x′ →
+      SameIn r (now (x .0)) (now (x .1 .0)) (now (x .1 .1 .0)) r′ (now (x′ .0)) (now (x′ .1 .0)) (now (x′ .1 .1 .0))
+  event-in-unique r r′ x x′ p q = same-in _ p q

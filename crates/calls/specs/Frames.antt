@@ -12,10 +12,8 @@ use Rattle.state.specs.NmtStates.{isStopped}
 use Rattle.rules_services.specs.Effects.{Effect, becomes}
 use Rattle.rules_services.specs.Sdo.{sdo, requestBase, requestLength}
 use Rattle.rules_services.specs.PdoTraffic.{sync, syncBase, receivedBy}
-use Rattle.output.specs.declared.Done.{Done}
 use Rattle.form.specs.Form.{stateLength, stateOf}
-use Rattle.output.specs.declared.Parts.{Parts}
-use Rattle.output.specs.Leaves.{partsOf, Leaves, Rests}
+use Rattle.form.specs.Holding.{Holds}
 use Rattle.calls.specs.Ending.{Stands}
 
 -- "Served in Pre-operational and Operational, 600h+N, length 8."
@@ -28,16 +26,8 @@ serviced i bs s d =
     cond (eqb i syncBase) (sync bs s d)
     (cond (eqb i (requestBase + s .node .id)) (requested bs s d) (receivedBy receivePdos i bs s d))
 
--- what a frame or an event starts from, as lent bytes: the state that they hold stands, and those are its parts
-pub record Starts (parts : Parts) (bs d o : List ℕ) : Type 0 where
-  pub bytes : length bs ≡ stateLength
+-- what a frame or an event starts from, as lent bytes: they hold a state, and it stands
+pub record Starts (bs d o : List ℕ) : Type 0 where
+  pub own : Holds bs (stateOf bs)
+  pub whole : length bs ≡ stateLength
   pub stands : Stands (stateOf bs) d o
-  pub own : parts ≡ partsOf (stateOf bs)
-
--- what a service of a call that started in s leaves of its effect
-abbrev pub ServedBy : State → Effect → List ℕ → List ℕ → Done → List ℕ → List ℕ → Type 0
-ServedBy s e d o r d′ o′ = Leaves e d o r d′ o′ × Rests s e r
-
--- the same, on the state that the bytes hold
-abbrev pub ServedIn : List ℕ → (State → List ℕ → Effect) → List ℕ → List ℕ → Done → List ℕ → List ℕ → Type 0
-ServedIn bs f d o r d′ o′ = ServedBy (stateOf bs) (f (stateOf bs) d) d o r d′ o′

@@ -1,6 +1,5 @@
 pub mod Opening
-pub mod Briefs
+pub mod Answers
 pub mod Ending
-pub mod Promise
 pub mod Frames
 pub mod Traces

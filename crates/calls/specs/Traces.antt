@@ -6,7 +6,7 @@ use mathlib.Core.Path.{_≡_}
 use mathlib.Core.List.{List, [], _∷_}
 use Rattle.state.specs.declared.Answer.{Answer}
 use Rattle.theorems.specs.Promises.{Step, Stand, does, after}
-use Rattle.calls.specs.Briefs.{outcome}
+use Rattle.calls.specs.Answers.{outcome}
 
 -- the promise of the call allows that answer and those lent bytes
 abbrev pub Allowed : Step → Stand → Answer → List ℕ → List ℕ → Type 0

@@ -1,49 +1,51 @@
 // The three public calls: power-up, one frame, one event. Each takes the state and hands it back by value; dictionary and output are
 // lent. None asks anything of its caller, and each promise is one equation with the rules' answer (`Calls.answer`): it determines the
 // refusal, the number of frames, the state and every byte of what is lent. proofs/Unique.antt says so.
-// Each stands upon the same call on a state that is lent as bytes, tested first (`powering`, `opened`) and answered in brief, without the
-// plans, most of a state's bytes: they change only where a mapping is written, and a caller that keeps the state where it is need not copy them.
+// Each stands upon the same call on a state that stays in its bytes (`power_up_in`, `frame_in`, `event_in`), which `powering` and `opened` test
+// first: there each service reads what it needs of the state and puts what it changes, and nothing else is copied.
 
 mod opens; // the refusals that need no more than what is lent
 mod served; // a frame, by its identifier
 mod settling; // 6041h and 6061h
-mod finishing; // what a service leaves, through the call's end
-mod whole; // a refusal, and a whole answer
+mod finishing; // the call's end
 
 use events::event_of;
 use events::is_in_place;
-use finishing::anew;
 use finishing::finish;
 use form::form_of;
+use form::read_node;
+use form::state_of;
+use form::write_head;
+use form::write_plans;
+use mapping::all_plans;
+use mapping::ready_anew;
+use nmt::fresh_drive;
+use nmt::fresh_node;
 use nmt::start;
 pub use opens::opened;
 pub use opens::powering;
 use output::MOST_DATA;
-use output::Parts;
-use output::parts_of;
 use rules_dictionary::PdoData;
 use rules_services::Told;
 use served::serve_frame;
+use settling::settle;
 use state::Answer;
-use state::Pace;
 use state::Refusal;
 use state::State;
-use whole::refuse;
-use whole::refused;
-use whole::with_plans;
+use tpdo::IDLE;
 ghost use mathlib.Core.Path.{_≡_};
-ghost use mathlib.Core.Bool.{true, false};
+ghost use mathlib.Core.Bool.{false};
 ghost use Prim.Native.Nat.{_≤_};
 ghost use lib.ListN.{length};
 ghost use Rattle.state.specs.declared.State.{State};
+ghost use Rattle.state.specs.NmtStates.{isOperational};
 ghost use Rattle.rules_dictionary.specs.Plans.{pdoData};
 ghost use Rattle.rules.specs.Outcome.{mostData};
 ghost use Rattle.rules.specs.Calls.{powerUpCall, frameCall, eventCall, answer};
 ghost use Rattle.form.specs.Form.{stateLength, stateOf};
 ghost use Rattle.calls.specs.Opening.{powering};
-ghost use Rattle.calls.specs.Briefs.{outcome};
-ghost use Rattle.calls.specs.Ending.{Stands};
-ghost use Rattle.calls.specs.Promise.{InBrief};
+ghost use Rattle.calls.specs.Answers.{outcome, refusedAnswer, refusedGiven, acceptedGiven, Answers};
+ghost use Rattle.calls.specs.Frames.{Starts};
 
 // The greatest identifier of a frame.
 const LAST_IDENTIFIER: u32 = 0x7FF;
@@ -54,24 +56,40 @@ pub struct Opening {
     pub why: Refusal,
 }
 
-// An answer in brief: all of it but the plans, which stay unless a PDO's mapping was written.
-pub struct Brief {
+// What a call answers beside the lent bytes, its state's among them.
+pub struct Given {
     pub refusal: Refusal,
     pub frames: u8,
-    pub parts: Parts,
-    pub ready: [PdoData; 4],
-    pub paces: [Pace; 4],
-    pub remapped: bool,
 }
 
-// Power-up as node n, in brief, where nothing refuses it: whatever the state was, its plans too are made anew.
-pub fn brief_power_up(d: &mut [u8], output: &mut [u8], n: u32) -> Brief
-    requires { ⌜ powering n (now d) (now output) .refused ≡ false ⌝ }
-    ensures { λ r. ⌜ ((s : State) → InBrief (powerUpCall n) s (now (d .entry)) (now (output .entry)) r (now (d .exit)) (now (output .exit)))
-        × (r .remapped ≡ true) ⌝ }
+// A refused call: no frames, and every byte stays.
+fn refused(why: Refusal) -> Given
+    ensures { λ r. ⌜ r ≡ refusedGiven why ⌝ }
 {
-    let done = start(d, output, n as u8);
-    anew(done, d)
+    Given {
+        refusal: why,
+        frames: 0,
+    }
+}
+
+// An accepted call, with that many frames.
+fn accepted(frames: u8) -> Given
+    ensures { λ r. ⌜ r ≡ acceptedGiven frames ⌝ }
+{
+    Given {
+        refusal: Refusal::Accepted,
+        frames: frames,
+    }
+}
+
+// Whether the node is Operational.
+fn is_operational(state: &[u8]) -> bool
+    requires { ⌜ length (now state) ≡ stateLength ⌝ }
+    ensures { λ r. ⌜ r ≡ isOperational (stateOf (now (state .entry)) .node .nmt) ⌝ }
+{
+    let node = read_node(state);
+    let nmt = node.nmt;
+    nmt.is_operational()
 }
 
 // The data of a frame.
@@ -91,59 +109,104 @@ fn content_of(bytes: &[u8]) -> PdoData
     }
 }
 
-// One frame of the bus, in brief, on a sound state that is lent as bytes.
-pub fn brief_frame(
-    state: &[u8],
+// Power-up as node n, where nothing refuses it: every byte of the state is written, whatever stood there.
+pub fn power_up_in(state: &mut [u8], d: &mut [u8], output: &mut [u8], n: u32) -> Given
+    requires { ⌜ (length (now state) ≡ stateLength) × (powering n (now d) (now output) .refused ≡ false) ⌝ }
+    ensures { λ r. ⌜ ((s : State) → Answers (answer (powerUpCall n) s (now (d .entry)) (now (output .entry)))
+        r (now (state .exit)) (now (d .exit)) (now (output .exit))) ⌝ }
+{
+    let id = n as u8;
+    let done = start(d, output, id);
+    let node = fresh_node(id);
+    let drive = fresh_drive();
+    settle(node, drive, true, d);
+    let none = PdoData {
+        length: 0,
+        bytes: [0; 8],
+    };
+    write_plans(state, all_plans(d));
+    write_head(
+        state,
+        node,
+        drive,
+        ready_anew(d),
+        [none, none, none, none],
+        [IDLE, IDLE, IDLE, IDLE],
+    );
+    accepted(done.frames as u8)
+}
+
+// One frame of the bus.
+pub fn frame_in(
+    state: &mut [u8],
     d: &mut [u8],
     output: &mut [u8],
     identifier: u32,
     bytes: &[u8],
-) -> Brief
-    requires { ⌜ (length (now state) ≡ stateLength) × Stands (stateOf (now state)) (now d) (now output) ⌝ }
-    ensures { λ r. ⌜ InBrief (frameCall identifier (now (bytes .entry))) (stateOf (now (state .entry))) (now (d .entry)) (now (output .entry))
-        r (now (d .exit)) (now (output .exit)) ⌝ }
+) -> Given
+    requires { ⌜ Starts (now state) (now d) (now output) ⌝ }
+    ensures { λ r. ⌜ Answers
+        (answer (frameCall identifier (now (bytes .entry))) (stateOf (now (state .entry))) (now (d .entry)) (now (output .entry)))
+        r (now (state .exit)) (now (d .exit)) (now (output .exit)) ⌝ }
 {
     if LAST_IDENTIFIER < identifier {
-        return refused(Refusal::BadFrame, state);
+        return refused(Refusal::BadFrame);
     }
     if MOST_DATA < bytes.len() {
-        return refused(Refusal::BadFrame, state);
+        return refused(Refusal::BadFrame);
     }
-    let parts = parts_of(state);
-    let done = serve_frame(
-        identifier as u16,
-        content_of(bytes),
-        parts,
-        state,
-        d,
-        output,
-    );
-    finish(done, state, d, output)
+    let was = is_operational(state);
+    let done = serve_frame(identifier as u16, content_of(bytes), state, d, output);
+    accepted(finish(done, was, state, d, output))
 }
 
-// One event of the amplifier, in brief, on a sound state that is lent as bytes.
-pub fn brief_event(
-    state: &[u8],
+// One event of the amplifier.
+pub fn event_in(
+    state: &mut [u8],
     d: &mut [u8],
     output: &mut [u8],
     number: u32,
     arguments: &[u8],
-) -> Brief
-    requires { ⌜ (length (now state) ≡ stateLength) × Stands (stateOf (now state)) (now d) (now output) ⌝ }
-    ensures { λ r. ⌜ InBrief (eventCall number (now (arguments .entry))) (stateOf (now (state .entry))) (now (d .entry)) (now (output .entry))
-        r (now (d .exit)) (now (output .exit)) ⌝ }
+) -> Given
+    requires { ⌜ Starts (now state) (now d) (now output) ⌝ }
+    ensures { λ r. ⌜ Answers
+        (answer (eventCall number (now (arguments .entry))) (stateOf (now (state .entry))) (now (d .entry)) (now (output .entry)))
+        r (now (state .exit)) (now (d .exit)) (now (output .exit)) ⌝ }
 {
     match event_of(number, arguments) {
-        Told::Bad => refused(Refusal::BadEvent, state),
+        Told::Bad => refused(Refusal::BadEvent),
         Told::Happened(e) => {
-            let parts = parts_of(state);
-            let drive = parts.drive;
-            if !is_in_place(e, drive) {
-                return refused(Refusal::OutOfPlace, state);
+            if !is_in_place(e, state) {
+                return refused(Refusal::OutOfPlace);
             }
-            let done = events::happens(e, parts, d, output);
-            finish(done, state, d, output)
+            let was = is_operational(state);
+            let done = events::happens(e, state, d, output);
+            accepted(finish(done, was, state, d, output))
         }
+    }
+}
+
+// A refused call, by value: no frames, and the state that was given.
+fn refuse(why: Refusal, s: State) -> Answer
+    ensures { λ r. ⌜ r ≡ refusedAnswer why s ⌝ }
+{
+    Answer {
+        refusal: why,
+        frames: 0,
+        state: s,
+    }
+}
+
+// What was given, with the state that the bytes hold.
+fn with_state(given: Given, state: &[u8]) -> Answer
+    requires { ⌜ length (now state) ≡ stateLength ⌝ }
+    ensures { λ r. ⌜ r ≡ record { refusal = given .refusal; frames = given .frames; state = stateOf (now (state .entry)) } ⌝ }
+{
+    let refusal = given.refusal;
+    Answer {
+        refusal: refusal,
+        frames: given.frames,
+        state: state_of(state),
     }
 }
 
@@ -156,8 +219,9 @@ pub fn power_up(s: State, d: &mut [u8], output: &mut [u8], n: u32) -> Answer
         let why = opening.why;
         return refuse(why, s);
     }
-    let b = brief_power_up(d, output, n);
-    with_plans(s, b, d)
+    let mut state = form_of(s);
+    let given = power_up_in(&mut state, d, output, n);
+    with_state(given, &state)
 }
 
 // One frame of the bus.
@@ -165,14 +229,14 @@ pub fn frame(s: State, d: &mut [u8], output: &mut [u8], identifier: u32, bytes: 
     ensures { λ r. ⌜ outcome r (now (d .exit)) (now (output .exit))
         ≡ answer (frameCall identifier (now (bytes .entry))) s (now (d .entry)) (now (output .entry)) ⌝ }
 {
-    let state = form_of(s);
+    let mut state = form_of(s);
     let opening = opened(&state, d, output);
     if opening.refused {
         let why = opening.why;
         return refuse(why, s);
     }
-    let b = brief_frame(&state, d, output, identifier, bytes);
-    with_plans(s, b, d)
+    let given = frame_in(&mut state, d, output, identifier, bytes);
+    with_state(given, &state)
 }
 
 // One event of the amplifier.
@@ -180,12 +244,12 @@ pub fn event(s: State, d: &mut [u8], output: &mut [u8], number: u32, arguments: 
     ensures { λ r. ⌜ outcome r (now (d .exit)) (now (output .exit))
         ≡ answer (eventCall number (now (arguments .entry))) s (now (d .entry)) (now (output .entry)) ⌝ }
 {
-    let state = form_of(s);
+    let mut state = form_of(s);
     let opening = opened(&state, d, output);
     if opening.refused {
         let why = opening.why;
         return refuse(why, s);
     }
-    let b = brief_event(&state, d, output, number, arguments);
-    with_plans(s, b, d)
+    let given = event_in(&mut state, d, output, number, arguments);
+    with_state(given, &state)
 }

@@ -3,11 +3,12 @@ ghost use mathlib.Core.Path.{_≡_};
 ghost use Rattle.rules_services.specs.Nmt.{nmtIdentifier};
 ghost use Rattle.rules.specs.Calls.{framed};
 ghost use Rattle.output.specs.Laying.{OnBus, dataOf};
-ghost use Rattle.calls.specs.Frames.{Starts, requested, serviced, ServedIn};
+ghost use Rattle.output.specs.Leaves.{LeavesIn};
+ghost use Rattle.calls.specs.Frames.{Starts, requested, serviced};
+use form::read_node;
 use nmt::nmt_frame;
 use output::Done;
-use output::Parts;
-use output::becomes;
+use output::nothing_done;
 use rpdo::receive;
 use rpdo::sync;
 use rules_dictionary::PdoData;
@@ -23,60 +24,59 @@ const REQUEST_BASE: u16 = 0x600;
 const REQUEST_LENGTH: u8 = 8;
 
 // A frame on the SDO server's identifier: "Served in Pre-operational and Operational, .. length 8".
-fn request(content: PdoData, parts: Parts, state: &[u8], d: &mut [u8], output: &mut [u8]) -> Done
-    requires { ⌜ Starts parts (now state) (now d) (now output) × OnBus content ⌝ }
-    ensures { λ r. ⌜ ServedIn (now (state .entry)) (requested (dataOf content)) (now (d .entry)) (now (output .entry))
-        r (now (d .exit)) (now (output .exit)) ⌝ }
+fn request(content: PdoData, state: &mut [u8], d: &mut [u8], output: &mut [u8]) -> Done
+    requires { ⌜ Starts (now state) (now d) (now output) × OnBus content ⌝ }
+    ensures { λ r. ⌜ LeavesIn (requested (dataOf content)) (now (state .entry)) (now (d .entry)) (now (output .entry))
+        r (now (state .exit)) (now (d .exit)) (now (output .exit)) ⌝ }
 {
-    let node = parts.node;
+    let node = read_node(state);
     let nmt = node.nmt;
     if nmt.is_stopped() {
-        return becomes(parts, true);
+        return nothing_done(true);
     }
     if content.length != REQUEST_LENGTH {
-        return becomes(parts, true);
+        return nothing_done(true);
     }
     let bytes = content.bytes;
-    serve(bytes, parts, d, output)
+    serve(bytes, state, d, output)
 }
 
 // A frame that is no NMT command.
 fn service(
     identifier: u16,
     content: PdoData,
-    parts: Parts,
-    state: &[u8],
+    state: &mut [u8],
     d: &mut [u8],
     output: &mut [u8],
 ) -> Done
-    requires { ⌜ Starts parts (now state) (now d) (now output) × (OnBus content × (identifier ≡ nmtIdentifier → ⊥)) ⌝ }
-    ensures { λ r. ⌜ ServedIn (now (state .entry)) (serviced identifier (dataOf content)) (now (d .entry)) (now (output .entry))
-        r (now (d .exit)) (now (output .exit)) ⌝ }
+    requires { ⌜ Starts (now state) (now d) (now output) × (OnBus content × (identifier ≡ nmtIdentifier → ⊥)) ⌝ }
+    ensures { λ r. ⌜ LeavesIn (serviced identifier (dataOf content)) (now (state .entry)) (now (d .entry)) (now (output .entry))
+        r (now (state .exit)) (now (d .exit)) (now (output .exit)) ⌝ }
 {
     if identifier == SYNC {
-        return sync(parts, state, d, output, content.length);
+        return sync(state, d, output, content.length);
     }
-    if identifier == REQUEST_BASE + (parts.node.id as u16) {
-        return request(content, parts, state, d, output);
+    let node = read_node(state);
+    if identifier == REQUEST_BASE + (node.id as u16) {
+        return request(content, state, d, output);
     }
-    receive(parts, state, d, output, identifier, content)
+    receive(state, d, output, identifier, content)
 }
 
 // A frame of the bus, well formed: its service.
 pub fn serve_frame(
     identifier: u16,
     content: PdoData,
-    parts: Parts,
-    state: &[u8],
+    state: &mut [u8],
     d: &mut [u8],
     output: &mut [u8],
 ) -> Done
-    requires { ⌜ Starts parts (now state) (now d) (now output) × OnBus content ⌝ }
-    ensures { λ r. ⌜ ServedIn (now (state .entry)) (framed identifier (dataOf content)) (now (d .entry)) (now (output .entry))
-        r (now (d .exit)) (now (output .exit)) ⌝ }
+    requires { ⌜ Starts (now state) (now d) (now output) × OnBus content ⌝ }
+    ensures { λ r. ⌜ LeavesIn (framed identifier (dataOf content)) (now (state .entry)) (now (d .entry)) (now (output .entry))
+        r (now (state .exit)) (now (d .exit)) (now (output .exit)) ⌝ }
 {
     if identifier == NMT {
-        return nmt_frame(content, parts, d, output);
+        return nmt_frame(content, state, d, output);
     }
-    service(identifier, content, parts, state, d, output)
+    service(identifier, content, state, d, output)
 }

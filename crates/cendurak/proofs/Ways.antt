@@ -1,34 +1,26 @@
 -- What the rules leave on each way through a C call, from the tests that the code makes.
 -- Assumes nothing.
-use Prim.Native.Nat.{ℕ, _+_, _*_}
-use native.Mathlib.Omega.{arith}
+use Prim.Native.Nat.{ℕ}
 use mathlib.Core.Path.{_≡_, refl, sym, _∙_, ap}
 use mathlib.Core.Bool.{Bool, true, false, cond, _&&_, false≢true, true≢false}
 use mathlib.Core.List.{List}
 use borrow.Author.Tests.{eq-eqb, ne-eqb}
 use lib.Dec.{eqb, leb}
 use lib.ListN.{length}
-use lib.Seq.{sets}
 use Rattle.state.specs.declared.Refusal.{Refusal}
 use Rattle.state.specs.declared.Refusal.the-variants.{Accepted, DictionaryLength, OutputLength, NodeId, NotSound, BadFrame, BadEvent, OutOfPlace}
-use Rattle.state.specs.declared.Answer.{Answer}
-use Rattle.state.specs.declared.State.{State}
 use Rattle.rules_dictionary.specs.TheNode.{isNodeId}
-use Rattle.rules_dictionary.specs.declared.Plan.{Plan}
-use Rattle.rules_dictionary.specs.Plans.{plansOf}
-use Rattle.rules_dictionary.specs.Table.{dictionaryLength, eachWay}
+use Rattle.rules_services.specs.Nmt.{powerUp}
+use Rattle.rules_dictionary.specs.Table.{dictionaryLength}
 use Rattle.rules_dictionary.proofs.Tests.{and-left, and-right}
 use Rattle.rules.specs.Sound.{sound}
-use Rattle.rules.specs.Calls.{Call, powerUpCall, frameCall, eventCall, Outcome, decision, refuses, answer, refusalNumber, outputLength}
-use Rattle.form.specs.Form.{joined, planForm, plansPlace, stateLength, stateOf, form, isForm, HoldsPlans}
-use Rattle.form.specs.Typed.{Many, PlanTyped}
-use Rattle.form.proofs.Rows.{plans-written}
-use Rattle.form.proofs.OneForm.{plans-held}
-use Rattle.calls.specs.declared.Brief.{Brief}
-use Rattle.calls.specs.Briefs.{outcome, refusedAnswer, whole}
-use Rattle.calls.specs.Promise.{InBrief}
+use Rattle.rules.specs.Calls.{Call, powerUpCall, frameCall, eventCall, Outcome, decision, decided, refuses, does, refused, accepted, answered}
+use Rattle.rules.specs.Calls.{answer, outputLength}
+use Rattle.form.specs.Form.{stateLength, stateOf, form, isForm}
+use Rattle.calls.specs.declared.Given.{Given}
+use Rattle.calls.specs.Answers.{outcome, refusedAnswer, Answers}
 use Rattle.calls.specs.Opening.{refusedFor, notRefused, lending, thenBy, powering, holdsSound, openingOf}
-use Rattle.calls.proofs.Refusals.{not-lent, decides-not, passes-both, no-node, unsound-frame, unsound-event}
+use Rattle.calls.proofs.Refusals.{not-lent, decides, decides-not, passes-both, no-node, a-node, unsound-frame, unsound-event}
 use Rattle.cendurak.specs.Boundary.{Left, status, stateAfter, leftBy, refusedWith, isGiven, hasNode, without, lentAnswer, left}
 
 -- the refusals below 4, by what is lent and the node-ID
@@ -90,16 +82,34 @@ module _ (c : Call) (bs d o : List ℕ) where
         go false true e f k = absurd (false≢true k)
 
   -- the call was made
-  made : isGiven c bs ≡ true → (r : Answer) (k : ℕ) (bs′ d′ o′ : List ℕ) → outcome r d′ o′ ≡ answer c (stateOf bs) d o →
-      (k ≡ status (r .refusal) (r .frames)) × (bs′ ≡ stateAfter (r .refusal) (form (r .state)) bs) → left k bs′ d′ o′ ≡ lentAnswer c bs d o
-  unfolding lentAnswer lent-by leftBy
-  made g r k bs′ d′ o′ a l = rw (l .0, l .1) (ap (λ (x : Outcome). leftBy x bs) a ∙ ap lent-by (sym g))
-
-  -- and answered in brief
-  pub made-brief : isGiven c bs ≡ true → (b : Brief) (k : ℕ) (bs′ d′ o′ : List ℕ) → InBrief c (stateOf bs) d o b d′ o′ →
-      (k ≡ status (b .refusal) (b .frames)) × (bs′ ≡ stateAfter (b .refusal) (form (whole (stateOf bs) d′ b .state)) bs) →
+  pub made : isGiven c bs ≡ true → let x = answer c (stateOf bs) d o in form (x .state) ≡ stateAfter (x .refusal) (form (x .state)) bs →
+      (r : Given) (k : ℕ) (bs′ d′ o′ : List ℕ) → Answers x r bs′ d′ o′ → k ≡ status (r .refusal) (r .frames) →
       left k bs′ d′ o′ ≡ lentAnswer c bs d o
-  made-brief g b k bs′ d′ o′ a l = made g (whole (stateOf bs) d′ b) k bs′ d′ o′ (a .0) l
+  unfolding lentAnswer lent-by leftBy
+  made g after r k bs′ d′ o′ h e =
+      let x = answer c (stateOf bs) d o in
+      rw (e, h .refusal, h .frames, h .dictionary, h .output)
+      (ap (λ (xs : List ℕ). left (status (x .refusal) (x .frames)) xs (x .dictionary) (x .output)) (h .state .bytes ∙ after) ∙ ap lent-by (sym g))
+
+  -- where the bytes are a state's form, a refused call's answer has them
+  pub as-given : form (stateOf bs) ≡ bs →
+      let x = answer c (stateOf bs) d o in form (x .state) ≡ stateAfter (x .refusal) (form (x .state)) bs
+  unfolding answer answered refused accepted
+  as-given own =
+      elim (decided c (stateOf bs) d o) as
+      (λ y. form (answered y (stateOf bs) d o .state) ≡ stateAfter (answered y (stateOf bs) d o .refusal) (form (answered y
+      (stateOf bs) d o .state)) bs)
+      [ refuses why ↦ either-way why | does e ↦ refl ]
+    where
+      either-way : (why : Refusal) → form (stateOf bs) ≡ stateAfter why (form (stateOf bs)) bs
+      either-way Accepted = refl
+      either-way DictionaryLength = own
+      either-way OutputLength = own
+      either-way NodeId = own
+      either-way NotSound = own
+      either-way BadFrame = own
+      either-way BadEvent = own
+      either-way OutOfPlace = own
 
 -- ---- power-up
 
@@ -118,6 +128,14 @@ module _ (n : ℕ) (bs d o : List ℕ) where
       let other : eqb (length bs) stateLength ≡ false = ne-eqb (length bs) stateLength l in
       refuses-by (powerUpCall n) bs d o NotSound (λ g. absurd (false≢true (sym other ∙ g)))
       (λ g. without-lent (powerUpCall n) bs d o (p .0) true (p .1)) refl
+
+  -- a power-up that nothing refuses
+  pub powered : powering n d o .refused ≡ false →
+      let x = answer (powerUpCall n) (stateOf bs) d o in form (x .state) ≡ stateAfter (x .refusal) (form (x .state)) bs
+  unfolding answered accepted
+  powered h =
+      let p = passes-both d o (isNodeId n) NodeId h in
+      rw (decides (powerUpCall n) (stateOf bs) d o (p .0) (does (powerUp n)) (a-node n (stateOf bs) d (p .1)))
 
 -- ---- a frame or an event: the state that the bytes hold
 
@@ -143,36 +161,3 @@ module _ (i : ℕ) (xs bs d o : List ℕ) where
 
 pub a-form : (bs : List ℕ) → length bs ≡ stateLength → isForm bs ≡ true → (eqb (length bs) stateLength && isForm bs) ≡ true
 a-form bs h f = ap (λ (b : Bool). b && isForm bs) (eq-eqb (length bs) stateLength h) ∙ f
-
--- ---- the plans' bytes after the call
-
-module _ (remapped : Bool) (bs d : List ℕ) where
-  pub new-plans : remapped ≡ true → length bs ≡ stateLength → (plans : List Plan) → plans ≡ plansOf d → (bs′ : List ℕ) →
-      (bs′ ≡ sets bs plansPlace (joined planForm plans)) × Many PlanTyped (2 * eachWay) plans →
-      HoldsPlans bs′ (cond remapped (plansOf d) (stateOf bs .axis .plans))
-  new-plans t l plans e bs′ w = rw (w .0, t, ← e) (plans-written bs plans l (w .1))
-
-  pub old-plans : remapped ≡ false → isForm bs ≡ true → HoldsPlans bs (cond remapped (plansOf d) (stateOf bs .axis .plans))
-  old-plans t f = rw t (plans-held bs f)
-
--- ---- the state's bytes after the call
-
-pub writes-state : (why : Refusal) (new old : List ℕ) → refusalNumber why ≡ 0 → new ≡ stateAfter why new old
-writes-state Accepted new old e = refl
-writes-state DictionaryLength new old e = absurd (omega (arith, e))
-writes-state OutputLength new old e = absurd (omega (arith, e))
-writes-state NodeId new old e = absurd (omega (arith, e))
-writes-state NotSound new old e = absurd (omega (arith, e))
-writes-state BadFrame new old e = absurd (omega (arith, e))
-writes-state BadEvent new old e = absurd (omega (arith, e))
-writes-state OutOfPlace new old e = absurd (omega (arith, e))
-
-pub leaves-state : (why : Refusal) (new old : List ℕ) → (refusalNumber why ≡ 0 → ⊥) → old ≡ stateAfter why new old
-leaves-state Accepted new old n = absurd (n refl)
-leaves-state DictionaryLength new old n = refl
-leaves-state OutputLength new old n = refl
-leaves-state NodeId new old n = refl
-leaves-state NotSound new old n = refl
-leaves-state BadFrame new old n = refl
-leaves-state BadEvent new old n = refl
-leaves-state OutOfPlace new old n = refl

@@ -2,18 +2,15 @@
 -- lent bytes of fixed length, also another length (power-up too) or bytes that are no state": refusal 4.
 -- Assumes nothing.
 use Prim.Native.Nat.{ℕ, _+_, _*_}
-use mathlib.Core.Path.{_≡_}
 use mathlib.Core.List.{List}
-use mathlib.Core.Bool.{Bool, true, false, cond, not, _&&_}
+use mathlib.Core.Bool.{Bool, true, false, _&&_}
 use lib.Dec.{eqb, leb}
 use lib.ListN.{length}
 use Rattle.state.specs.declared.Refusal.{Refusal}
 use Rattle.state.specs.declared.Refusal.the-variants.{Accepted, DictionaryLength, OutputLength, NodeId, NotSound, BadFrame, BadEvent, OutOfPlace}
-use Rattle.state.specs.declared.Answer.{Answer}
 use Rattle.rules_dictionary.specs.TheNode.{isNodeId}
 use Rattle.rules_dictionary.specs.Table.{dictionaryLength}
 use Rattle.rules.specs.Calls.{Call, powerUpCall, frameCall, eventCall, Outcome, answer, refusalNumber, outputLength}
-use Rattle.mapping.specs.Afresh.{GivesPlans}
 use Rattle.form.specs.Form.{stateLength, stateOf, form, isForm}
 
 -- what a call leaves: the number that it returns, and the bytes of the three buffers
@@ -77,10 +74,3 @@ lentAnswer c bs d o = elim (isGiven c bs) [ true ↦ leftBy (answer c (stateOf b
 -- what the exported functions leave, as one
 abbrev pub left : ℕ → List ℕ → List ℕ → List ℕ → Left
 left number bs d o = record { status = number; state = bs; dictionary = d; output = o }
-
--- what is needed to leave a state in the bytes: their length; and either a mapping was written and the dictionary gives the plans, or the bytes
--- are a state's form, whose plans stay
-pub record MayLeave (remapped : Bool) (bs d : List ℕ) : Type 0 where
-  pub long : length bs ≡ stateLength
-  pub plans : remapped ≡ true → GivesPlans d
-  pub own : remapped ≡ false → isForm bs ≡ true

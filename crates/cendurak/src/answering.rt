@@ -1,18 +1,9 @@
-// An answer, left to C: as a number, and its state as bytes.
+// An answer as the number that C gets.
 ghost use mathlib.Core.Path.{_≡_};
-ghost use mathlib.Core.Bool.{true, false, cond};
 ghost use Prim.Native.Nat.{_+_, _*_, _≤_};
-ghost use lib.ListN.{length};
-ghost use Rattle.rules_dictionary.specs.Plans.{plansOf};
 ghost use Rattle.rules.specs.Calls.{refusalNumber};
-ghost use Rattle.calls.specs.Briefs.{whole};
-ghost use Rattle.mapping.specs.Afresh.{GivesPlans};
-ghost use Rattle.form.specs.Form.{stateLength, stateOf, form, HoldsPlans};
-ghost use Rattle.cendurak.specs.Boundary.{status, stateAfter, MayLeave};
-use calls::Brief;
-use form::write_head;
-use form::write_plans;
-use mapping::all_plans;
+ghost use Rattle.cendurak.specs.Boundary.{status};
+use calls::Given;
 use state::Refusal;
 
 // The number of a refusal; 0 is none.
@@ -46,36 +37,10 @@ pub fn refused(why: Refusal) -> u32
     number_of(refusal_number(why), 0)
 }
 
-// The plans that the dictionary gives into the state's bytes, where a mapping was written; else they hold the plans of before.
-fn write_new_plans(remapped: bool, state: &mut [u8], d: &[u8])
-    requires { ⌜ MayLeave remapped (now state) (now d) ⌝ }
-    ensures { λ r. ⌜ HoldsPlans (now (state .exit)) (cond remapped (plansOf (now (d .entry))) (stateOf (now (state .entry)) .axis .plans)) ⌝ }
+// The number that C gets of a call that was made.
+pub fn told(given: Given) -> u32
+    ensures { λ r. ⌜ r ≡ status (given .refusal) (given .frames) ⌝ }
 {
-    if remapped {
-        write_plans(state, all_plans(d));
-    }
-}
-
-// An accepted call's state into the bytes, of the plans' those of written mappings; a refused one leaves them. The number that C gets. The
-// bytes are the call's, and d is the dictionary that it left.
-pub fn leave(b: Brief, state: &mut [u8], d: &[u8]) -> u32
-    requires { ⌜ MayLeave (b .remapped) (now state) (now d) ⌝ }
-    ensures { λ r. ⌜ (r ≡ status (b .refusal) (b .frames))
-        × (now (state .exit)
-        ≡ stateAfter (b .refusal) (form (whole (stateOf (now (state .entry))) (now (d .entry)) b .state)) (now (state .entry))) ⌝ }
-{
-    let why = b.refusal;
-    let refused = refusal_number(why);
-    if refused == 0 {
-        let parts = b.parts;
-        let node = parts.node;
-        let drive = parts.drive;
-        let held = parts.held;
-        let ready = b.ready;
-        let paces = b.paces;
-        write_new_plans(b.remapped, state, d);
-        write_head(state, node, drive, ready, held, paces);
-        return number_of(refused, b.frames);
-    }
-    number_of(refused, b.frames)
+    let why = given.refusal;
+    number_of(refusal_number(why), given.frames)
 }

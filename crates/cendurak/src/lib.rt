@@ -1,14 +1,14 @@
 // The node for C: three exported calls on numbers and lent bytes. The state is lent as bytes of one length (crate form); each call
 // returns the refusal times 256 plus the number of frames. None asks anything of its caller; include/cendurak.h declares them.
 
-mod answering; // the answer as a number, the state as bytes
+mod answering; // the answer as a number
 
-use answering::leave;
 use answering::refused;
-use calls::brief_event;
-use calls::brief_frame;
-use calls::brief_power_up;
+use answering::told;
+use calls::event_in;
+use calls::frame_in;
 use calls::opened;
+use calls::power_up_in;
 use calls::powering;
 use form::layout::STATE_LENGTH;
 use state::Refusal;
@@ -35,8 +35,8 @@ pub extern "C" fn cendurak_power_up(
     if state.len() != STATE_LENGTH {
         return refused(Refusal::NotSound);
     }
-    let b = brief_power_up(dict, out, n);
-    leave(b, state, dict)
+    let given = power_up_in(state, dict, out, n);
+    told(given)
 }
 
 // One frame of the bus.
@@ -56,8 +56,8 @@ pub extern "C" fn cendurak_frame(
         let why = opening.why;
         return refused(why);
     }
-    let b = brief_frame(state, dict, out, identifier, bytes);
-    leave(b, state, dict)
+    let given = frame_in(state, dict, out, identifier, bytes);
+    told(given)
 }
 
 // One event of the amplifier.
@@ -77,6 +77,6 @@ pub extern "C" fn cendurak_event(
         let why = opening.why;
         return refused(why);
     }
-    let b = brief_event(state, dict, out, number, arguments);
-    leave(b, state, dict)
+    let given = event_in(state, dict, out, number, arguments);
+    told(given)
 }

@@ -5,32 +5,33 @@ ghost use Prim.Native.Nat.{_≤_};
 ghost use lib.ListN.{length};
 ghost use Rattle.rules_dictionary.specs.Table.{dictionaryLength};
 ghost use Rattle.rules_dictionary.specs.TheNode.{lastNode};
-ghost use Rattle.rules_services.specs.Written.{faultReset};
+ghost use Rattle.rules_services.specs.Effects.{withDrive};
 ghost use Rattle.rules.specs.Outcome.{frameSize};
-ghost use Rattle.output.specs.Leaves.{bare, Leaves};
-ghost use Rattle.emergency.specs.Acts.{modeActs, controlActs, acts};
+ghost use Rattle.form.specs.Form.{stateOf};
+ghost use Rattle.output.specs.Leaves.{Lent, Leaves};
+ghost use Rattle.emergency.specs.Acts.{modeActs, controlActs, acts, Resets};
 use crate::emergencies::emergency;
 use dictionary::objects;
 use drive::Drive;
+use form::put_drive;
+use form::read_drive;
+use form::read_node;
 use output::Done;
-use output::Parts;
-use output::becomes;
+use output::nothing_done;
+use state::Node;
 use state::Occasion;
 
 // The emergency code of a fault that is gone.
 const FAULT_GONE: u16 = 0x0000;
 
 // "1001h to 0, emergency 0000h; 603Fh stays".
-fn fault_reset(parts: Parts, d: &mut [u8], output: &mut [u8]) -> Done
-    requires { ⌜ (length (now d) ≡ dictionaryLength) × ((frameSize ≤ length (now output)) × (parts .node .id ≤ lastNode)) ⌝ }
-    ensures { λ r. ⌜ Leaves (faultReset (bare parts) (now (d .entry))) (now (d .entry)) (now (output .entry)) r (now (d .exit)) (now (output .exit))
-        × (r .quiet ≡ false) ⌝ }
+fn fault_reset(node: Node, d: &mut [u8], output: &mut [u8]) -> Done
+    requires { ⌜ (length (now d) ≡ dictionaryLength) × ((frameSize ≤ length (now output)) × (node .id ≤ lastNode)) ⌝ }
+    ensures { λ r. ⌜ Resets node (now (d .entry)) (now (output .entry)) r (now (d .exit)) (now (output .exit)) ⌝ }
 {
     objects::set_error_register(d, 0);
-    let node = parts.node;
     let frames = emergency(FAULT_GONE, node, d, output);
     Done {
-        parts: parts,
         frames: frames,
         touched: true,
         remapped: false,
@@ -51,26 +52,20 @@ fn mode_acted(drive: Drive, d: &[u8], written: bool) -> Drive
     }
 }
 
-// 6040h acted on; `old` is what stood there before the write.
-fn control_acted(old: u16, parts: Parts, d: &mut [u8], output: &mut [u8]) -> Done
-    requires { ⌜ (length (now d) ≡ dictionaryLength) × ((frameSize ≤ length (now output)) × (parts .node .id ≤ lastNode)) ⌝ }
-    ensures { λ r. ⌜ Leaves (controlActs old (bare parts) (now (d .entry))) (now (d .entry)) (now (output .entry)) r
-        (now (d .exit)) (now (output .exit)) × (r .quiet ≡ false) ⌝ }
+// 6040h acted on by the drive that 6060h left; `old` is what stood there before the write.
+fn control_acted(old: u16, drive: Drive, state: &mut [u8], d: &mut [u8], output: &mut [u8]) -> Done
+    requires { ⌜ Lent frameSize (now state) (now d) (now output) ⌝ }
+    ensures { λ r. ⌜ Leaves (stateOf (now (state .entry))) (controlActs old (withDrive drive (stateOf (now (state .entry)))) (now (d .entry)))
+        (now (d .entry)) (now (output .entry)) r (now (state .exit)) (now (d .exit)) (now (output .exit)) × (r .quiet ≡ false) ⌝ }
 {
-    let node = parts.node;
-    let drive = parts.drive;
-    let held = parts.held;
     let controlled = drive.control_written(d, old);
     let after = controlled.drive;
-    let next = Parts {
-        node: node,
-        drive: after,
-        held: held,
-    };
+    put_drive(state, after);
     if controlled.reset {
-        return fault_reset(next, d, output);
+        let node = read_node(state);
+        return fault_reset(node, d, output);
     }
-    becomes(next, false)
+    nothing_done(false)
 }
 
 // Values are stored: 6060h acted on where it is among them, then 6040h; `old` is 6040h as it stood before.
@@ -78,24 +73,22 @@ pub fn acted(
     old: u16,
     mode: bool,
     control: bool,
-    parts: Parts,
+    state: &mut [u8],
     d: &mut [u8],
     output: &mut [u8],
 ) -> Done
-    requires { ⌜ (length (now d) ≡ dictionaryLength) × ((frameSize ≤ length (now output)) × (parts .node .id ≤ lastNode)) ⌝ }
-    ensures { λ r. ⌜ Leaves (acts old mode control (bare parts) (now (d .entry))) (now (d .entry)) (now (output .entry)) r
-        (now (d .exit)) (now (output .exit)) × (r .quiet ≡ false) ⌝ }
+    requires { ⌜ Lent frameSize (now state) (now d) (now output) ⌝ }
+    ensures { λ r. ⌜ Leaves (stateOf (now (state .entry))) (acts old mode control (stateOf (now (state .entry))) (now (d .entry)))
+        (now (d .entry)) (now (output .entry)) r (now (state .exit)) (now (d .exit)) (now (output .exit)) × (r .quiet ≡ false) ⌝ }
 {
-    let node = parts.node;
-    let drive = parts.drive;
-    let held = parts.held;
-    let next = Parts {
-        node: node,
-        drive: mode_acted(drive, d, mode),
-        held: held,
-    };
     if control {
-        return control_acted(old, next, d, output);
+        let drive = mode_acted(read_drive(state), d, mode);
+        return control_acted(old, drive, state, d, output);
     }
-    becomes(next, false)
+    if mode {
+        let drive = read_drive(state);
+        put_drive(state, drive.mode_written(d));
+        return nothing_done(false);
+    }
+    nothing_done(false)
 }

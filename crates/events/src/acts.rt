@@ -1,27 +1,29 @@
 // What each event does.
 ghost use mathlib.Core.Path.{_≡_};
 ghost use mathlib.Core.Bool.{false, cond};
-ghost use mathlib.Core.List.{List};
-ghost use Prim.Native.Nat.{ℕ, _≤_};
 ghost use lib.ListN.{length};
 ghost use Rattle.drive.specs.DriveStates.{isFaulty};
 ghost use Rattle.drive.specs.declared.DriveState.the-variants.{FaultReactionActive};
 ghost use Rattle.rules_dictionary.specs.Table.{dictionaryLength};
-ghost use Rattle.rules_dictionary.specs.TheNode.{lastNode};
 ghost use Rattle.rules_services.specs.Effects.{withDrive};
-ghost use Rattle.rules_services.specs.declared.Event.the-variants.{Feedback};
 ghost use Rattle.rules_services.specs.Events.{faulted, happens};
 ghost use Rattle.rules.specs.Outcome.{frameSize};
-ghost use Rattle.output.specs.Leaves.{partsOf, bare, became, LeavesBy};
+ghost use Rattle.form.specs.Form.{stateLength};
+ghost use Rattle.form.specs.Holding.{Puts};
+ghost use Rattle.output.specs.Leaves.{Lent, nothingDone, LeavesIn};
+ghost use Rattle.events.specs.Feeding.{Feeds};
 use dictionary::objects;
 use drive::Drive;
 use drive::DriveState;
 use drive::states::is_faulty;
 use emergency::emergency;
+use form::put_drive;
+use form::put_node;
+use form::read_drive;
+use form::read_node;
 use nmt::tick;
 use output::Done;
-use output::Parts;
-use output::becomes;
+use output::nothing_done;
 use rules_services::Event;
 use state::Occasion;
 
@@ -29,12 +31,12 @@ use state::Occasion;
 const GENERIC_ERROR: u8 = 1;
 
 // An event that changes nothing but the drive.
-fn moved(parts: Parts, drive: Drive) -> Done
-    ensures { λ r. ⌜ r ≡ became (partsOf (withDrive drive (bare parts))) false ⌝ }
+fn moved(state: &mut [u8], drive: Drive) -> Done
+    requires { ⌜ length (now state) ≡ stateLength ⌝ }
+    ensures { λ r. ⌜ (r ≡ nothingDone false) × Puts (withDrive drive) (now (state .entry)) (now (state .exit)) ⌝ }
 {
-    let node = parts.node;
-    let held = parts.held;
-    becomes(Parts { node, drive, held }, false)
+    put_drive(state, drive);
+    nothing_done(false)
 }
 
 // "any state but the two fault states goes to Fault reaction active".
@@ -49,24 +51,20 @@ fn reaction_from(state: DriveState) -> DriveState
 }
 
 // A fault: "603Fh is the code, 1001h gains the register and bit 0, cause present, emergency".
-fn faulted(code: u16, register: u8, parts: Parts, d: &mut [u8], output: &mut [u8]) -> Done
-    requires { ⌜ (length (now d) ≡ dictionaryLength) × ((frameSize ≤ length (now output)) × (parts .node .id ≤ lastNode)) ⌝ }
-    ensures { λ r. ⌜ LeavesBy parts (faulted code register) (now (d .entry)) (now (output .entry)) r (now (d .exit)) (now (output .exit)) ⌝ }
+fn faulted(code: u16, register: u8, state: &mut [u8], d: &mut [u8], output: &mut [u8]) -> Done
+    requires { ⌜ Lent frameSize (now state) (now d) (now output) ⌝ }
+    ensures { λ r. ⌜ LeavesIn (faulted code register) (now (state .entry)) (now (d .entry)) (now (output .entry))
+        r (now (state .exit)) (now (d .exit)) (now (output .exit)) ⌝ }
 {
-    let node = parts.node;
-    let drive = parts.drive;
-    let state = drive.state;
-    let held = parts.held;
+    let node = read_node(state);
+    let drive = read_drive(state);
+    let was = drive.state;
     let before = objects::error_register(d);
     objects::set_error_code(d, code);
     objects::set_error_register(d, before | (register | GENERIC_ERROR));
+    put_drive(state, drive.enters(reaction_from(was)).with_cause(true));
     let frames = emergency(code, node, d, output);
     Done {
-        parts: Parts {
-            node: node,
-            drive: drive.enters(reaction_from(state)).with_cause(true),
-            held: held,
-        },
         frames: frames,
         touched: true,
         remapped: false,
@@ -76,14 +74,13 @@ fn faulted(code: u16, register: u8, parts: Parts, d: &mut [u8], output: &mut [u8
 }
 
 // Feedback: 6064h and 606Ch.
-fn fed_back(at: u32, speed: u32, parts: Parts, d: &mut [u8]) -> Done
+fn fed_back(at: u32, speed: u32, d: &mut [u8]) -> Done
     requires { ⌜ length (now d) ≡ dictionaryLength ⌝ }
-    ensures { λ r. ⌜ ((o : List ℕ) → LeavesBy parts (happens (Feedback at speed)) (now (d .entry)) o r (now (d .exit)) o) ⌝ }
+    ensures { λ r. ⌜ Feeds at speed (now (d .entry)) r (now (d .exit)) ⌝ }
 {
     objects::set_position(d, at);
     objects::set_velocity(d, speed);
     Done {
-        parts: parts,
         frames: 0,
         touched: true,
         remapped: false,
@@ -93,26 +90,41 @@ fn fed_back(at: u32, speed: u32, parts: Parts, d: &mut [u8]) -> Done
 }
 
 // What an event does. Only a tick is quiet.
-pub fn happens(e: Event, parts: Parts, d: &mut [u8], output: &mut [u8]) -> Done
-    requires { ⌜ (length (now d) ≡ dictionaryLength) × ((frameSize ≤ length (now output)) × (parts .node .id ≤ lastNode)) ⌝ }
-    ensures { λ r. ⌜ LeavesBy parts (happens e) (now (d .entry)) (now (output .entry)) r (now (d .exit)) (now (output .exit)) ⌝ }
+pub fn happens(e: Event, state: &mut [u8], d: &mut [u8], output: &mut [u8]) -> Done
+    requires { ⌜ Lent frameSize (now state) (now d) (now output) ⌝ }
+    ensures { λ r. ⌜ LeavesIn (happens e) (now (state .entry)) (now (d .entry)) (now (output .entry))
+        r (now (state .exit)) (now (d .exit)) (now (output .exit)) ⌝ }
 {
-    let drive = parts.drive;
-    let store = drive.store;
-    let held = parts.held;
     match e {
-        Event::Started => moved(parts, drive.enters(DriveState::SwitchOnDisabled)),
-        Event::QuickStopDone => moved(parts, drive.enters(DriveState::SwitchOnDisabled)),
-        Event::Fault(code, register) => faulted(code, register, parts, d, output),
-        Event::ReactionDone => moved(parts, drive.enters(DriveState::Fault)),
-        Event::Feedback(at, speed) => fed_back(at, speed, parts, d),
-        Event::SetPointReached => moved(parts, drive.with_store(store.reached())),
-        Event::Tick => tick(parts, d, output),
-        Event::CauseGone => moved(parts, drive.with_cause(false)),
+        Event::Started => {
+            let drive = read_drive(state);
+            moved(state, drive.enters(DriveState::SwitchOnDisabled))
+        }
+        Event::QuickStopDone => {
+            let drive = read_drive(state);
+            moved(state, drive.enters(DriveState::SwitchOnDisabled))
+        }
+        Event::Fault(code, register) => faulted(code, register, state, d, output),
+        Event::ReactionDone => {
+            let drive = read_drive(state);
+            moved(state, drive.enters(DriveState::Fault))
+        }
+        Event::Feedback(at, speed) => fed_back(at, speed, d),
+        Event::SetPointReached => {
+            let drive = read_drive(state);
+            let store = drive.store;
+            moved(state, drive.with_store(store.reached()))
+        }
+        Event::Tick => tick(state, d, output),
+        Event::CauseGone => {
+            let drive = read_drive(state);
+            moved(state, drive.with_cause(false))
+        }
         Event::Voltage(on) => {
-            let mut node = parts.node;
+            let mut node = read_node(state);
             node.voltage = on;
-            becomes(Parts { node, drive, held }, false)
+            put_node(state, node);
+            nothing_done(false)
         }
     }
 }

@@ -3,3 +3,4 @@ pub mod Tested
 pub mod Kept
 pub mod Back
 pub mod OneForm
+pub mod Holding

@@ -22,7 +22,7 @@ use Rattle.form.specs.Form.{moveAt, dataAt, wordLength, paceForm, paceAt
 use Rattle.form.specs.Form.{joined, heartbeatOffset, nodeForm, nodeAt, velocityOffset}
 use Rattle.form.specs.Form.{accelerationOffset, decelerationOffset, setPointLength, setPointForm, setPointAt, storeForm, storeAt, driveForm}
 use Rattle.form.specs.Form.{driveAt, dataForm, resting, moveLength, planLength, planForm, planAt, headForm, form, HoldsPlans, stateOf, isForm}
-use Rattle.form.specs.Form.{dataLength, nodePlace, storePlace, readyPlace, heldPlace, plansPlace, planPlace, planIn, stateLength}
+use Rattle.form.specs.Form.{dataLength, nodePlace, storePlace, readyPlace, heldPlace, plansPlace, planPlace, planIn, heldIn, stateLength}
 use Rattle.form.specs.Own.{isOwn}
 use Rattle.form.specs.Typed.{Many, none, more, AnyPace, DataTyped, SetPointTyped, StoreTyped, MoveTyped, PlanTyped, Typed}
 use Rattle.form.proofs.Rows.{each-at}
@@ -31,11 +31,11 @@ use Rattle.form.proofs.Back.{state-back}
 
 -- ---- lists of bytes that are the same
 
-same-bytes : (xs : List ℕ) → sameBy eqb xs xs ≡ true
+pub same-bytes : (xs : List ℕ) → sameBy eqb xs xs ≡ true
 same-bytes [] = refl
 same-bytes (x ∷ xs) = rw (eq-eqb x x refl) (same-bytes xs)
 
-are-same : (xs ys : List ℕ) → sameBy eqb xs ys ≡ true → xs ≡ ys
+pub are-same : (xs ys : List ℕ) → sameBy eqb xs ys ≡ true → xs ≡ ys
 are-same [] [] h = refl
 are-same [] (y ∷ ys) h = absurd (false≢true h)
 are-same (x ∷ xs) [] h = absurd (false≢true h)
@@ -113,6 +113,11 @@ module _ (bs : List ℕ) (fits : (i : ℕ) → getD bs i 0 < 256) where
 pub plan-stands : (bs : List ℕ) (p : ℕ) → p < 2 * eachWay → planIn bs p ≡ planAt (planPlace p) bs
 unfolding stateOf
 plan-stands bs p h = each-at (2 * eachWay) plansPlace planLength (λ i. planAt i bs) _ p h
+
+-- the held frame that they hold for a receive PDO, where it stands
+pub held-stands : (bs : List ℕ) (p : ℕ) → p < eachWay → heldIn bs p ≡ dataAt (heldPlace + dataLength * p) bs
+unfolding stateOf
+held-stands bs p h = each-at eachWay heldPlace dataLength (λ i. dataAt i bs) _ p h
 
 -- ---- THE LAWS
 

@@ -1,14 +1,13 @@
 -- Things written into bytes one after another, and how long they are.
 -- Assumes nothing.
 use Prim.Native.Nat.{ℕ, zero, suc, _+_, _*_, _<_, _≤_}
-use native.Mathlib.Nat.{add-zero}
 use native.Mathlib.Numerals.{add-one, towards-suc}
 use native.Mathlib.Omega.{arith}
 use mathlib.Core.Path.{_≡_, refl, sym, _∙_, ap}
-use mathlib.Core.List.{List, [], _∷_, _++_, map}
+use mathlib.Core.List.{List, [], _∷_, _++_}
 use borrow.Author.Count.{below-more}
-use lib.ListN.{length, getD, set, take, drop, length-append, length-drop, length-map, length-set, drop-of-length-le}
-use lib.Seq.{sets, sets-eq, length-sets, drop-cons, take-all, set-comm}
+use lib.ListN.{length, getD, set, take, drop, length-append, length-drop, drop-of-length-le}
+use lib.Seq.{sets, sets-eq, length-sets, drop-cons, take-all}
 use Rattle.rules_dictionary.specs.Numbers.{bytes}
 use Rattle.rules_dictionary.specs.Table.{eachWay}
 use Rattle.rules_dictionary.specs.declared.Move.{Move}

@@ -344,6 +344,10 @@ stateOf bs =
 abbrev pub planIn : List ℕ → ℕ → Plan
 planIn bs p = getD (stateOf bs .axis .plans) p (record { count = 0; moves = [] })
 
+-- the held frame that they hold for a receive PDO
+abbrev pub heldIn : List ℕ → ℕ → PdoData
+heldIn bs p = getD (stateOf bs .axis .held) p (record { length = 0; bytes = [] })
+
 -- are the bytes the form of the state that they hold
 unfoldable pub isForm : List ℕ → Bool
 isForm bs = sameBy eqb (form (stateOf bs)) bs

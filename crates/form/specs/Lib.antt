@@ -1,3 +1,4 @@
 pub mod Form
 pub mod Typed
 pub mod Own
+pub mod Holding

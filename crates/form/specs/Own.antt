@@ -1,7 +1,6 @@
 -- Which bytes are a state's form, tested where bytes can be another's: the numbers of enums, flags, set-points that a store does not
 -- hold, and the zero byte of each move. Every other byte is its own form. Assumes nothing.
 use Prim.Native.Nat.{ℕ, _+_, _*_, _^_}
-use mathlib.Core.Path.{_≡_}
 use mathlib.Core.Bool.{Bool, _&&_, cond}
 use mathlib.Core.List.{List}
 use lib.Dec.{eqb, ltb}

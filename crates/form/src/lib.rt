@@ -1,12 +1,13 @@
 // The state as bytes of one length, and back: each state has one form. The layout is specs/Form.antt.
 // node: the node's part. axis_drive: the drive's. pdos: plans, data and what is kept for each PDO. own: which bytes are a form's.
-// layout: where the parts stand.
+// putting: one part put into bytes that hold a state. layout: where the parts stand.
 
 mod axis_drive;
 pub mod layout;
 mod node;
 mod own;
 mod pdos;
+mod putting;
 
 pub use axis_drive::read_drive;
 use drive::Drive;
@@ -14,19 +15,29 @@ pub use node::read_node;
 pub use own::bits_of_words;
 use own::both;
 pub use pdos::read_frame;
-pub use pdos::read_held;
+pub use pdos::read_held_frame;
 pub use pdos::read_paces;
 pub use pdos::read_plan;
+pub use pdos::read_plans;
 pub use pdos::read_ready;
 pub use pdos::write_plans;
+pub use putting::put_drive;
+pub use putting::put_heartbeat;
+pub use putting::put_held;
+pub use putting::put_node;
+pub use putting::put_none_held;
+pub use putting::put_paces;
+pub use putting::put_plans;
+pub use putting::put_ready;
 use rules_dictionary::PdoData;
+use state::Axis;
 use state::Node;
 use state::Pace;
 use state::State;
 ghost use mathlib.Core.Path.{_≡_};
 ghost use mathlib.Core.List.{[]};
 ghost use lib.ListN.{length};
-ghost use Rattle.form.specs.Form.{stateLength, form, withPlans, formOver};
+ghost use Rattle.form.specs.Form.{stateLength, stateOf, form, withPlans, formOver};
 ghost use Rattle.form.specs.Own.{headOwn};
 ghost use Rattle.form.specs.Typed.{HeadTyped, Typed};
 
@@ -73,6 +84,23 @@ pub fn form_of(s: State) -> [u8; layout::STATE_LENGTH]
     let mut bytes = [0u8; layout::STATE_LENGTH];
     write_state(&mut bytes, s);
     bytes
+}
+
+// The state that the bytes hold.
+pub fn state_of(bytes: &[u8]) -> State
+    requires { ⌜ length (now bytes) ≡ stateLength ⌝ }
+    ensures { λ r. ⌜ r ≡ stateOf (now (bytes .entry)) ⌝ }
+{
+    State {
+        node: read_node(bytes),
+        axis: Axis {
+            drive: read_drive(bytes),
+            plans: read_plans(bytes),
+            ready: read_ready(bytes),
+            held: pdos::read_held(bytes),
+            paces: read_paces(bytes),
+        },
+    }
 }
 
 // Whether all bytes but the plans' are a state's form.

@@ -20,7 +20,7 @@ ghost use lib.ListN.{length};
 ghost use lib.Seq.{sets};
 ghost use Rattle.rules_dictionary.specs.Table.{eachWay, mostMoves};
 ghost use Rattle.form.specs.Form.{each, dataLength, dataAt, moveLength, moveAt, planLength, planAt, paceLength, paceAt};
-ghost use Rattle.form.specs.Form.{stateLength, stateOf, planIn, pacesPlace, plansPlace, joined, dataForm, paceForm, moveForm, planForm};
+ghost use Rattle.form.specs.Form.{stateLength, stateOf, planIn, heldIn, pacesPlace, plansPlace, joined, dataForm, paceForm, moveForm, planForm};
 ghost use Rattle.form.specs.Typed.{Many, AnyPace, DataTyped, MoveTyped, PlanTyped};
 ghost use Rattle.form.specs.Own.{pacesOwn};
 
@@ -82,6 +82,14 @@ pub fn read_held(bytes: &[u8]) -> [PdoData; 4]
     ensures { λ r. ⌜ r ≡ stateOf (now (bytes .entry)) .axis .held ⌝ }
 {
     read_frames(bytes, layout::HELD)
+}
+
+// The held frame of receive PDO p.
+pub fn read_held_frame(bytes: &[u8], p: usize) -> PdoData
+    requires { ⌜ (length (now bytes) ≡ stateLength) × (p < eachWay) ⌝ }
+    ensures { λ r. ⌜ r ≡ heldIn (now (bytes .entry)) p ⌝ }
+{
+    read_frame(bytes, layout::HELD + layout::FRAME_LENGTH * p)
 }
 
 // What is kept of a transmit PDO, at a place.
@@ -159,8 +167,32 @@ pub fn read_plan(bytes: &[u8], p: usize) -> Plan
     plan_at(bytes, layout::PLANS + layout::PLAN_LENGTH * p)
 }
 
+// The plans of the eight PDOs.
+pub fn read_plans(bytes: &[u8]) -> [Plan; 8]
+    requires { ⌜ length (now bytes) ≡ stateLength ⌝ }
+    ensures { λ r. ⌜ r ≡ stateOf (now (bytes .entry)) .axis .plans ⌝ }
+{
+    let second = layout::PLANS + layout::PLAN_LENGTH;
+    let third = second + layout::PLAN_LENGTH;
+    let fourth = third + layout::PLAN_LENGTH;
+    let fifth = fourth + layout::PLAN_LENGTH;
+    let sixth = fifth + layout::PLAN_LENGTH;
+    let seventh = sixth + layout::PLAN_LENGTH;
+    let eighth = seventh + layout::PLAN_LENGTH;
+    [
+        plan_at(bytes, layout::PLANS),
+        plan_at(bytes, second),
+        plan_at(bytes, third),
+        plan_at(bytes, fourth),
+        plan_at(bytes, fifth),
+        plan_at(bytes, sixth),
+        plan_at(bytes, seventh),
+        plan_at(bytes, eighth),
+    ]
+}
+
 // Data into the bytes at a place.
-fn write_frame(bytes: &mut [u8], place: usize, frame: PdoData)
+pub fn write_frame(bytes: &mut [u8], place: usize, frame: PdoData)
     requires { ⌜ place + dataLength ≤ length (now bytes) ⌝ }
     ensures { λ r. ⌜ (now (bytes .exit) ≡ sets (now (bytes .entry)) place (dataForm frame)) × DataTyped frame ⌝ }
 {

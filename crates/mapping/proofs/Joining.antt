@@ -10,9 +10,10 @@ use lib.Dec.{eqb}
 use lib.ListN.{length, drop, getD, drop-of-length-le}
 use lib.Seq.{drop-cons}
 use Rattle.rules_dictionary.specs.Numbers.{value, areBytes}
-use Rattle.rules_dictionary.proofs.Tests.{and-left, and-right, and-both}
+use Rattle.rules_dictionary.proofs.Tests.{and-both}
 use Rattle.rules_dictionary.proofs.Rows.{bytes-value}
 use Rattle.rules.specs.Outcome.{sameBy}
+use Rattle.form.proofs.OneForm.{are-same, same-bytes}
 
 -- ---- bytes by their places
 
@@ -52,19 +53,6 @@ module _ (xs : List ℕ) (l : length xs ≡ 8) where
 
 -- ---- equal values, equal bytes
 
-same-bytes : (xs ys : List ℕ) → sameBy eqb xs ys ≡ true → xs ≡ ys
-same-bytes [] [] h = refl
-same-bytes [] (y ∷ ys) h = absurd (true≢false (sym h))
-same-bytes (x ∷ xs) [] h = absurd (true≢false (sym h))
-same-bytes (x ∷ xs) (y ∷ ys) h =
-    let e : x ≡ y = eqb-true x y (and-left (eqb x y) _ h) in
-    let r : xs ≡ ys = same-bytes xs ys (and-right (eqb x y) _ h) in
-    rw (e, r)
-
-bytes-same : (xs : List ℕ) → sameBy eqb xs xs ≡ true
-bytes-same [] = refl
-bytes-same (x ∷ xs) = and-both _ _ (eq-eqb x x refl) (bytes-same xs)
-
 -- THE LAW: bytes of one number are the same where their values are
 pub same-value : (xs ys : List ℕ) (n : ℕ) → length xs ≡ n → length ys ≡ n → areBytes xs ≡ true → areBytes ys ≡ true →
     eqb (value xs) (value ys) ≡ sameBy eqb xs ys
@@ -75,6 +63,6 @@ same-value xs ys n l m a b = go (sameBy eqb xs ys) refl (eqb (value xs) (value y
 
     go : (s : Bool) → sameBy eqb xs ys ≡ s → (v : Bool) → eqb (value xs) (value ys) ≡ v → v ≡ s
     go true e true f = refl
-    go true e false f = absurd (true≢false (sym (eq-eqb (value xs) (value ys) (ap value (same-bytes xs ys e))) ∙ f))
-    go false e true f = absurd (true≢false (sym (ap (sameBy eqb xs) (sym (back (eqb-true _ _ f))) ∙ bytes-same xs) ∙ e))
+    go true e false f = absurd (true≢false (sym (eq-eqb (value xs) (value ys) (ap value (are-same xs ys e))) ∙ f))
+    go false e true f = absurd (true≢false (sym (ap (sameBy eqb xs) (sym (back (eqb-true _ _ f))) ∙ same-bytes xs) ∙ e))
     go false e false f = refl

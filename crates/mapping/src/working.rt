@@ -6,15 +6,12 @@ ghost use Rattle.rules_dictionary.specs.Table.{dictionaryLength};
 ghost use Rattle.dictionary.specs.Sizes.{IsPdo};
 ghost use Rattle.mapping.specs.Working.{isOpen};
 
-// Bit 31 of an identifier's word: the PDO is not valid.
-const INVALID: u32 = 0x8000_0000;
-
 // Whether a PDO is valid, with something mapped.
 pub fn is_open(d: &[u8], p: usize) -> bool
     requires { ⌜ (length (now d) ≡ dictionaryLength) × IsPdo p ⌝ }
     ensures { λ r. ⌜ r ≡ isOpen (now (d .entry)) p ⌝ }
 {
-    if INVALID <= records::identifier(d, p) {
+    if records::INVALID <= records::identifier(d, p) {
         return false;
     }
     0 < records::map_count(d, p)

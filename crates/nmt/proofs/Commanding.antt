@@ -16,17 +16,18 @@ use Rattle.state.specs.declared.State.{State}
 use Rattle.state.specs.NmtStates.{isOperational}
 use Rattle.rules_dictionary.specs.declared.PdoData.{PdoData}
 use Rattle.rules_dictionary.specs.Numbers.{filter}
-use Rattle.rules_dictionary.specs.Table.{Row, table, isReset}
+use Rattle.rules_dictionary.specs.Table.{table, isReset}
 use Rattle.rules_dictionary.specs.Values.{stored, toDefaults}
 use Rattle.rules_services.specs.Effects.{Frame, Effect, becomes, sends, writes, on, withNmt, withHeartbeat}
-use Rattle.rules_services.specs.Nmt.{nmt, nmtLength, everyNode, start, commandOf, commanded, bootUp}
+use Rattle.rules_services.specs.Nmt.{nmt, nmtLength, everyNode, start, commandOf, commanded, bootUp, freshState, powerUp}
 use Rattle.rules.specs.Outcome.{sentInto}
-use Rattle.output.specs.declared.Parts.{Parts}
+use Rattle.form.specs.Holding.{Holds}
+use Rattle.output.specs.declared.Done.{Done}
 use Rattle.output.specs.Laying.{IsData, dataOf}
-use Rattle.output.specs.Leaves.{touches, remaps, partsOf, became, Leaves, Rests}
+use Rattle.output.specs.Leaves.{touches, remaps, keeping, Leaves, Rests, nothingDone}
 use Rattle.output.proofs.Frames.{length-data}
 use Rattle.output.proofs.Left.{left-as, loud}
-use Rattle.nmt.specs.Commanding.{isForNode, ticked}
+use Rattle.nmt.specs.Commanding.{isForNode, Starts, ticked}
 
 -- ---- which frames are commands for this node
 
@@ -49,17 +50,17 @@ module _ (content : PdoData) (is : IsData content) (s : State) where
 
 -- ---- a service that changes nothing but the state
 
-pub restated : (s t : State) (d o : List ℕ) → Leaves (becomes t) d o (became (partsOf t) false) d o × Rests s (becomes t) (became (partsOf t) false)
-restated s t d o = (left-as t (partsOf t) false d o refl, loud s (becomes t) (became (partsOf t) false) refl)
+pub restated : {bs : List ℕ} (s t : State) (d o : List ℕ) → Holds bs (keeping s t) →
+    Leaves s (becomes t) d o (nothingDone false) bs d o × Rests s (becomes t) (nothingDone false)
+restated s t d o h = (left-as s t false d o h, loud s (becomes t) (nothingDone false) refl)
 
 -- a tick that counts, with nothing left to do
-pub counted : (s : State) (count : ℕ) (fs : List Frame) (d o : List ℕ) →
-    Leaves (on Ticked (sends fs (becomes (withHeartbeat count s)))) d o (ticked (partsOf (withHeartbeat count s)) (length (fs ++ [])))
-    d (sentInto o (fs ++ []))
-    × Rests s (on Ticked (sends fs (becomes (withHeartbeat count s)))) (ticked (partsOf (withHeartbeat count s)) (length (fs ++ [])))
+pub counted : {bs : List ℕ} (s : State) (count : ℕ) (fs : List Frame) (d o : List ℕ) → Holds bs (withHeartbeat count s) →
+    Leaves s (on Ticked (sends fs (becomes (withHeartbeat count s)))) d o (ticked (length (fs ++ []))) bs d (sentInto o (fs ++ []))
+    × Rests s (on Ticked (sends fs (becomes (withHeartbeat count s)))) (ticked (length (fs ++ [])))
 unfolding stored
-counted s count fs d o = (
-  record { parts = refl; frames = refl; touched = refl; remapped = refl; occasion = refl; dictionary = refl; output = refl },
+counted s count fs d o h = (
+  record { state = h; frames = refl; touched = refl; remapped = refl; occasion = refl; dictionary = refl; output = refl },
   λ _. record { writes = refl; occasion = refl; nmt = refl; voltage = refl; drive = refl },
 )
 
@@ -77,20 +78,55 @@ operational s = go (s .node .nmt) refl
 -- ---- 81h, 82h and power-up
 
 -- none of them may be mapped to transmit, and mappings are among them
-pub reset-writes : (n : ℕ) → (touches (toDefaults n (filter isReset table)) ≡ false) × (remaps (toDefaults n (filter isReset table)) ≡ true)
+reset-writes : (n : ℕ) → (touches (toDefaults n (filter isReset table)) ≡ false) × (remaps (toDefaults n (filter isReset table)) ≡ true)
 unfolding table isReset
 reset-writes n = (refl, refl)
 
 -- of all objects there are some of both
-pub all-writes : (n : ℕ) → (touches (toDefaults n table) ≡ true) × (remaps (toDefaults n table) ≡ true)
+all-writes : (n : ℕ) → (touches (toDefaults n table) ≡ true) × (remaps (toDefaults n table) ≡ true)
 unfolding table
 all-writes n = (refl, refl)
 
--- THE LAW: objects set back on node n, and its boot-up
-pub set-back : (n : ℕ) (rows : List Row) (s : State) (p : Parts) (touched : Bool) (d o d′ o′ : List ℕ) → p ≡ partsOf s →
-    (touches (toDefaults n rows) ≡ touched) × (remaps (toDefaults n rows) ≡ true) → d′ ≡ stored (toDefaults n rows) d → o′ ≡ sentInto o (bootUp n) →
-    Leaves (writes (toDefaults n rows) (sends (bootUp n) (becomes s))) d o
-    (record { parts = p; frames = 1; touched = touched; remapped = true; occasion = Plain; quiet = false }) d′ o′
-set-back n rows s p touched d o d′ o′ e t w b =
-    rw (append-nil (toDefaults n rows))
-    (record { parts = e; frames = refl; touched = sym (t .0); remapped = sym (t .1); occasion = refl; dictionary = w; output = b })
+-- THE LAWS: objects set back on node n, and its boot-up
+pub set-back : {bs : List ℕ} (n : ℕ) (s t : State) (d o d′ o′ : List ℕ) → Holds bs (keeping s t) →
+    d′ ≡ stored (toDefaults n (filter isReset table)) d → o′ ≡ sentInto o (bootUp n) →
+    Leaves s (writes (toDefaults n (filter isReset table)) (sends (bootUp n) (becomes t))) d o
+    (record { frames = 1; touched = false; remapped = true; occasion = Plain; quiet = false }) bs d′ o′
+set-back n s t d o d′ o′ h w b =
+    let writes = reset-writes n in
+    rw (append-nil (toDefaults n (filter isReset table)))
+    (record { state = h; frames = refl; touched = sym (writes .0); remapped = sym (writes .1); occasion = refl; dictionary = w; output = b })
+
+pub starts : (n : ℕ) (d o d′ o′ : List ℕ) → d′ ≡ stored (toDefaults n table) d → o′ ≡ sentInto o (bootUp n) →
+    Starts n d o (record { frames = 1; touched = true; remapped = true; occasion = Plain; quiet = false }) d′ o′
+unfolding powerUp
+starts n d o d′ o′ w b =
+    let all = append-nil (toDefaults n table) in
+    let writes = all-writes n in
+    record {
+      frames = refl;
+      touched = rw all (sym (writes .0));
+      remapped = rw all (sym (writes .1));
+      occasion = refl;
+      dictionary = rw all w;
+      output = b;
+      loud = refl;
+      anew = refl;
+    }
+
+-- a start, with its state
+pub started : {bs : List ℕ} (n : ℕ) (s : State) (d o : List ℕ) (r : Done) (d′ o′ : List ℕ) → Holds bs (keeping s (freshState n)) →
+    Starts n d o r d′ o′ → Leaves s (powerUp n) d o r bs d′ o′ × Rests s (powerUp n) r
+unfolding powerUp
+started n s d o r d′ o′ h st = (
+  record {
+    state = h;
+    frames = st .frames;
+    touched = st .touched;
+    remapped = st .remapped;
+    occasion = st .occasion;
+    dictionary = st .dictionary;
+    output = st .output;
+  },
+  loud s (powerUp n) r (st .loud),
+)

@@ -6,20 +6,16 @@ use mathlib.Core.List.{List}
 use mathlib.Core.Bool.{Bool, true, false, _&&_, _||_}
 use lib.Dec.{eqb}
 use lib.ListN.{length, getD}
-use Rattle.drive.specs.declared.Command.the-variants.{DisableVoltage}
-use Rattle.drive.specs.declared.Drive.{Drive}
-use Rattle.drive.specs.DriveStates.{next}
-use Rattle.drive.specs.SetPoints.{enters}
-use Rattle.state.specs.declared.NmtState.{NmtState}
 use Rattle.state.specs.declared.Occasion.the-variants.{Ticked}
-use Rattle.state.specs.declared.Node.{Node}
 use Rattle.rules_dictionary.specs.declared.PdoData.{PdoData}
 use Rattle.rules_dictionary.specs.Table.{dictionaryLength}
 use Rattle.rules_dictionary.specs.TheNode.{firstNode, lastNode}
-use Rattle.rules_services.specs.Nmt.{nmtLength, everyNode}
-use Rattle.rules.specs.Outcome.{frameSize}
+use Rattle.rules_dictionary.specs.Values.{stored}
+use Rattle.rules_services.specs.Nmt.{nmtLength, everyNode, powerUp}
+use Rattle.rules.specs.Outcome.{frameSize, sentInto}
+use Rattle.form.specs.Form.{stateOf}
 use Rattle.output.specs.declared.Done.{Done}
-use Rattle.output.specs.declared.Parts.{Parts}
+use Rattle.output.specs.Leaves.{Lent, touches, remaps}
 
 -- what setting objects back on node n needs
 pub record MayReset (n : ℕ) (d o : List ℕ) : Type 0 where
@@ -28,19 +24,27 @@ pub record MayReset (n : ℕ) (d o : List ℕ) : Type 0 where
   pub first : firstNode ≤ n
   pub last : n ≤ lastNode
 
+-- what a command needs of the lent bytes
+pub record Commandable (bs d o : List ℕ) : Type 0 where
+  pub lent : Lent frameSize bs d o
+  pub first : firstNode ≤ stateOf bs .node .id
+
 -- "length 2, node 0 or N"
 abbrev pub isForNode : PdoData → ℕ → Bool
 isForNode content n =
     eqb (content .length) nmtLength && (eqb (getD (content .bytes) 1 0) everyNode || eqb (getD (content .bytes) 1 0) n)
 
--- a drive after Disable voltage
-abbrev pub disabled : Drive → Drive
-disabled v = enters (next (v .cause) (v .state) DisableVoltage) v
+-- THE PROMISE of a start of node n: of power-up all but the state; it is never quiet, and every mapping is written
+pub record Starts (n : ℕ) (d o : List ℕ) (r : Done) (d′ o′ : List ℕ) : Type 0 where
+  pub frames : r .frames ≡ length (powerUp n .sent)
+  pub touched : r .touched ≡ touches (powerUp n .writes)
+  pub remapped : r .remapped ≡ remaps (powerUp n .writes)
+  pub occasion : r .occasion ≡ powerUp n .occasion
+  pub dictionary : d′ ≡ stored (powerUp n .writes) d
+  pub output : o′ ≡ sentInto o (powerUp n .sent)
+  pub loud : r .quiet ≡ false
+  pub anew : r .remapped ≡ true
 
--- that node in that NMT state, with that drive and those held frames
-abbrev pub entered : Node → NmtState → Drive → List PdoData → Parts
-entered n m v held = record { node = record { id = n .id; nmt = m; voltage = n .voltage; heartbeat = n .heartbeat }; drive = v; held = held }
-
--- what a tick leaves beside the output
-abbrev pub ticked : Parts → ℕ → Done
-ticked parts frames = record { parts = parts; frames = frames; touched = false; remapped = false; occasion = Ticked; quiet = true }
+-- what a tick leaves beside the lent bytes
+abbrev pub ticked : ℕ → Done
+ticked frames = record { frames = frames; touched = false; remapped = false; occasion = Ticked; quiet = true }

@@ -1,17 +1,22 @@
 // An NMT frame: "Identifier 0, length 2, node 0 or N"; what each command does.
 ghost use mathlib.Core.Path.{_≡_};
+ghost use lib.ListN.{length};
+ghost use Rattle.rules_services.specs.Effects.{withNmt, withHeld};
+ghost use Rattle.rules_services.specs.PdoTraffic.{noneHeld};
 ghost use Rattle.rules_services.specs.Nmt.{nmt, commandOf, commanded};
+ghost use Rattle.form.specs.Form.{stateLength};
+ghost use Rattle.form.specs.Holding.{Puts};
 ghost use Rattle.output.specs.Laying.{OnBus, dataOf};
-ghost use Rattle.output.specs.Leaves.{LeavesBy};
-ghost use Rattle.nmt.specs.Commanding.{entered, isForNode, MayReset};
-use crate::resets::disabled;
-use crate::resets::none_held;
+ghost use Rattle.output.specs.Leaves.{LeavesIn};
+ghost use Rattle.nmt.specs.Commanding.{isForNode, Commandable};
+use crate::resets::disable_voltage;
 use crate::resets::reset_communication;
-use crate::resets::start;
-use drive::Drive;
+use crate::resets::restart;
+use form::put_node;
+use form::put_none_held;
+use form::read_node;
 use output::Done;
-use output::Parts;
-use output::becomes;
+use output::nothing_done;
 use rules_dictionary::PdoData;
 use state::NmtState;
 use state::Node;
@@ -20,51 +25,60 @@ const COMMAND_LENGTH: u8 = 2;
 
 const EVERY_NODE: u8 = 0;
 
-// That node in that NMT state, with that drive and those held frames.
-fn entered(node: Node, nmt: NmtState, drive: Drive, held: [PdoData; 4]) -> Parts
-    ensures { λ r. ⌜ r ≡ entered node nmt drive held ⌝ }
+// The node in that NMT state.
+fn enter(state: &mut [u8], nmt: NmtState)
+    requires { ⌜ length (now state) ≡ stateLength ⌝ }
+    ensures { λ r. ⌜ Puts (withNmt nmt) (now (state .entry)) (now (state .exit)) ⌝ }
 {
-    Parts {
-        node: Node {
+    let node = read_node(state);
+    put_node(
+        state,
+        Node {
             id: node.id,
             nmt: nmt,
             voltage: node.voltage,
             heartbeat: node.heartbeat,
         },
-        drive: drive,
-        held: held,
-    }
+    );
+}
+
+// The node in that NMT state, where receive PDOs do not work: no held frames.
+fn leave(state: &mut [u8], nmt: NmtState)
+    requires { ⌜ length (now state) ≡ stateLength ⌝ }
+    ensures { λ r. ⌜ Puts (λ s. withNmt nmt (withHeld noneHeld s)) (now (state .entry)) (now (state .exit)) ⌝ }
+{
+    enter(state, nmt);
+    put_none_held(state);
 }
 
 // A command for this node: "01h Operational, 02h Stopped, 80h Pre-operational, 81h as power-up, 82h ..". One that is unknown changes nothing.
-fn command(c: u8, parts: Parts, d: &mut [u8], output: &mut [u8]) -> Done
-    requires { ⌜ MayReset (parts .node .id) (now d) (now output) ⌝ }
-    ensures { λ r. ⌜ LeavesBy parts (λ s d. commanded (commandOf c) s)
-        (now (d .entry)) (now (output .entry)) r (now (d .exit)) (now (output .exit)) ⌝ }
+fn command(c: u8, state: &mut [u8], d: &mut [u8], output: &mut [u8]) -> Done
+    requires { ⌜ Commandable (now state) (now d) (now output) ⌝ }
+    ensures { λ r. ⌜ LeavesIn (λ s d. commanded (commandOf c) s) (now (state .entry)) (now (d .entry)) (now (output .entry))
+        r (now (state .exit)) (now (d .exit)) (now (output .exit)) ⌝ }
 {
-    let node = parts.node;
-    let nmt = node.nmt;
-    let drive = parts.drive;
-    let held = parts.held;
     match c {
-        0x01 => becomes(entered(node, NmtState::Operational, drive, held), false),
-        0x02 => becomes(
-            entered(node, NmtState::Stopped, disabled(drive), none_held()),
-            false,
-        ),
-        0x80 => {
-            if nmt.is_pre_operational() {
-                becomes(parts, false)
-            } else {
-                becomes(
-                    entered(node, NmtState::PreOperational, drive, none_held()),
-                    false,
-                )
-            }
+        0x01 => {
+            enter(state, NmtState::Operational);
+            nothing_done(false)
         }
-        0x81 => start(d, output, node.id),
-        0x82 => reset_communication(parts, d, output),
-        _ => becomes(parts, false),
+        0x02 => {
+            disable_voltage(state);
+            leave(state, NmtState::Stopped);
+            nothing_done(false)
+        }
+        0x80 => {
+            let node = read_node(state);
+            let nmt = node.nmt;
+            if nmt.is_pre_operational() {
+                return nothing_done(false);
+            }
+            leave(state, NmtState::PreOperational);
+            nothing_done(false)
+        }
+        0x81 => restart(state, d, output),
+        0x82 => reset_communication(state, d, output),
+        _ => nothing_done(false),
     }
 }
 
@@ -77,13 +91,14 @@ fn is_for_node(content: PdoData, id: u8) -> bool
 }
 
 // An NMT frame; one of another length or for another node changes nothing.
-pub fn nmt_frame(content: PdoData, parts: Parts, d: &mut [u8], output: &mut [u8]) -> Done
-    requires { ⌜ MayReset (parts .node .id) (now d) (now output) × OnBus content ⌝ }
-    ensures { λ r. ⌜ LeavesBy parts (λ s d. nmt (dataOf content) s)
-        (now (d .entry)) (now (output .entry)) r (now (d .exit)) (now (output .exit)) ⌝ }
+pub fn nmt_frame(content: PdoData, state: &mut [u8], d: &mut [u8], output: &mut [u8]) -> Done
+    requires { ⌜ Commandable (now state) (now d) (now output) × OnBus content ⌝ }
+    ensures { λ r. ⌜ LeavesIn (λ s d. nmt (dataOf content) s) (now (state .entry)) (now (d .entry)) (now (output .entry))
+        r (now (state .exit)) (now (d .exit)) (now (output .exit)) ⌝ }
 {
-    if is_for_node(content, parts.node.id) {
-        return command(content.bytes[0], parts, d, output);
+    let node = read_node(state);
+    if is_for_node(content, node.id) {
+        return command(content.bytes[0], state, d, output);
     }
-    becomes(parts, true)
+    nothing_done(true)
 }

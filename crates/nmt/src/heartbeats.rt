@@ -5,15 +5,15 @@ ghost use Prim.Native.Nat.{_+_, _≤_};
 ghost use lib.ListN.{length};
 ghost use Rattle.state.specs.declared.Occasion.the-variants.{Ticked};
 ghost use Rattle.rules_dictionary.specs.Plans.{pdoData};
-ghost use Rattle.rules_dictionary.specs.Table.{dictionaryLength};
-ghost use Rattle.rules_services.specs.Effects.{frame, on, withHeartbeat};
+ghost use Rattle.rules_services.specs.Effects.{frame, on};
 ghost use Rattle.rules_services.specs.Nmt.{heartbeatBase, stateByte, bootUp, tick};
 ghost use Rattle.rules.specs.Outcome.{frameSize, sentInto};
-ghost use Rattle.output.specs.Leaves.{partsOf, bare, LeavesBy};
+ghost use Rattle.output.specs.Leaves.{Lent, LeavesIn};
 ghost use Rattle.nmt.specs.Commanding.{ticked};
 use dictionary::objects;
+use form::put_heartbeat;
+use form::read_node;
 use output::Done;
-use output::Parts;
 use output::send;
 use rules_dictionary::PdoData;
 use state::NmtState;
@@ -62,21 +62,11 @@ pub fn boot_up(output: &mut [u8], n: u8)
     send_byte(output, n, BOOT_UP);
 }
 
-// Those parts of the state, with that count of ticks since the last heartbeat.
-fn counted(parts: Parts, count: u16) -> Parts
-    ensures { λ r. ⌜ r ≡ partsOf (withHeartbeat count (bare parts)) ⌝ }
-{
-    let mut next = parts;
-    next.node.heartbeat = count;
-    next
-}
-
-// A tick that leaves those parts. Nothing is left to do after it: the count is neither in the dictionary nor shown.
-fn ticked(parts: Parts, frames: usize) -> Done
-    ensures { λ r. ⌜ r ≡ ticked parts frames ⌝ }
+// A tick with so many frames. Nothing is left to do after it: the count is neither in the dictionary nor shown.
+fn ticked(frames: usize) -> Done
+    ensures { λ r. ⌜ r ≡ ticked frames ⌝ }
 {
     Done {
-        parts: parts,
         frames: frames,
         touched: false,
         remapped: false,
@@ -86,20 +76,22 @@ fn ticked(parts: Parts, frames: usize) -> Done
 }
 
 // 1 ms on: the heartbeat "each 1017h ticks, in all states".
-pub fn tick(parts: Parts, d: &[u8], output: &mut [u8]) -> Done
-    requires { ⌜ (length (now d) ≡ dictionaryLength) × (frameSize ≤ length (now output)) ⌝ }
-    ensures { λ r. ⌜ LeavesBy parts (λ s d. on Ticked (tick s d))
-        (now (d .entry)) (now (output .entry)) r (now (d .entry)) (now (output .exit)) ⌝ }
+pub fn tick(state: &mut [u8], d: &[u8], output: &mut [u8]) -> Done
+    requires { ⌜ Lent frameSize (now state) (now d) (now output) ⌝ }
+    ensures { λ r. ⌜ LeavesIn (λ s d. on Ticked (tick s d)) (now (state .entry)) (now (d .entry)) (now (output .entry))
+        r (now (state .exit)) (now (d .entry)) (now (output .exit)) ⌝ }
 {
     let period = objects::heartbeat_time(d);
-    let node = parts.node;
-    let nmt = node.nmt;
     if period == 0 {
-        return ticked(parts, 0);
+        return ticked(0);
     }
+    let node = read_node(state);
+    let nmt = node.nmt;
     if node.heartbeat < period - 1 {
-        return ticked(counted(parts, node.heartbeat + 1), 0);
+        put_heartbeat(state, node.heartbeat + 1);
+        return ticked(0);
     }
+    put_heartbeat(state, 0);
     send_byte(output, node.id, state_byte(nmt));
-    ticked(counted(parts, 0), 1)
+    ticked(1)
 }

@@ -1,6 +1,6 @@
 -- Frames in the output: the frame that `send` lays is the encoded one; frames emitted, one after another.
 -- Assumes nothing.
-use Prim.Native.Nat.{ℕ, zero, suc, _+_, _-_, _*_, _/_, _%_, _<_, _≤_}
+use Prim.Native.Nat.{ℕ, suc, _+_, _-_, _*_, _/_, _%_, _<_, _≤_}
 use native.Mathlib.Numerals.{add-one}
 use native.Mathlib.Omega.{arith}
 use mathlib.Core.Path.{_≡_, refl, sym, _∙_, ap}
@@ -10,8 +10,10 @@ use lib.Seq.{sets, paste, paste-suc, take-all, length-take-le, drop-drop, take-a
 use Rattle.rules_dictionary.specs.declared.PdoData.{PdoData}
 use Rattle.rules_dictionary.specs.Numbers.{bytes, padded}
 use Rattle.rules_dictionary.specs.Plans.{pdoData}
+use Rattle.rules_dictionary.proofs.Padded.{length-padded, take-padded}
 use Rattle.rules_services.specs.Effects.{Frame, frame}
 use Rattle.rules.specs.Outcome.{frameSize, mostData, encoded, sentInto}
+use Rattle.rules.proofs.Encoded.{length-encoded}
 use Rattle.output.specs.Laying.{headSize, framed, IsData, frameOf, emitted}
 
 -- ---- what the code leaves
@@ -37,20 +39,10 @@ head-and-data (x ∷ y ∷ z ∷ o) i content h l = rw (take-all mostData (conte
 
 -- ---- for the callers
 
--- eleven bytes, both ways
-length-padded : (k : ℕ) (xs : List ℕ) → length (padded 0 k xs) ≡ k
-length-padded zero xs = refl
-length-padded (suc k) [] = ap suc (length-padded k [])
-length-padded (suc k) (x ∷ xs) = ap suc (length-padded k xs)
-
-pub length-encoded : (f : Frame) → length (encoded f) ≡ frameSize
-unfolding encoded bytes
-length-encoded f = ap (λ (k : ℕ). suc (suc (suc k))) (length-padded mostData (f .content))
-
 -- data is as long as it says
 pub length-data : (content : PdoData) → IsData content → length (take (content .length) (content .bytes)) ≡ content .length
 length-data content h =
-    let l : length (content .bytes) ≡ mostData = ap length (h .zeros) ∙ length-padded mostData (take (content .length) (content .bytes)) in
+    let l : length (content .bytes) ≡ mostData = ap length (h .zeros) ∙ length-padded 0 mostData (take (content .length) (content .bytes)) in
     let k = h .short in
     length-take-le (content .length) (content .bytes) (omega (arith, l, k))
 
@@ -122,15 +114,10 @@ lent-back o part fs n k h p =
 
 -- THE LAWS of data: bytes with zeros behind them are data, and their frame carries the bytes
 
-take-padded : (n : ℕ) (bs : List ℕ) → length bs ≤ n → take (length bs) (padded 0 n bs) ≡ bs
-take-padded n [] h = refl
-take-padded zero (b ∷ bs) h = absurd (omega arith)
-take-padded (suc n) (b ∷ bs) h = ap (λ (l : List ℕ). b ∷ l) (take-padded n bs (omega arith))
-
 pub frame-of-data : (i : ℕ) (bs : List ℕ) → length bs ≤ mostData → frameOf i (pdoData bs) ≡ frame i bs
 unfolding pdoData
-frame-of-data i bs h = ap (frame i) (take-padded mostData bs h)
+frame-of-data i bs h = ap (frame i) (take-padded 0 mostData bs h)
 
 pub is-data : (bs : List ℕ) → length bs ≤ mostData → IsData (pdoData bs)
 unfolding pdoData
-is-data bs h = record { short = h; zeros = ap (padded 0 mostData) (sym (take-padded mostData bs h)) }
+is-data bs h = record { short = h; zeros = ap (padded 0 mostData) (sym (take-padded 0 mostData bs h)) }

@@ -1,39 +1,39 @@
 -- What a service leaves, under another name of its effect; and what is quiet.
 -- Assumes nothing.
-use Prim.Native.Nat.{ℕ}
+use Prim.Native.Nat.{ℕ, _≤_}
 use mathlib.Core.Path.{_≡_, refl, sym, _∙_, subst}
-use mathlib.Core.List.{List, []}
+use mathlib.Core.List.{List}
 use mathlib.Core.Bool.{Bool, true, false, false≢true}
+use lib.ListN.{length}
 use Rattle.state.specs.declared.State.{State}
+use Rattle.rules_dictionary.specs.TheNode.{lastNode}
+use Rattle.rules_dictionary.specs.Table.{dictionaryLength}
 use Rattle.rules_dictionary.specs.Values.{stored}
 use Rattle.rules_services.specs.Effects.{Effect, Frame, becomes, sends}
 use Rattle.rules.specs.Outcome.{sentInto}
-use Rattle.output.specs.declared.Parts.{Parts}
+use Rattle.form.specs.Holding.{Holds}
+use Rattle.form.proofs.Holding.{held-state, held-length}
 use Rattle.output.specs.declared.Done.{Done}
-use Rattle.output.specs.Leaves.{partsOf, Alike, Leaves, Calm, Rests, became}
+use Rattle.output.specs.Leaves.{Lent, keeping, Leaves, Calm, Rests, nothingDone}
 
--- nothing done but to the parts of the state
-pub left-as : (s : State) (p : Parts) (quiet : Bool) (d o : List ℕ) → p ≡ partsOf s → Leaves (becomes s) d o (became p quiet) d o
+-- bytes that hold a state of a legal node-ID, lent
+pub lent : {room : ℕ} {bs d o : List ℕ} {s : State} → Holds bs s → length d ≡ dictionaryLength → room ≤ length o → s .node .id ≤ lastNode →
+    Lent room bs d o
+lent {bs = bs} {s = s} h long room id =
+    let is = held-state h in
+    record { own = subst (Holds bs) (sym is) h; whole = held-length h; long = long; room = room; id = rw is id }
+
+-- the state and nothing else
+pub left-as : {bs : List ℕ} (s t : State) (quiet : Bool) (d o : List ℕ) → Holds bs (keeping s t) →
+    Leaves s (becomes t) d o (nothingDone quiet) bs d o
 unfolding stored sentInto
-left-as s p quiet d o e =
-    record { parts = e; frames = refl; touched = refl; remapped = refl; occasion = refl; dictionary = refl; output = refl }
+left-as s t quiet d o h =
+    record { state = h; frames = refl; touched = refl; remapped = refl; occasion = refl; dictionary = refl; output = refl }
 
 -- another name for the effect
-pub as-effect : {e e′ : Effect} {d o : List ℕ} {r : Done} {d′ o′ : List ℕ} → e′ ≡ e → Leaves e d o r d′ o′ → Leaves e′ d o r d′ o′
-as-effect {e} {e′} {d} {o} {r} {d′} {o′} q h = subst (λ (x : Effect). Leaves x d o r d′ o′) (sym q) h
-
--- an effect that differs in what a service may not change
-pub left-alike : {e e′ : Effect} {d o : List ℕ} {r : Done} {d′ o′ : List ℕ} → Alike e e′ → Leaves e′ d o r d′ o′ → Leaves e d o r d′ o′
-left-alike {e} {e′} {d} {o} {r} {d′} {o′} a h =
-    record {
-      parts = h .parts ∙ sym (a .parts);
-      frames = rw (a .sent) (h .frames);
-      touched = rw (a .writes) (h .touched);
-      remapped = rw (a .writes) (h .remapped);
-      occasion = h .occasion ∙ sym (a .occasion);
-      dictionary = rw (a .writes) (h .dictionary);
-      output = rw (a .sent) (h .output);
-    }
+pub as-effect : {s : State} {e e′ : Effect} {d o : List ℕ} {r : Done} {bs′ d′ o′ : List ℕ} → e′ ≡ e → Leaves s e d o r bs′ d′ o′ →
+    Leaves s e′ d o r bs′ d′ o′
+as-effect {s} {e} {e′} {d} {o} {r} {bs′} {d′} {o′} q h = subst (λ (x : Effect). Leaves s x d o r bs′ d′ o′) (sym q) h
 
 -- what is not quiet says nothing of rest, and a service that only says something is calm
 pub loud : (s : State) (e : Effect) (r : Done) → r .quiet ≡ false → Rests s e r
@@ -41,3 +41,7 @@ loud s e r n q = absurd (false≢true (sym n ∙ q))
 
 pub calm-said : (s : State) (fs : List Frame) → Calm s (sends fs (becomes s))
 calm-said s fs = record { writes = refl; occasion = refl; nmt = refl; voltage = refl; drive = refl }
+
+-- a state that stays is left so
+pub stays : {bs : List ℕ} (s : State) → Holds bs s → Holds bs (keeping s s)
+stays s h = h

@@ -1,6 +1,6 @@
 -- What a service in code leaves, against the effect that the rules give it.
 -- Assumes nothing.
-use Prim.Native.Nat.{ℕ}
+use Prim.Native.Nat.{ℕ, _≤_}
 use mathlib.Core.Path.{_≡_}
 use mathlib.Core.List.{List, []}
 use mathlib.Core.Bool.{Bool, true, false}
@@ -11,12 +11,14 @@ use Rattle.state.specs.Occasions.{isSynced}
 use Rattle.rules_dictionary.specs.Numbers.{any}
 use Rattle.rules_dictionary.specs.declared.Role.{Role}
 use Rattle.rules_dictionary.specs.declared.Role.the-variants.{Plain, ModeOfOperation, PdoIdentifier, PdoType, MappingCount, MappingEntry}
-use Rattle.rules_dictionary.specs.Table.{transmit}
+use Rattle.rules_dictionary.specs.TheNode.{lastNode}
+use Rattle.rules_dictionary.specs.Table.{transmit, dictionaryLength}
 use Rattle.rules_dictionary.specs.Values.{Write, stored}
 use Rattle.rules_dictionary.specs.Legal.{suits}
 use Rattle.rules_services.specs.Effects.{Effect}
 use Rattle.rules.specs.Outcome.{sentInto}
-use Rattle.output.specs.declared.Parts.{Parts}
+use Rattle.form.specs.Form.{stateLength, stateOf}
+use Rattle.form.specs.Holding.{Holds}
 use Rattle.output.specs.declared.Done.{Done}
 
 -- ---- what was written
@@ -38,26 +40,34 @@ isMapping (MappingEntry p) = true
 abbrev pub remaps : List Write → Bool
 remaps ws = any (λ w. isMapping (w .row .role)) ws
 
--- ---- the parts of the state that a service may change
+-- ---- what a service is lent
 
-abbrev pub partsOf : State → Parts
-partsOf s = record { node = s .node; drive = s .axis .drive; held = s .axis .held }
+-- a state that the bytes hold, of a legal node-ID, the dictionary, and that much room in the output
+pub record Lent (needed : ℕ) (bs d o : List ℕ) : Type 0 where
+  pub own : Holds bs (stateOf bs)
+  pub whole : length bs ≡ stateLength
+  pub long : length d ≡ dictionaryLength
+  pub room : needed ≤ length o
+  pub id : stateOf bs .node .id ≤ lastNode
 
--- a state with those parts; the rest of it, which no service reads, is empty
-abbrev pub bare : Parts → State
-bare p = record { node = p .node; axis = record { drive = p .drive; plans = []; ready = []; held = p .held; paces = [] } }
+-- ---- THE PROMISE of a service: of its effect the state, how many frames, what is left to do, and every lent byte
 
--- two effects that a service cannot tell apart: they differ at most in what it may not change
-pub record Alike (e e′ : Effect) : Type 0 where
-  pub parts : partsOf (e .state) ≡ partsOf (e′ .state)
-  pub writes : e .writes ≡ e′ .writes
-  pub sent : e .sent ≡ e′ .sent
-  pub occasion : e .occasion ≡ e′ .occasion
+-- a state after an effect on s, as a service leaves it: plans, ready frames and the transmit PDOs' paces follow at the call's end
+abbrev pub keeping : State → State → State
+keeping s t =
+    record {
+      node = t .node;
+      axis = record {
+        drive = t .axis .drive;
+        plans = s .axis .plans;
+        ready = s .axis .ready;
+        held = t .axis .held;
+        paces = s .axis .paces;
+      };
+    }
 
--- ---- THE PROMISE of a service: of its effect the parts of the state, how many frames, what is left to do, and every lent byte
-
-pub record Leaves (e : Effect) (d o : List ℕ) (r : Done) (d′ o′ : List ℕ) : Type 0 where
-  pub parts : r .parts ≡ partsOf (e .state)
+pub record Leaves (s : State) (e : Effect) (d o : List ℕ) (r : Done) (bs′ d′ o′ : List ℕ) : Type 0 where
+  pub state : Holds bs′ (keeping s (e .state))
   pub frames : r .frames ≡ length (e .sent)
   pub touched : r .touched ≡ touches (e .writes)
   pub remapped : r .remapped ≡ remaps (e .writes)
@@ -65,9 +75,9 @@ pub record Leaves (e : Effect) (d o : List ℕ) (r : Done) (d′ o′ : List ℕ
   pub dictionary : d′ ≡ stored (e .writes) d
   pub output : o′ ≡ sentInto o (e .sent)
 
--- those parts, nothing written and nothing sent
-abbrev pub became : Parts → Bool → Done
-became parts quiet = record { parts = parts; frames = 0; touched = false; remapped = false; occasion = Plain; quiet = quiet }
+-- nothing written and nothing sent
+abbrev pub nothingDone : Bool → Done
+nothingDone quiet = record { frames = 0; touched = false; remapped = false; occasion = Plain; quiet = quiet }
 
 -- ---- a quiet service
 
@@ -84,7 +94,7 @@ pub record Calm (s : State) (e : Effect) : Type 0 where
 abbrev pub Rests : State → Effect → Done → Type 0
 Rests s e r = r .quiet ≡ true → Calm s e
 
--- ---- THE PROMISE of a service that is handed the parts of the state alone: both, in every state with those parts
+-- ---- both, of a service on the state that the bytes hold
 
-abbrev pub LeavesBy : Parts → (State → List ℕ → Effect) → List ℕ → List ℕ → Done → List ℕ → List ℕ → Type 0
-LeavesBy parts f d o r d′ o′ = (s : State) → parts ≡ partsOf s → Leaves (f s d) d o r d′ o′ × Rests s (f s d) r
+abbrev pub LeavesIn : (State → List ℕ → Effect) → List ℕ → List ℕ → List ℕ → Done → List ℕ → List ℕ → List ℕ → Type 0
+LeavesIn f bs d o r bs′ d′ o′ = Leaves (stateOf bs) (f (stateOf bs) d) d o r bs′ d′ o′ × Rests (stateOf bs) (f (stateOf bs) d) r

@@ -1,13 +1,7 @@
-// What a service leaves: the frames that it lays into the output, the parts of the state that it may change, and what is left to do at the
-// call's end. Proved against specs/Laying.antt and specs/Leaves.antt; proofs/Frames.antt ties the first to the output of document 01.
+// What a service leaves: the frames that it lays into the output, and what is left to do at the call's end. The state it leaves in its bytes.
+// Proved against specs/Laying.antt and specs/Leaves.antt; proofs/Frames.antt ties the first to the output of document 01.
 
-mod changing; // the parts of the state that a service may change
-
-pub use changing::becomes;
-pub use changing::parts_of;
-use drive::Drive;
 use rules_dictionary::PdoData;
-use state::Node;
 use state::Occasion;
 ghost use mathlib.Core.Path.{_≡_};
 ghost use mathlib.Core.List.{[], _∷_};
@@ -15,6 +9,7 @@ ghost use Prim.Native.Nat.{_≤_};
 ghost use lib.ListN.{length};
 ghost use Rattle.rules.specs.Outcome.{frameSize, sentInto};
 ghost use Rattle.output.specs.Laying.{IsData, frameOf};
+ghost use Rattle.output.specs.Leaves.{nothingDone};
 
 // A frame: the identifier, behind it the length, then the data.
 pub const LENGTH: usize = 2;
@@ -30,22 +25,27 @@ pub const MOST_FRAMES: usize = 6;
 
 pub const OUTPUT_LENGTH: usize = MOST_FRAMES * FRAME_LENGTH;
 
-// The parts of the state that a service may change. Plans, ready frames and the transmit PDOs' paces follow at the call's end.
-pub struct Parts {
-    pub node: Node,
-    pub drive: Drive,
-    pub held: [PdoData; 4],
-}
-
-// What a service leaves beside the lent bytes: the parts of the state, how many frames it laid, whether an object that may be mapped to
-// transmit was written, whether a PDO's mapping was, what the call is to its own end, and whether nothing is left to do there.
+// What a service leaves beside the lent bytes: how many frames it laid, whether an object that may be mapped to transmit was written, whether a
+// PDO's mapping was, what the call is to its own end, and whether nothing is left to do there.
 pub struct Done {
-    pub parts: Parts,
     pub frames: usize,
     pub touched: bool,
     pub remapped: bool,
     pub occasion: Occasion,
     pub quiet: bool,
+}
+
+// Nothing written and nothing sent; quiet where what the call's end looks at is as it was.
+pub fn nothing_done(quiet: bool) -> Done
+    ensures { λ r. ⌜ r ≡ nothingDone quiet ⌝ }
+{
+    Done {
+        frames: 0,
+        touched: false,
+        remapped: false,
+        occasion: Occasion::Plain,
+        quiet: quiet,
+    }
 }
 
 // A frame at the start of the bytes, which are the output from that frame on; those behind it stay.

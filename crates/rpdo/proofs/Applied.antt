@@ -30,13 +30,12 @@ use Rattle.theorems.proofs.Services.{applied-all}
 use Rattle.mapping.specs.Received.{movesOf, hasPlace, storedMoves, Receives}
 use Rattle.mapping.proofs.Unpacked.{stored-is, control-is, mode-is, heartbeat-is, quiet-is, no-pdo-row}
 use Rattle.output.specs.Laying.{emitted}
-use Rattle.output.specs.declared.Parts.{Parts}
 use Rattle.output.specs.declared.Done.{Done}
-use Rattle.output.specs.Leaves.{bare, isMapping, remaps, Leaves, LeavesBy}
-use Rattle.output.proofs.Left.{as-effect, left-alike, loud}
+use Rattle.output.specs.Leaves.{isMapping, remaps, keeping, Leaves, Rests}
+use Rattle.output.proofs.Left.{as-effect, loud}
 use Rattle.emergency.specs.Emergencies.{emergencyOf}
 use Rattle.emergency.specs.Acts.{acts, controlActs}
-use Rattle.emergency.proofs.Written.{emergency-by, stored-acted, acts-alike}
+use Rattle.emergency.proofs.Written.{emergency-by, stored-acted}
 use Rattle.rpdo.proofs.Leaving.{Behind, left-behind}
 
 -- rows of no PDO are no mapping's
@@ -66,16 +65,16 @@ module _ {plan : Plan} {xs : List Row} (r : Receives plan xs) (bs : List ℕ) wh
   unfolding countRestarted
   acted-on s d = stored-acted ws s d ∙ rw (heartbeat-is r bs)
 
-  pub applied-by : {parts : Parts} {d o d₁ d′ o′ : List ℕ} {f : Done} (old : ℕ) (m c : Bool) →
+  pub applied-by : {s : State} {bs′ d o d₁ d′ o′ : List ℕ} {f : Done} (old : ℕ) (m c : Bool) →
       old ≡ read d controlWord → d₁ ≡ storedMoves (movesOf plan) bs d →
       m ≡ hasPlace (placeOf mode) (movesOf plan) → c ≡ hasPlace (placeOf controlWord) (movesOf plan) →
-      Leaves (acts old m c (bare parts) d₁) d₁ o f d′ o′ × (f .quiet ≡ false) → LeavesBy parts (applied ws) d o f d′ o′
+      Leaves s (acts old m c s d₁) d₁ o f bs′ d′ o′ × (f .quiet ≡ false) →
+      Leaves s (applied ws s d) d o f bs′ d′ o′ × Rests s (applied ws s d) f
   unfolding emitted sentInto
-  applied-by {parts} {d} {o} {d₁} {f = f} old m c e k a b h s is =
+  applied-by {s} {d = d} {d₁ = d₁} {f = f} old m c e k a b h =
       let at = k ∙ stored-is r bs d in
-      let g = left-alike (acts-alike old m c s d₁) (rw is at (h .0)) in
+      let g = h .0 in
       let first : Behind ws [] (acts old m c s d₁ .occasion) f f = record {
-        parts = refl;
         frames = omega arith;
         touched = rw (quiet-is r bs);
         remapped = rw (no-mapping ws quiet);
@@ -96,8 +95,9 @@ one-frame code v d = go (isStopped (v .nmt)) _
     go true f = omega arith
     go false f = omega arith
 
--- the node-ID, and the rows of the PDOs; and n frames are sent at the most
+-- plans, ready frames and paces, the node-ID, and the rows of the PDOs; and n frames are sent at the most
 pub record Keeps (n : ℕ) (s : State) (e : Effect) : Type 0 where
+  pub own : keeping s (e .state) ≡ e .state
   pub id : e .state .node .id ≡ s .node .id
   pub few : length (e .sent) ≤ n
   pub quiet : (w : Write) → In w (e .writes) → QuietRow (w .row)
@@ -107,13 +107,14 @@ pub keeps-applied : {plan : Plan} (p : ℕ) (bs : List ℕ) (s : State) (d : Lis
 unfolding acts controlActs faultReset
 keeps-applied p bs s d r =
     let ws = unpacked (mapped d p) bs in
-    let P : Effect → Type 0 = λ e. (e .state .node .id ≡ s .node .id) × (length (e .sent) ≤ 1) in
+    let P : Effect → Type 0 = λ e. (keeping s (e .state) ≡ e .state) × (e .state .node .id ≡ s .node .id) × (length (e .sent) ≤ 1) in
     let acted : P (applied ws s d) = rw (acted-on r bs s d)
     (whichever P (wrote controlWord ws) (whichever P (controlWritten (stored ws d) (read d controlWord) _ .reset)
-    (refl, rw (append-nil, emergency-by) (one-frame faultGone _ _)) (refl, omega arith)) (refl, omega arith)) in
+    (refl, refl, rw (append-nil, emergency-by) (one-frame faultGone _ _)) (refl, refl, omega arith)) (refl, refl, omega arith)) in
     record {
-      id = acted .0;
-      few = acted .1;
+      own = acted .0;
+      id = acted .1;
+      few = acted .2;
       quiet = applied-all (λ w. QuietRow (w .row)) ws s d (λ w i. (mapped-in d p (unpacked-rows (mapped d p) bs i), quiet r bs w i))
           (λ e. (register-in, refl));
     }

@@ -13,9 +13,10 @@ use Rattle.rules_dictionary.proofs.Tests.{and-right, each-in}
 use Rattle.rules_services.specs.PdoTraffic.{sync}
 use Rattle.rules.specs.Calls.{outputLength}
 use Rattle.theorems.proofs.Lawful.{Lawful}
-use Rattle.form.specs.Form.{stateLength, stateOf}
+use Rattle.form.specs.Form.{stateOf}
+use Rattle.form.specs.Holding.{Holds}
 use Rattle.mapping.proofs.Unpacked.{legal-receives}
-use Rattle.output.specs.Leaves.{partsOf}
+use Rattle.output.proofs.Left.{lent}
 use Rattle.rpdo.specs.Kept.{Kept}
 use Rattle.rpdo.specs.Traffic.{syncOf}
 
@@ -25,16 +26,13 @@ unfolding sync syncOf
 sync-by-length bs s d = refl
 
 -- what the bytes of a lawful state with fresh plans keep for PDO traffic
-pub lawful-kept : {state d o : List ℕ} → length state ≡ stateLength → Lawful (stateOf state) d → stateOf state .axis .plans ≡ plansOf d →
-    outputLength ≤ length o → Kept (partsOf (stateOf state)) state d o
+pub lawful-kept : {state d o : List ℕ} → Holds state (stateOf state) → Lawful (stateOf state) d → stateOf state .axis .plans ≡ plansOf d →
+    outputLength ≤ length o → Kept state d o
 unfolding plansOf
-lawful-kept {state} {d} whole law fresh room =
+lawful-kept {state} {d} own law fresh room =
     let n = stateOf state .node .id in
     record {
-      whole = whole;
-      long = law .long;
-      room = room;
-      id = leb-true n lastNode (and-right (leb firstNode n) (leb n lastNode) (law .id));
+      lent = lent own (law .long) room (leb-true n lastNode (and-right (leb firstNode n) (leb n lastNode) (law .id)));
       plans = λ p i.
           rw (fresh, each-in (λ q. getD (plansOf d) q (record { count = 0; moves = [] }) ≡ planFor (mapped d q)) i (refl, (refl, (refl, (refl, tt)))))
           (legal-receives (law .dictionary) i);

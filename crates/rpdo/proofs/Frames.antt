@@ -27,10 +27,10 @@ use Rattle.theorems.proofs.PdoKept.{unpacked-same}
 use Rattle.mapping.specs.Received.{movesOf, sizes, movesLegal, Receives}
 use Rattle.mapping.proofs.Unpacked.{legal-is, length-is}
 use Rattle.output.specs.Laying.{IsData, dataOf, emitted}
-use Rattle.output.specs.Leaves.{LeavesBy}
-use Rattle.output.specs.declared.Parts.{Parts}
+use Rattle.output.specs.Leaves.{Leaves, Rests}
 use Rattle.output.specs.declared.Done.{Done}
 use Rattle.output.proofs.Frames.{length-data, is-data, frame-of-data, lent-back}
+use Rattle.output.proofs.Left.{lent}
 use Rattle.emergency.specs.Emergencies.{emergencyOf}
 use Rattle.emergency.proofs.Written.{emergency-by}
 use Rattle.rpdo.specs.Kept.{Serves}
@@ -56,9 +56,17 @@ pub next-zero : (k : ℕ) (bs front : List ℕ) → k < length bs → length fro
     take (k + 1) (set bs k 0) ≡ padded 0 (k + 1) front
 next-zero k bs front h l e = rw (add-one k, take-suc-set bs k 0 h, e) (sym (padded-more k front l))
 
+-- ---- another part of the output lent
+
+pub lends : {m : ℕ} {plan : Plan} {p : ℕ} {state d o : List ℕ} → Serves m plan p state d o → {n : ℕ} {part : List ℕ} → n ≤ length part →
+    Serves n plan p state d part
+lends k room =
+    let l = k .lent in
+    record { lent = lent (l .own) (l .long) room (l .id); number = k .number; receives = k .receives }
+
 -- ---- as many bytes as the PDO maps
 
-module _ {parts : Parts} {plan : Plan} {p : ℕ} {d : List ℕ} (k : Serves parts plan p d) {content : PdoData} (shape : IsData content)
+module _ {needed : ℕ} {plan : Plan} {p : ℕ} {state d o : List ℕ} (k : Serves needed plan p state d o) {content : PdoData} (shape : IsData content)
     (is : content .length ≡ mappedLength (mapped d p)) {legal : Bool} (tested : legal ≡ movesLegal (movesOf plan) (content .bytes))
     (bytes : areBytes (content .bytes) ≡ true) where
   values : unpacked (mapped d p) (dataOf content) ≡ unpacked (mapped d p) (content .bytes)
@@ -91,8 +99,8 @@ judged-few p bs s d r =
 
 -- ---- a frame that a PDO listens to, of n bytes or not
 
-module _ {parts : Parts} {plan : Plan} {p : ℕ} {d : List ℕ} (k : Serves parts plan p d) {content : PdoData} (shape : IsData content) {n : ℕ}
-    (sized : n ≡ sizes (movesOf plan)) where
+module _ {needed : ℕ} {plan : Plan} {p : ℕ} {state d o : List ℕ} (k : Serves needed plan p state d o) {content : PdoData} (shape : IsData content)
+    {n : ℕ} (sized : n ≡ sizes (movesOf plan)) where
   is : n ≡ mappedLength (mapped d p)
   is = sized ∙ length-is (k .receives)
 
@@ -129,24 +137,28 @@ module _ {parts : Parts} {plan : Plan} {p : ℕ} {d : List ℕ} (k : Serves part
     pub used-data : IsData used
     used-data = rw uses (is-data (take n (content .bytes)) (omega (arith, short, shape .short)))
 
-    pub too-long : {m : ℕ} {o o₁ d′ part′ : List ℕ} {r : Done} →
-        (m ≡ length (emergencyOf pdoTooLong (parts .node) d)) × (o₁ ≡ sentInto o (emergencyOf pdoTooLong (parts .node) d)) →
-        LeavesBy parts (judged p (dataOf used)) d (take (length o₁ - frameSize * m) (drop (frameSize * m) o₁)) r d′ part′ →
-        LeavesBy parts (received p (dataOf content)) d o
-        (record { parts = r .parts; frames = r .frames + m; touched = r .touched; remapped = r .remapped; occasion = r .occasion; quiet = r .quiet })
-        d′ (take (frameSize * m) o₁ ++ (part′ ++ drop (length o₁ - frameSize * m) (drop (frameSize * m) o₁)))
+    pub too-long : {s : State} {m : ℕ} {bs o₁ d′ part′ : List ℕ} {r : Done} →
+        (m ≡ length (emergencyOf pdoTooLong (s .node) d)) × (o₁ ≡ sentInto o (emergencyOf pdoTooLong (s .node) d)) →
+        let now = judged p (dataOf used) s d in
+        let all = received p (dataOf content) s d in
+        let q : Done = record {
+          frames = r .frames + m;
+          touched = r .touched;
+          remapped = r .remapped;
+          occasion = r .occasion;
+          quiet = r .quiet;
+        } in
+        Leaves s now d (take (length o₁ - frameSize * m) (drop (frameSize * m) o₁)) r bs d′ part′ × Rests s now r →
+        Leaves s all d o q bs d′ (take (frameSize * m) o₁ ++ (part′ ++ drop (length o₁ - frameSize * m) (drop (frameSize * m) o₁))) × Rests s all q
     unfolding stored
-    too-long {m = m} {o₁ = o₁} {part′ = part′} {r} w f s q =
-        let g = f s q in
+    too-long {s} {m} {o₁ = o₁} {part′ = part′} {r} w g =
         let j = judged p (dataOf used) s d in
         let fs = emergencyOf pdoTooLong (s .node) d in
-        let count : m ≡ length fs = rw q at (w .0) in
         let laid = lent-back o₁ part′ (j .sent) m (length o₁ - frameSize * m) (omega arith) (g .0 .output)
-        ∙ ap₂ (λ (i : ℕ) (l : List ℕ). emitted i (j .sent) l) count (rw q at (w .1)) in
+        ∙ ap₂ (λ (i : ℕ) (l : List ℕ). emitted i (j .sent) l) (w .0) (w .1) in
         let whole : dataOf used ≡ take n (content .bytes) =
         ap dataOf uses ∙ ap (λ (x : Frame). x .content) (frame-of-data 0 (take n (content .bytes)) (omega (arith, short, shape .short))) in
         renamed (leads (omega arith) s ∙ rw (lt-ltb n (content .length) h, emergency-by, ← whole)) (
-          left-behind [] fs (record { parts = refl; frames = omega arith; touched = refl; remapped = refl; occasion = g .0 .occasion }) refl
-              laid (g .0),
+          left-behind [] fs (record { frames = omega (arith, w .0); touched = refl; remapped = refl; occasion = g .0 .occasion }) refl laid (g .0),
           λ z. let c = g .1 z in record { writes = c .writes; occasion = c .occasion; nmt = c .nmt; voltage = c .voltage; drive = c .drive },
         )

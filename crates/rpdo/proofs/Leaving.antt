@@ -16,10 +16,10 @@ use Rattle.rules_services.specs.Effects.{Effect, Frame, becomes}
 use Rattle.rules_services.specs.Emergency.{emergency}
 use Rattle.rules.specs.Outcome.{sentInto}
 use Rattle.theorems.proofs.Writes.{stored-append}
+use Rattle.form.specs.Holding.{Holds}
 use Rattle.output.specs.Laying.{emitted}
-use Rattle.output.specs.declared.Parts.{Parts}
 use Rattle.output.specs.declared.Done.{Done}
-use Rattle.output.specs.Leaves.{touches, remaps, Leaves, Rests, became, LeavesBy}
+use Rattle.output.specs.Leaves.{touches, remaps, keeping, Leaves, Rests, nothingDone}
 use Rattle.output.proofs.Frames.{emitted-then}
 use Rattle.output.proofs.Left.{left-as, calm-said}
 use Rattle.emergency.specs.Emergencies.{emergencyOf}
@@ -28,28 +28,44 @@ use Rattle.rpdo.specs.Traffic.{says}
 
 -- ---- the promise under another name of the effect
 
-pub renamed : {s : State} {e e′ : Effect} {d o : List ℕ} {r : Done} {d′ o′ : List ℕ} → e′ ≡ e → Leaves e d o r d′ o′ × Rests s e r →
-    Leaves e′ d o r d′ o′ × Rests s e′ r
-renamed {s} {d = d} {o} {r} {d′} {o′} q h = subst (λ (x : Effect). Leaves x d o r d′ o′ × Rests s x r) (sym q) h
+pub renamed : {s : State} {e e′ : Effect} {d o : List ℕ} {r : Done} {bs′ d′ o′ : List ℕ} → e′ ≡ e → Leaves s e d o r bs′ d′ o′ × Rests s e r →
+    Leaves s e′ d o r bs′ d′ o′ × Rests s e′ r
+renamed {s} {d = d} {o} {r} {bs′} {d′} {o′} q h = subst (λ (x : Effect). Leaves s x d o r bs′ d′ o′ × Rests s x r) (sym q) h
+
+-- the promise from another state that has the same plans, ready frames and paces
+pub started : {s t : State} {e : Effect} {d o : List ℕ} {r : Done} {bs′ d′ o′ : List ℕ} → keeping s (e .state) ≡ keeping t (e .state) →
+    Leaves t e d o r bs′ d′ o′ → Leaves s e d o r bs′ d′ o′
+started same h =
+    record {
+      state = rw same (h .state);
+      frames = h .frames;
+      touched = h .touched;
+      remapped = h .remapped;
+      occasion = h .occasion;
+      dictionary = h .dictionary;
+      output = h .output;
+    }
 
 -- ---- nothing done, and an emergency alone
 
-pub left-still : {parts : Parts} {r : Done} {d o : List ℕ} → r ≡ became parts true → LeavesBy parts (λ s d₀. becomes s) d o r d o
-left-still {parts} {d = d} {o} is s e = rw is (left-as s parts true d o e, λ q. calm-said s [])
+pub left-still : {s : State} {bs : List ℕ} {r : Done} {d o : List ℕ} → Holds bs s → r ≡ nothingDone true →
+    Leaves s (becomes s) d o r bs d o × Rests s (becomes s) r
+left-still {s} {d = d} {o} h is = rw is (left-as s s true d o h, λ q. calm-said s [])
 
-pub left-said : (code : ℕ) {parts : Parts} {k : ℕ} {d o o′ : List ℕ} →
-    (k ≡ length (emergencyOf code (parts .node) d)) × (o′ ≡ sentInto o (emergencyOf code (parts .node) d)) →
-    LeavesBy parts (says code) d o (record { parts = parts; frames = k; touched = false; remapped = false; occasion = Plain; quiet = true }) d o′
+pub left-said : (code : ℕ) {s : State} {bs : List ℕ} {k : ℕ} {d o o′ : List ℕ} → Holds bs s →
+    (k ≡ length (emergencyOf code (s .node) d)) × (o′ ≡ sentInto o (emergencyOf code (s .node) d)) →
+    let r : Done = record { frames = k; touched = false; remapped = false; occasion = Plain; quiet = true } in
+    Leaves s (says code s d) d o r bs d o′ × Rests s (says code s d) r
 unfolding stored
-left-said code {d = d} h s e = (
+left-said code {s} {d = d} held h = (
   record {
-    parts = e;
-    frames = rw (append-nil, emergency-by) (rw e at (h .0));
+    state = held;
+    frames = rw (append-nil, emergency-by) (h .0);
     touched = refl;
     remapped = refl;
     occasion = refl;
     dictionary = refl;
-    output = rw (append-nil, emergency-by) (rw e at (h .1));
+    output = rw (append-nil, emergency-by) (h .1);
   },
   λ q. calm-said s (emergency code s d),
 )
@@ -66,19 +82,18 @@ behind ws fs call e = record { state = e .state; writes = ws ++ e .writes; sent 
 
 -- q is r with what came first
 pub record Behind (ws : List Write) (fs : List Frame) (call : Occasion) (r q : Done) : Type 0 where
-  pub parts : q .parts ≡ r .parts
   pub frames : q .frames ≡ length fs + r .frames
   pub touched : q .touched ≡ (touches ws || r .touched)
   pub remapped : q .remapped ≡ (remaps ws || r .remapped)
   pub occasion : q .occasion ≡ call
 
-pub left-behind : (ws : List Write) (fs : List Frame) {call : Occasion} {e : Effect} {d d₁ d₂ o part part′ o₂ : List ℕ} {r q : Done} →
+pub left-behind : (ws : List Write) (fs : List Frame) {call : Occasion} {s : State} {e : Effect} {bs d d₁ d₂ o part part′ o₂ : List ℕ} {r q : Done} →
     Behind ws fs call r q → d₁ ≡ stored ws d → o₂ ≡ emitted (length fs) (e .sent) (sentInto o fs) →
-    Leaves e d₁ part r d₂ part′ → Leaves (behind ws fs call e) d o q d₂ o₂
+    Leaves s e d₁ part r bs d₂ part′ → Leaves s (behind ws fs call e) d o q bs d₂ o₂
 unfolding emitted
-left-behind ws fs {e = e} {d} {o = o} b is laid g =
+left-behind ws fs {e = e} {d = d} {o = o} b is laid g =
     record {
-      parts = b .parts ∙ g .parts;
+      state = g .state;
       frames = rw length-append (b .frames ∙ ap (λ (n : ℕ). length fs + n) (g .frames));
       touched = b .touched ∙ ap (λ (x : Bool). touches ws || x) (g .touched) ∙ sym (any-append _ ws (e .writes));
       remapped = b .remapped ∙ ap (λ (x : Bool). remaps ws || x) (g .remapped) ∙ sym (any-append _ ws (e .writes));

@@ -1,36 +1,23 @@
--- What the services of PDO traffic may rely on: the lent bytes are long enough, and the plans of the receive PDOs that the state's bytes hold
--- are fresh. Callable.antt of proofs/ has it from a lawful state.
+-- What the services of PDO traffic may rely on: the state's bytes, the dictionary and the output as every service is lent them, and fresh plans
+-- of the receive PDOs in the state's bytes. Callable.antt of proofs/ has it from a lawful state.
 -- Assumes nothing.
-use Prim.Native.Nat.{ℕ, _<_, _≤_}
-use mathlib.Core.Path.{_≡_}
-use mathlib.Core.List.{List, []}
-use lib.ListN.{length, getD}
-use Rattle.rules_dictionary.specs.declared.PdoData.{PdoData}
+use Prim.Native.Nat.{ℕ, _<_}
+use mathlib.Core.List.{List}
 use Rattle.rules_dictionary.specs.declared.Plan.{Plan}
-use Rattle.rules_dictionary.specs.TheNode.{lastNode}
-use Rattle.rules_dictionary.specs.Table.{dictionaryLength, eachWay, receivePdos}
+use Rattle.rules_dictionary.specs.Table.{eachWay, receivePdos}
 use Rattle.rules_dictionary.specs.Plans.{mapped}
 use Rattle.rules_dictionary.specs.Members.{In}
 use Rattle.rules.specs.Calls.{outputLength}
-use Rattle.form.specs.Form.{stateLength, planIn}
+use Rattle.form.specs.Form.{planIn}
 use Rattle.mapping.specs.Received.{Receives}
-use Rattle.output.specs.declared.Parts.{Parts}
+use Rattle.output.specs.Leaves.{Lent}
 
--- the held frame of a receive PDO; of none, none
-abbrev pub heldAt : Parts → ℕ → PdoData
-heldAt parts p = getD (parts .held) p (record { length = 0; bytes = [] })
-
--- of the state its parts that a service may change, and its bytes
-pub record Kept (parts : Parts) (state d o : List ℕ) : Type 0 where
-  pub whole : length state ≡ stateLength
-  pub long : length d ≡ dictionaryLength
-  pub room : outputLength ≤ length o
-  pub id : parts .node .id ≤ lastNode
+pub record Kept (state d o : List ℕ) : Type 0 where
+  pub lent : Lent outputLength state d o
   pub plans : (p : ℕ) → In p receivePdos → Receives (planIn state p) (mapped d p)
 
--- the same for one receive PDO: by the parts of the state that it may change, and its plan
-pub record Serves (parts : Parts) (plan : Plan) (p : ℕ) (d : List ℕ) : Type 0 where
-  pub long : length d ≡ dictionaryLength
-  pub id : parts .node .id ≤ lastNode
+-- the same for one receive PDO: by its plan, and the room that it needs
+pub record Serves (needed : ℕ) (plan : Plan) (p : ℕ) (state d o : List ℕ) : Type 0 where
+  pub lent : Lent needed state d o
   pub number : p < eachWay
   pub receives : Receives plan (mapped d p)

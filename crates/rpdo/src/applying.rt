@@ -5,31 +5,31 @@ use emergency::acted;
 use mapping::maps;
 use mapping::store_values;
 use output::Done;
-use output::Parts;
 use rules_dictionary::Plan;
-ghost use mathlib.Core.Path.{_≡_};
 ghost use mathlib.Core.List.{List};
-ghost use Prim.Native.Nat.{_≤_};
-ghost use lib.ListN.{length};
-ghost use Rattle.rules_dictionary.specs.TheNode.{lastNode};
-ghost use Rattle.rules_dictionary.specs.Table.{Row, dictionaryLength};
+ghost use Rattle.rules_dictionary.specs.Table.{Row};
 ghost use Rattle.rules_dictionary.specs.Values.{unpacked};
 ghost use Rattle.rules_services.specs.Written.{applied};
 ghost use Rattle.rules.specs.Outcome.{frameSize};
 ghost use Rattle.mapping.specs.Moves.{MovesFit};
 ghost use Rattle.mapping.specs.Received.{Receives};
-ghost use Rattle.output.specs.Leaves.{LeavesBy};
+ghost use Rattle.output.specs.Leaves.{Lent, LeavesIn};
 
 // The values of the rows that a receive PDO's plan is for, taken from those bytes, stored and acted on.
-pub fn apply(parts: Parts, plan: Plan, d: &mut [u8], output: &mut [u8], content: [u8; 8]) -> Done
-    requires { ⌜ (length (now d) ≡ dictionaryLength)
-        × ((frameSize ≤ length (now output)) × ((parts .node .id ≤ lastNode) × MovesFit (plan .moves) (plan .count))) ⌝ }
-    ensures { λ r. ⌜ ((xs : List Row) → Receives plan xs → LeavesBy parts (applied (unpacked xs content))
-        (now (d .entry)) (now (output .entry)) r (now (d .exit)) (now (output .exit))) ⌝ }
+pub fn apply(
+    state: &mut [u8],
+    plan: Plan,
+    d: &mut [u8],
+    output: &mut [u8],
+    content: [u8; 8],
+) -> Done
+    requires { ⌜ Lent frameSize (now state) (now d) (now output) × MovesFit (plan .moves) (plan .count) ⌝ }
+    ensures { λ r. ⌜ ((xs : List Row) → Receives plan xs → LeavesIn (applied (unpacked xs content)) (now (state .entry)) (now (d .entry))
+        (now (output .entry)) r (now (state .exit)) (now (d .exit)) (now (output .exit))) ⌝ }
 {
     let old = objects::control_word(d);
     store_values(d, plan, content);
     let mode = maps(plan, places::MODE as u16);
     let control = maps(plan, places::CONTROL_WORD as u16);
-    acted(old, mode, control, parts, d, output)
+    acted(old, mode, control, state, d, output)
 }

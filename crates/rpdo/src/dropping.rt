@@ -1,24 +1,19 @@
 // What is left of a frame that is not applied: an emergency, and nothing else to do.
 use emergency::emergency;
+use form::read_node;
 use output::Done;
-use output::Parts;
-use output::becomes;
-ghost use mathlib.Core.Path.{_≡_};
-ghost use Prim.Native.Nat.{_≤_};
-ghost use lib.ListN.{length};
-ghost use Rattle.rules_dictionary.specs.Table.{dictionaryLength};
-ghost use Rattle.rules_dictionary.specs.TheNode.{lastNode};
+use output::nothing_done;
 ghost use Rattle.rules.specs.Outcome.{frameSize};
-ghost use Rattle.output.specs.Leaves.{LeavesBy};
+ghost use Rattle.output.specs.Leaves.{Lent, LeavesIn};
 ghost use Rattle.rpdo.specs.Traffic.{says};
 
 // An emergency and no more.
-pub fn refused(code: u16, parts: Parts, d: &[u8], output: &mut [u8]) -> Done
-    requires { ⌜ (length (now d) ≡ dictionaryLength) × ((frameSize ≤ length (now output)) × (parts .node .id ≤ lastNode)) ⌝ }
-    ensures { λ r. ⌜ LeavesBy parts (says code) (now (d .entry)) (now (output .entry)) r (now (d .entry)) (now (output .exit)) ⌝ }
+pub fn refused(code: u16, state: &[u8], d: &[u8], output: &mut [u8]) -> Done
+    requires { ⌜ Lent frameSize (now state) (now d) (now output) ⌝ }
+    ensures { λ r. ⌜ LeavesIn (says code) (now (state .entry)) (now (d .entry)) (now (output .entry))
+        r (now (state .entry)) (now (d .entry)) (now (output .exit)) ⌝ }
 {
-    let node = parts.node;
-    let mut done = becomes(parts, true);
-    done.frames = emergency(code, node, d, output);
+    let mut done = nothing_done(true);
+    done.frames = emergency(code, read_node(state), d, output);
     done
 }

@@ -3,16 +3,18 @@
 use crate::applying::apply;
 use crate::dropping::refused;
 use crate::listening::hears;
+use dictionary::choices::LAST_SYNCHRONOUS;
 use dictionary::places;
 use dictionary::records;
 use emergency::emergency;
+use form::put_held;
+use form::read_node;
 use form::read_plan;
 use mapping::are_legal;
 use mapping::length_of;
 use output::Done;
 use output::FRAME_LENGTH;
-use output::Parts;
-use output::becomes;
+use output::nothing_done;
 use rules_dictionary::PdoData;
 use rules_dictionary::Plan;
 ghost use mathlib.Core.Path.{_≡_};
@@ -25,7 +27,7 @@ ghost use Rattle.rules_services.specs.PdoTraffic.{mappedLength, received, recei
 ghost use Rattle.rules.specs.Calls.{outputLength};
 ghost use Rattle.rules.specs.Outcome.{frameSize};
 ghost use Rattle.output.specs.Laying.{IsData, dataOf};
-ghost use Rattle.output.specs.Leaves.{LeavesBy};
+ghost use Rattle.output.specs.Leaves.{LeavesIn};
 ghost use Rattle.rpdo.specs.Kept.{Kept, Serves};
 ghost use Rattle.rpdo.specs.Traffic.{judged};
 
@@ -37,9 +39,6 @@ const TOO_SHORT: u16 = 0x8210;
 
 // Emergency code: more bytes than are mapped.
 const TOO_LONG: u16 = 0x8220;
-
-// The last type that waits for SYNC.
-const LAST_SYNCHRONOUS: u8 = 240;
 
 // The leading bytes, and zeros behind them.
 fn leading(content: [u8; 8], n: usize) -> [u8; 8]
@@ -58,85 +57,85 @@ fn leading(content: [u8; 8], n: usize) -> [u8; 8]
 // As many bytes as receive PDO p maps: dropped if a value is refused. "Types 254, 255 apply at once; others are held, the latest kept, until
 // SYNC." A frame that is dropped or held is quiet.
 fn judge(
-    parts: Parts,
+    state: &mut [u8],
     plan: Plan,
     d: &mut [u8],
     output: &mut [u8],
     p: usize,
     content: PdoData,
 ) -> Done
-    requires { ⌜ Serves parts plan p (now d)
-        × ((frameSize ≤ length (now output)) × (IsData content × (content .length ≡ mappedLength (mapped (now d) p)))) ⌝ }
-    ensures { λ r. ⌜ LeavesBy parts (judged p (dataOf content)) (now (d .entry)) (now (output .entry)) r (now (d .exit)) (now (output .exit)) ⌝ }
+    requires { ⌜ Serves frameSize plan p (now state) (now d) (now output)
+        × (IsData content × (content .length ≡ mappedLength (mapped (now d) p))) ⌝ }
+    ensures { λ r. ⌜ LeavesIn (judged p (dataOf content)) (now (state .entry)) (now (d .entry)) (now (output .entry))
+        r (now (state .exit)) (now (d .exit)) (now (output .exit)) ⌝ }
 {
     let bytes = content.bytes;
     if !are_legal(plan, bytes) {
-        return refused(VALUE_REFUSED, parts, d, output);
+        return refused(VALUE_REFUSED, state, d, output);
     }
     if LAST_SYNCHRONOUS < records::transmission_type(d, p) {
-        return apply(parts, plan, d, output, bytes);
+        return apply(state, plan, d, output, bytes);
     }
-    let mut next = parts;
-    next.held[p] = content;
-    becomes(next, true)
+    put_held(state, p, content);
+    nothing_done(true)
 }
 
 // A frame that receive PDO p listens to.
 fn received(
-    parts: Parts,
+    state: &mut [u8],
     plan: Plan,
     d: &mut [u8],
     output: &mut [u8],
     p: usize,
     content: PdoData,
 ) -> Done
-    requires { ⌜ Serves parts plan p (now d) × ((outputLength ≤ length (now output)) × IsData content) ⌝ }
-    ensures { λ r. ⌜ LeavesBy parts (received p (dataOf content)) (now (d .entry)) (now (output .entry)) r (now (d .exit)) (now (output .exit)) ⌝ }
+    requires { ⌜ Serves outputLength plan p (now state) (now d) (now output) × IsData content ⌝ }
+    ensures { λ r. ⌜ LeavesIn (received p (dataOf content)) (now (state .entry)) (now (d .entry)) (now (output .entry))
+        r (now (state .exit)) (now (d .exit)) (now (output .exit)) ⌝ }
 {
     let needed = length_of(plan);
     if content.length < needed {
-        return refused(TOO_SHORT, parts, d, output);
+        return refused(TOO_SHORT, state, d, output);
     }
     if needed < content.length {
-        let node = parts.node;
-        let n = emergency(TOO_LONG, node, d, output);
+        let n = emergency(TOO_LONG, read_node(state), d, output);
         let bytes = content.bytes;
         let used = PdoData {
             length: needed,
             bytes: leading(bytes, needed as usize),
         };
-        let mut done = judge(parts, plan, d, &mut output[FRAME_LENGTH * n..], p, used);
+        let mut done = judge(state, plan, d, &mut output[FRAME_LENGTH * n..], p, used);
         done.frames += n;
         return done;
     }
-    judge(parts, plan, d, output, p, content)
+    judge(state, plan, d, output, p, content)
 }
 
 // A frame on an identifier: for the first receive PDO that listens to it, if any. "A PDO works only in Operational".
-// Of the state's bytes the plan is read, once that is known.
+// Of the state only its NMT state is read, until one listens.
 pub fn receive(
-    parts: Parts,
-    state: &[u8],
+    state: &mut [u8],
     d: &mut [u8],
     output: &mut [u8],
     identifier: u16,
     content: PdoData,
 ) -> Done
-    requires { ⌜ Kept parts (now state) (now d) (now output) × IsData content ⌝ }
-    ensures { λ r. ⌜ LeavesBy parts (receivedBy receivePdos identifier (dataOf content))
-        (now (d .entry)) (now (output .entry)) r (now (d .exit)) (now (output .exit)) ⌝ }
+    requires { ⌜ Kept (now state) (now d) (now output) × IsData content ⌝ }
+    ensures { λ r. ⌜ LeavesIn (receivedBy receivePdos identifier (dataOf content)) (now (state .entry)) (now (d .entry)) (now (output .entry))
+        r (now (state .exit)) (now (d .exit)) (now (output .exit)) ⌝ }
 {
-    let node = parts.node;
+    let node = read_node(state);
     let nmt = node.nmt;
     if !nmt.is_operational() {
-        return becomes(parts, true);
+        return nothing_done(true);
     }
     let mut p: usize = 0;
     while p < places::EACH_WAY {
         if hears(d, p, identifier) {
-            return received(parts, read_plan(state, p), d, output, p, content);
+            let plan = read_plan(state, p);
+            return received(state, plan, d, output, p, content);
         }
         p += 1;
     }
-    becomes(parts, true)
+    nothing_done(true)
 }

@@ -4,26 +4,26 @@ use Prim.Native.Nat.{ℕ, _+_, _/_, _%_, _≤_}
 use native.Mathlib.Omega.{arith}
 use mathlib.Core.Path.{_≡_, refl, sym, _∙_, ap, subst}
 use mathlib.Core.List.{List, [], _∷_}
-use mathlib.Core.Bool.{true, false}
 use lib.Dec.{lit≤}
 use lib.ListN.{length, getD}
 use Rattle.rules_dictionary.specs.declared.PdoData.{PdoData}
-use Rattle.state.specs.declared.Occasion.the-variants.{Plain}
 use Rattle.rules_dictionary.specs.Numbers.{bytes}
 use Rattle.rules_dictionary.specs.Table.{Row, ValueType, u8, u16, u32, i8, i32, size}
 use Rattle.rules_dictionary.specs.Values.{stored}
 use Rattle.rules_dictionary.specs.Plans.{pdoData}
 use Rattle.rules_services.specs.Effects.{Frame}
 use Rattle.rules_services.specs.Sdo.{reply, replyBase, requestLength, dataSize, uploaded}
-use Rattle.rules.specs.Outcome.{sentInto}
+use Rattle.form.specs.Form.{stateOf}
+use Rattle.form.specs.Holding.{Holds}
 use Rattle.dictionary.specs.declared.Entry.{Entry}
 use Rattle.dictionary.specs.Entries.{entryOf}
 use Rattle.output.specs.Laying.{IsData, frameOf}
 use Rattle.output.proofs.Frames.{is-data, frame-of-data}
-use Rattle.output.specs.declared.Parts.{Parts}
+use Rattle.output.specs.declared.Done.{Done}
+use Rattle.output.specs.Leaves.{LeavesIn}
 use Rattle.output.proofs.Left.{calm-said}
 use Rattle.sdo.specs.Requests.{replyBytes, replyOf, uploadedBy}
-use Rattle.sdo.specs.Serving.{Says}
+use Rattle.sdo.specs.Serving.{said, Says}
 
 -- ---- the frame of a reply
 
@@ -69,10 +69,11 @@ uploaded-by e x is = ap (λ (y : Entry). uploadedBy (y .size)) is ∙ go (x .typ
     go i32 = refl
 
 -- THE LAW of a reply alone
-pub replied : (c v : ℕ) (rq : List ℕ) (p : Parts) (o o′ : List ℕ) → o′ ≡ sentInto o (replyOf c v rq (p .node .id)) →
-    Says c v rq p o (record { parts = p; frames = 1; touched = false; remapped = false; occasion = Plain; quiet = true }) o′
+pub replied : {c v : ℕ} {rq bs o o′ : List ℕ} {r : Done} (d : List ℕ) → Holds bs (stateOf bs) → Says c v rq (stateOf bs .node .id) o r o′ →
+    LeavesIn (λ s d. said c v rq s) bs d o r bs d o′
 unfolding reply stored
-replied c v rq p o o′ h d s e = (
-  record { parts = e; frames = refl; touched = refl; remapped = refl; occasion = refl; dictionary = refl; output = rw e at h },
-  λ q. calm-said s (reply c rq s (bytes dataSize v)),
-)
+replied {c} {v} {rq} {bs} d own h =
+    rw (h .done) (
+      record { state = own; frames = refl; touched = refl; remapped = refl; occasion = refl; dictionary = refl; output = h .output },
+      λ q. calm-said (stateOf bs) (reply c rq (stateOf bs) (bytes dataSize v)),
+    )

@@ -10,36 +10,38 @@ use lib.Seq.{sets}
 use lib.ListN.{length, take, drop}
 use Rattle.state.specs.declared.State.{State}
 use Rattle.state.specs.declared.NmtState.{NmtState}
-use Rattle.rules_dictionary.specs.TheNode.{lastNode}
 use Rattle.rules_dictionary.specs.Numbers.{all, value, bytes, part}
-use Rattle.rules_dictionary.specs.Table.{Row, table, placeOf, isWritable, transmit, mode, controlWord, heartbeatTime, open-table}
+use Rattle.rules_dictionary.specs.Table.{Row, table, dictionaryLength, placeOf, isWritable, transmit, mode, controlWord, heartbeatTime, open-table}
 use Rattle.rules_dictionary.specs.Values.{write, read, store, stored}
 use Rattle.rules_dictionary.specs.Legal.{suits, valueVerdict}
 use Rattle.rules_dictionary.specs.Members.{In}
 use Rattle.rules_dictionary.specs.Aborts.{Test, Verdict, good, bad, test, firstOf, noWriting}
 use Rattle.rules_dictionary.proofs.Tests.{is-good, all-in}
-use Rattle.rules_services.specs.Effects.{Effect, Frame, becomes, sends, writes, withDrive, withHeartbeat}
+use Rattle.rules_services.specs.Effects.{Effect, Frame, becomes, sends, writes, withDrive}
 use Rattle.rules_services.specs.Sdo as sdo
 use Rattle.rules_services.specs.Written.{wrote, applied, countRestarted, faultReset}
 use Rattle.rules_services.specs.Emergency.{emergency}
 use Rattle.drive.specs.SetPoints.{controlWritten}
 use Rattle.state.specs.NmtStates.{isStopped}
 use Rattle.rules.specs.Outcome.{frameSize, sentInto}
+use Rattle.form.specs.Form.{stateOf}
+use Rattle.form.specs.Holding.{Holds, Puts}
+use Rattle.form.proofs.Holding.{held-state}
 use Rattle.dictionary.specs.declared.Entry.{Entry}
 use Rattle.dictionary.specs.Entries.{entryOf, Stands}
 use Rattle.output.specs.Laying.{emitted}
 use Rattle.output.proofs.Frames.{emitted-then, lent-back}
-use Rattle.output.specs.declared.Parts.{Parts}
 use Rattle.output.specs.declared.Done.{Done}
-use Rattle.output.specs.Leaves.{partsOf, bare, isMapping, Leaves, LeavesBy}
-use Rattle.output.proofs.Left.{left-alike, loud}
+use Rattle.output.specs.Leaves.{keeping, isMapping, Lent, Leaves, LeavesIn}
+use Rattle.output.proofs.Left.{lent, loud}
 use Rattle.emergency.specs.Acts.{acts, controlActs, modeActs}
-use Rattle.emergency.proofs.Written.{stored-acted, acts-alike}
+use Rattle.emergency.proofs.Written.{stored-acted}
 use Rattle.sdo.specs.declared.Offer.{Offer}
 use Rattle.sdo.specs.Verdicts.{verdictCode, roleVerdict, valueVerdictOf}
 use Rattle.sdo.specs.Requests.{objectAsked, replyOf, offeredBy, offerVerdictOf}
 use Rattle.sdo.specs.Serving.{said, Says, Applies, restartedIf}
 use Rattle.sdo.proofs.Verdicts.{good-code}
+use Rattle.sdo.proofs.Answering.{replied}
 
 -- ---- the verdict
 
@@ -62,20 +64,24 @@ refused good rq t s d h = absurd (h refl)
 refused (bad a) rq t s d h = refl
 
 -- THE LAWS of a download, by what its verdict's code tells
-module _ (rq : List ℕ) (p : Parts) (d : List ℕ) {e : Entry} (st : Stands (sdo.askedIndex rq) (sdo.askedSubindex rq) e)
-    {t : Offer} (offered : t ≡ offeredBy rq (e .size)) {code : ℕ} (is : code ≡ verdictCode (offerVerdictOf (p .node .nmt) d e t)) where
+module _ (rq bs d : List ℕ) {e : Entry} (st : Stands (sdo.askedIndex rq) (sdo.askedSubindex rq) e)
+    {t : Offer} (offered : t ≡ offeredBy rq (e .size)) {code : ℕ} (is : code ≡ verdictCode (offerVerdictOf (stateOf bs .node .nmt) d e t)) where
+  abbrev s : State
+  s = stateOf bs
+
   abbrev verdict : Verdict
-  verdict = offerVerdictOf (p .node .nmt) d e t
+  verdict = offerVerdictOf (s .node .nmt) d e t
 
-  asked-is : (s : State) → p ≡ partsOf s → objectAsked true rq s d ≡ sdo.judged verdict rq (sdo.expedited rq (st .row)) s d
+  asked-is : objectAsked true rq s d ≡ sdo.judged verdict rq (sdo.expedited rq (st .row)) s d
   unfolding sdo.toObject sdo.toRow
-  asked-is s q =
-      let n : p .node .nmt ≡ s .node .nmt = ap (λ (y : Parts). y .node .nmt) q in
-      let over : Entry → Verdict = λ y. offerVerdictOf (p .node .nmt) d y (offeredBy rq (y .size)) in
-      rw (st .finds, ← n, ← offer-of-row rq (p .node .nmt) d (st .row), ← ap over (st .is-entry), ← offered)
+  asked-is =
+      let over : Entry → Verdict = λ y. offerVerdictOf (s .node .nmt) d y (offeredBy rq (y .size)) in
+      rw (st .finds, ← offer-of-row rq (s .node .nmt) d (st .row), ← ap over (st .is-entry), ← offered)
 
-  pub download-refused : {o o′ : List ℕ} {r : Done} → (code ≡ 0 → ⊥) → Says sdo.aborted code rq p o r o′ → LeavesBy p (objectAsked true rq) d o r d o′
-  download-refused n h s q = rw (asked-is s q, refused verdict rq (sdo.expedited rq (st .row)) s d (λ z. n (is ∙ z)), ← is) (h d s q)
+  pub download-refused : {o o′ : List ℕ} {r : Done} → (code ≡ 0 → ⊥) → Holds bs s → Says sdo.aborted code rq (s .node .id) o r o′ →
+      LeavesIn (objectAsked true rq) bs d o r bs d o′
+  download-refused n own h =
+      rw (asked-is, refused verdict rq (sdo.expedited rq (st .row)) s d (λ z. n (is ∙ z)), ← is) (replied d own h)
 
   module _ (zero : code ≡ 0) where
     fine : verdict ≡ good
@@ -85,11 +91,12 @@ module _ (rq : List ℕ) (p : Parts) (d : List ℕ) {e : Entry} (st : Stands (sd
     unfolding offerVerdictOf
     download-writable = good-writable (isWritable (e .access)) _ _ fine
 
-    pub download-applied : {o d′ o′ : List ℕ} {r : Done} → Applies rq e (t .value) p d o r d′ o′ → LeavesBy p (objectAsked true rq) d o r d′ o′
+    pub download-applied : {o bs′ d′ o′ : List ℕ} {r : Done} → Applies rq e (t .value) bs d o r bs′ d′ o′ →
+        LeavesIn (objectAsked true rq) bs d o r bs′ d′ o′
     unfolding sdo.judged sdo.askedValue
-    download-applied h s q =
+    download-applied h =
         let v = ap (λ (u : Offer). u .value) offered ∙ ap (λ (y : Entry). value (part sdo.dataPlace (y .size) rq)) (st .is-entry) in
-        rw (asked-is s q, fine, ← v) (h st s q)
+        rw (asked-is, fine, ← v) (h st)
 
 -- ---- a value stored and acted on
 
@@ -139,63 +146,69 @@ pub acts-fit : (old : ℕ) (m c : Bool) (s : State) (d : List ℕ) (n : ℕ) →
 acts-fit old m c s d n e = omega (arith, acts-short old m c s d)
 
 -- the node-ID stays
-pub restarted-id : (b : Bool) (p q : Parts) → q ≡ restartedIf b p → p .node .id ≤ lastNode → q .node .id ≤ lastNode
-restarted-id true p q e h = rw e h
-restarted-id false p q e h = rw e h
+restarted-id : (b : Bool) (s : State) → restartedIf b s .node .id ≡ s .node .id
+restarted-id true s = refl
+restarted-id false s = refl
+
+-- and what is left to the call's end
+restarted-keeps : (b : Bool) (s t : State) → keeping (restartedIf b s) t ≡ keeping s t
+restarted-keeps true s t = refl
+restarted-keeps false s t = refl
+
+-- bytes in which the count was restarted, lent on
+pub restarted-lent : (b : Bool) {n m : ℕ} {bs bs₁ d d₁ o o₁ : List ℕ} → Lent n bs d o → Puts (restartedIf b) bs bs₁ → length d₁ ≡ dictionaryLength →
+    m ≤ length o₁ → Lent m bs₁ d₁ o₁
+restarted-lent b {bs = bs} l h long room = lent (h (stateOf bs) (l .own)) long room (rw (restarted-id b (stateOf bs)) (l .id))
 
 -- what is left behind the reply: its frame too, and the mapping that was written
 abbrev pub behindReply : Bool → Done → Done
-behindReply m r =
-    record { parts = r .parts; frames = r .frames + 1; touched = r .touched; remapped = m || r .remapped; occasion = r .occasion; quiet = false }
+behindReply m r = record { frames = r .frames + 1; touched = r .touched; remapped = m || r .remapped; occasion = r .occasion; quiet = false }
 
--- the count restarted
-restarts : (b : Bool) (s : State) → restartedIf b (partsOf s) ≡ partsOf (cond b (withHeartbeat 0 s) s)
-restarts true s = refl
-restarts false s = refl
-
-module _ (rq : List ℕ) (p : Parts) (d o : List ℕ) {e : Entry} (st : Stands (sdo.askedIndex rq) (sdo.askedSubindex rq) e) (v : ℕ)
+module _ (rq bs d o : List ℕ) {e : Entry} (st : Stands (sdo.askedIndex rq) (sdo.askedSubindex rq) e) (v : ℕ)
     (may : isWritable (e .access) ≡ true) where
   x : Row
   x = st .row
 
-  -- what follows from the value, the count restarted where it is of 1017h
-  abbrev acting : State → Effect
-  acting s =
-      acts (read d controlWord) (eqb (placeOf x) (placeOf mode)) (eqb (placeOf x) (placeOf controlWord))
-      (cond (eqb (placeOf x) (placeOf heartbeatTime)) (withHeartbeat 0 s) s) (store x v d)
+  abbrev before : State
+  before = stateOf bs
 
-  is-applied : (s : State) → applied (write x v ∷ []) s d ≡ writes (write x v ∷ []) (acting s)
+  -- what follows from the value, the count restarted where it is of 1017h
+  abbrev acting : Effect
+  acting =
+      acts (read d controlWord) (eqb (placeOf x) (placeOf mode)) (eqb (placeOf x) (placeOf controlWord))
+      (restartedIf (eqb (placeOf x) (placeOf heartbeatTime)) before) (store x v d)
+
+  is-applied : applied (write x v ∷ []) before d ≡ writes (write x v ∷ []) acting
   unfolding stored countRestarted x isAt open-table
-  is-applied s =
+  is-applied =
       let i = st .listed in
-      stored-acted (write x v ∷ []) s d ∙ rw (wrote-at mode refl i v, wrote-at controlWord refl i v, wrote-at heartbeatTime refl i v)
+      stored-acted (write x v ∷ []) before d ∙ rw (wrote-at mode refl i v, wrote-at controlWord refl i v, wrote-at heartbeatTime refl i v)
 
   -- THE LAW of a good value: behind the reply, in the output from the next frame on, it is acted on
-  pub apply-left : {m : Bool} {old : ℕ} {next : Parts} {r : Done} {d₁ o₁ d′ back : List ℕ} → m ≡ isMapping (e .role) →
-      d₁ ≡ sets d (e .place) (bytes (e .size) v) → o₁ ≡ sentInto o (replyOf sdo.downloaded 0 rq (p .node .id)) → old ≡ read d controlWord →
-      next ≡ restartedIf (eqb (e .place) (placeOf heartbeatTime)) p →
-      Leaves (acts old (eqb (e .place) (placeOf mode)) (eqb (e .place) (placeOf controlWord)) (bare next) d₁) d₁
-      (take (length o₁ - frameSize) (drop frameSize o₁)) r d′ back →
-      LeavesBy p (λ s d. sends (sdo.reply sdo.downloaded rq s (bytes sdo.dataSize 0)) (applied (write (st .row) v ∷ []) s d)) d o
-      (behindReply m r) d′ (take frameSize o₁ ++ (back ++ drop (length o₁ - frameSize) (drop frameSize o₁)))
+  pub apply-left : {m : Bool} {old : ℕ} {r : Done} {d₁ o₁ bs₁ bs′ d′ back : List ℕ} → m ≡ isMapping (e .role) →
+      d₁ ≡ sets d (e .place) (bytes (e .size) v) → o₁ ≡ sentInto o (replyOf sdo.downloaded 0 rq (before .node .id)) → old ≡ read d controlWord →
+      Holds bs before → Puts (restartedIf (eqb (e .place) (placeOf heartbeatTime))) bs bs₁ →
+      Leaves (stateOf bs₁) (acts old (eqb (e .place) (placeOf mode)) (eqb (e .place) (placeOf controlWord)) (stateOf bs₁) d₁) d₁
+      (take (length o₁ - frameSize) (drop frameSize o₁)) r bs′ d′ back →
+      LeavesIn (λ s d. sends (sdo.reply sdo.downloaded rq s (bytes sdo.dataSize 0)) (applied (write (st .row) v ∷ []) s d)) bs d o
+      (behindReply m r) bs′ d′ (take frameSize o₁ ++ (back ++ drop (length o₁ - frameSize) (drop frameSize o₁)))
   unfolding x stored sdo.reply emitted
-  apply-left {m} {old} {next} {r} {d₁} {o₁} {d′} {back} named put told was restarted h s q =
+  apply-left {m} {old} {r} {d₁} {o₁} {bs₁} {bs′} {d′} {back} named put told was own restarted h =
       let k = length o₁ - frameSize in
       let at : e .place ≡ placeOf x = ap (λ (y : Entry). y .place) (st .is-entry) in
-      let b = eqb (e .place) (placeOf heartbeatTime) in
-      let same = restarted ∙ ap (restartedIf b) q ∙ restarts b s in
-      let f : Leaves (acting s) (store x v d) (take k (drop frameSize o₁)) r d′ back =
-      rw (was, put, st .writes v d, at) at (left-alike (acts-alike old _ _ (cond b (withHeartbeat 0 s) s) d₁) (rw same at h)) in
-      rw (is-applied s) (
+      let b = eqb (placeOf x) (placeOf heartbeatTime) in
+      let f : Leaves (restartedIf b before) acting (store x v d) (take k (drop frameSize o₁)) r bs′ d′ back =
+      rw (held-state (restarted before own), was, put, st .writes v d, at) at h in
+      rw is-applied (
         record {
-          parts = f .parts;
+          state = rw (restarted-keeps b before (acting .state)) at (f .state);
           frames = omega (arith, f .frames);
           touched = rw (unsent (st .listed) (rw (st .is-entry) at may)) (f .touched);
           remapped = rw (named, f .remapped, ← ap (λ (y : Entry). isMapping (y .role)) (st .is-entry)) refl;
           occasion = f .occasion;
           dictionary = f .dictionary;
-          output = lent-back o₁ back (acting s .sent) 1 k (omega arith) (f .output) ∙ ap (emitted 1 (acting s .sent)) (rw q at told)
-              ∙ emitted-then 0 (replyOf sdo.downloaded 0 rq (s .node .id)) (acting s .sent) o (omega arith);
+          output = lent-back o₁ back (acting .sent) 1 k (omega arith) (f .output) ∙ ap (emitted 1 (acting .sent)) told
+              ∙ emitted-then 0 (replyOf sdo.downloaded 0 rq (before .node .id)) (acting .sent) o (omega arith);
         },
         loud _ _ (behindReply m r) refl,
       )

@@ -1,48 +1,38 @@
--- What the SDO server needs, and what it leaves: `LeavesBy` of `output`, of a reply alone and of a value stored and acted on.
+-- What the SDO server leaves: of a reply alone, and of a value stored and acted on.
 -- Assumes nothing.
-use Prim.Native.Nat.{ℕ, _≤_}
+use Prim.Native.Nat.{ℕ}
 use mathlib.Core.Path.{_≡_}
 use mathlib.Core.List.{List, [], _∷_}
-use mathlib.Core.Bool.{Bool, true, false}
-use lib.ListN.{length}
-use Rattle.state.specs.declared.Node.{Node}
+use mathlib.Core.Bool.{Bool, true, false, cond}
 use Rattle.state.specs.declared.State.{State}
-use Rattle.rules_dictionary.specs.TheNode.{lastNode}
+use Rattle.state.specs.declared.Occasion.the-variants.{Plain}
 use Rattle.rules_dictionary.specs.Numbers.{bytes}
-use Rattle.rules_dictionary.specs.Table.{dictionaryLength}
 use Rattle.rules_dictionary.specs.Values.{write}
-use Rattle.rules_services.specs.Effects.{Effect, becomes, sends}
+use Rattle.rules_services.specs.Effects.{Effect, becomes, sends, withHeartbeat}
 use Rattle.rules_services.specs.Sdo.{reply, downloaded, dataSize, askedIndex, askedSubindex}
 use Rattle.rules_services.specs.Written.{applied}
-use Rattle.rules.specs.Calls.{outputLength}
+use Rattle.rules.specs.Outcome.{sentInto}
 use Rattle.dictionary.specs.declared.Entry.{Entry}
 use Rattle.dictionary.specs.Entries.{Stands}
-use Rattle.output.specs.declared.Parts.{Parts}
 use Rattle.output.specs.declared.Done.{Done}
-use Rattle.output.specs.Leaves.{LeavesBy}
-
--- what a request needs: a dictionary and an output of their lengths, and a node-ID
-pub record Servable (n : Node) (d o : List ℕ) : Type 0 where
-  pub long : length d ≡ dictionaryLength
-  pub room : outputLength ≤ length o
-  pub id : n .id ≤ lastNode
+use Rattle.output.specs.Leaves.{LeavesIn}
+use Rattle.sdo.specs.Requests.{replyOf}
 
 -- a reply with that value, and nothing else
 abbrev pub said : ℕ → ℕ → List ℕ → State → Effect
 said c v rq s = sends (reply c rq s (bytes dataSize v)) (becomes s)
 
-abbrev pub Says : ℕ → ℕ → List ℕ → Parts → List ℕ → Done → List ℕ → Type 0
-Says c v rq p o r o′ = (d : List ℕ) → LeavesBy p (λ s d. said c v rq s) d o r d o′
+-- what such a reply of the node of that node-ID leaves: all but the state, which stays
+pub record Says (c v : ℕ) (rq : List ℕ) (id : ℕ) (o : List ℕ) (r : Done) (o′ : List ℕ) : Type 0 where
+  pub done : r ≡ record { frames = 1; touched = false; remapped = false; occasion = Plain; quiet = true }
+  pub output : o′ ≡ sentInto o (replyOf c v rq id)
 
 -- the reply, and then the value stored in the row that the entry is of, and acted on
-abbrev pub Applies : List ℕ → Entry → ℕ → Parts → List ℕ → List ℕ → Done → List ℕ → List ℕ → Type 0
-Applies rq e v p d o r d′ o′ =
+abbrev pub Applies : List ℕ → Entry → ℕ → List ℕ → List ℕ → List ℕ → Done → List ℕ → List ℕ → List ℕ → Type 0
+Applies rq e v bs d o r bs′ d′ o′ =
     (st : Stands (askedIndex rq) (askedSubindex rq) e) →
-    LeavesBy p (λ s d. sends (reply downloaded rq s (bytes dataSize 0)) (applied (write (st .row) v ∷ []) s d)) d o r d′ o′
+    LeavesIn (λ s d. sends (reply downloaded rq s (bytes dataSize 0)) (applied (write (st .row) v ∷ []) s d)) bs d o r bs′ d′ o′
 
 -- the heartbeat's count restarted where that is so
-abbrev pub restartedIf : Bool → Parts → Parts
-restartedIf true p =
-    let n = p .node in
-    record { node = record { id = n .id; nmt = n .nmt; voltage = n .voltage; heartbeat = 0 }; drive = p .drive; held = p .held }
-restartedIf false p = p
+abbrev pub restartedIf : Bool → State → State
+restartedIf b s = cond b (withHeartbeat 0 s) s

@@ -2,12 +2,16 @@
 ghost use mathlib.Core.Path.{_≡_};
 ghost use mathlib.Core.Bool.{true};
 ghost use lib.Dec.{eqb};
+ghost use lib.ListN.{length};
 ghost use Rattle.rules_dictionary.specs.Table.{heartbeatTime, placeOf, isWritable};
 ghost use Rattle.rules_services.specs.Sdo.{askedIndex, askedSubindex};
 ghost use Rattle.dictionary.specs.Entries.{Stands};
-ghost use Rattle.output.specs.Leaves.{isMapping, LeavesBy};
+ghost use Rattle.rules.specs.Calls.{outputLength};
+ghost use Rattle.form.specs.Form.{stateLength};
+ghost use Rattle.form.specs.Holding.{Puts};
+ghost use Rattle.output.specs.Leaves.{isMapping, Lent, LeavesIn};
 ghost use Rattle.sdo.specs.Requests.{objectAsked};
-ghost use Rattle.sdo.specs.Serving.{restartedIf, Servable, Applies};
+ghost use Rattle.sdo.specs.Serving.{restartedIf, Applies};
 use crate::aborts::GOOD;
 use crate::offers::offer_verdict;
 use crate::replies::ABORTED;
@@ -19,9 +23,10 @@ use dictionary::objects;
 use dictionary::places;
 use dictionary::write;
 use emergency::acted;
+use form::put_heartbeat;
+use form::read_node;
 use output::Done;
 use output::FRAME_LENGTH;
-use output::Parts;
 use rules_dictionary::Role;
 
 // 60h, the reply's command.
@@ -42,35 +47,42 @@ fn is_mapping(role: Role) -> bool
 }
 
 // The heartbeat's count restarted where 1017h is written.
-fn restarted(parts: Parts, place: usize) -> Parts
-    ensures { λ r. ⌜ r ≡ restartedIf (eqb place (placeOf heartbeatTime)) parts ⌝ }
+fn restart_count(state: &mut [u8], place: usize)
+    requires { ⌜ length (now state) ≡ stateLength ⌝ }
+    ensures { λ r. ⌜ Puts (restartedIf (eqb place (placeOf heartbeatTime))) (now (state .entry)) (now (state .exit)) ⌝ }
 {
     if place == places::HEARTBEAT_TIME {
-        let mut next = parts;
-        next.node.heartbeat = 0;
-        return next;
+        put_heartbeat(state, 0);
     }
-    parts
 }
 
 // A good value for a writable entry: the reply, the value stored, and then what follows from it. Of a mapping that is its PDO's plan, at the
 // call's end.
-fn apply(request: [u8; 8], e: Entry, v: u32, parts: Parts, d: &mut [u8], output: &mut [u8]) -> Done
-    requires { ⌜ Servable (parts .node) (now d) (now output)
+fn apply(
+    request: [u8; 8],
+    e: Entry,
+    v: u32,
+    state: &mut [u8],
+    d: &mut [u8],
+    output: &mut [u8],
+) -> Done
+    requires { ⌜ Lent outputLength (now state) (now d) (now output)
         × (Stands (askedIndex request) (askedSubindex request) e × (isWritable (e .access) ≡ true)) ⌝ }
-    ensures { λ r. ⌜ Applies request e v parts (now (d .entry)) (now (output .entry)) r (now (d .exit)) (now (output .exit)) ⌝ }
+    ensures { λ r. ⌜ Applies request e v (now (state .entry)) (now (d .entry)) (now (output .entry))
+        r (now (state .exit)) (now (d .exit)) (now (output .exit)) ⌝ }
 {
     let place = e.place as usize;
     let role = e.role;
     let old = objects::control_word(d);
-    reply(DOWNLOADED, 0, request, parts.node.id, output);
+    let node = read_node(state);
+    reply(DOWNLOADED, 0, request, node.id, output);
     write(d, place, e.size, v);
-    let next = restarted(parts, place);
+    restart_count(state, place);
     let mut done = acted(
         old,
         place == places::MODE,
         place == places::CONTROL_WORD,
-        next,
+        state,
         d,
         &mut output[FRAME_LENGTH..],
     );
@@ -81,16 +93,23 @@ fn apply(request: [u8; 8], e: Entry, v: u32, parts: Parts, d: &mut [u8], output:
 }
 
 // A download to an entry.
-pub fn download(request: [u8; 8], e: Entry, parts: Parts, d: &mut [u8], output: &mut [u8]) -> Done
-    requires { ⌜ Servable (parts .node) (now d) (now output) × Stands (askedIndex request) (askedSubindex request) e ⌝ }
-    ensures { λ r. ⌜ LeavesBy parts (objectAsked true request) (now (d .entry)) (now (output .entry)) r (now (d .exit)) (now (output .exit)) ⌝ }
+pub fn download(
+    request: [u8; 8],
+    e: Entry,
+    state: &mut [u8],
+    d: &mut [u8],
+    output: &mut [u8],
+) -> Done
+    requires { ⌜ Lent outputLength (now state) (now d) (now output) × Stands (askedIndex request) (askedSubindex request) e ⌝ }
+    ensures { λ r. ⌜ LeavesIn (objectAsked true request) (now (state .entry)) (now (d .entry)) (now (output .entry))
+        r (now (state .exit)) (now (d .exit)) (now (output .exit)) ⌝ }
 {
     let offer = expedited(request, e.size);
-    let node = parts.node;
+    let node = read_node(state);
     let nmt = node.nmt;
     let code = offer_verdict(nmt, d, e, offer);
     if code != GOOD {
-        return answer(ABORTED, code, request, parts, output);
+        return answer(ABORTED, code, request, node.id, output);
     }
-    apply(request, e, offer.value, parts, d, output)
+    apply(request, e, offer.value, state, d, output)
 }

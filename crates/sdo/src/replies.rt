@@ -7,8 +7,7 @@ ghost use Rattle.rules.specs.Outcome.{frameSize, sentInto};
 ghost use Rattle.sdo.specs.Requests.{replyBytes, replyOf};
 ghost use Rattle.sdo.specs.Serving.{Says};
 use output::Done;
-use output::Parts;
-use output::becomes;
+use output::nothing_done;
 use output::send;
 use rules_dictionary::PdoData;
 
@@ -50,12 +49,12 @@ pub fn reply(command: u8, v: u32, request: [u8; 8], id: u8, output: &mut [u8])
 }
 
 // A reply alone: nothing is written, the state stays, and nothing is left to do.
-pub fn answer(command: u8, v: u32, request: [u8; 8], parts: Parts, output: &mut [u8]) -> Done
+pub fn answer(command: u8, v: u32, request: [u8; 8], id: u8, output: &mut [u8]) -> Done
     requires { ⌜ frameSize ≤ length (now output) ⌝ }
-    ensures { λ r. ⌜ Says command v request parts (now (output .entry)) r (now (output .exit)) ⌝ }
+    ensures { λ r. ⌜ Says command v request id (now (output .entry)) r (now (output .exit)) ⌝ }
 {
-    reply(command, v, request, parts.node.id, output);
-    let mut done = becomes(parts, true);
+    reply(command, v, request, id, output);
+    let mut done = nothing_done(true);
     done.frames = 1;
     done
 }

@@ -5,7 +5,7 @@ use native.Mathlib.Omega.{arith}
 use mathlib.Core.Path.{_≡_, refl, sym, _∙_, ap, ap₂, subst}
 use mathlib.Core.Bool.{Bool, true, false, not, _&&_}
 use mathlib.Core.List.{List, map}
-use borrow.Author.Tests.{ltb-true}
+use borrow.Author.Tests.{ltb-true, not-true}
 use lib.Dec.{eqb, ltb}
 use lib.ListN.{length, getD}
 use Rattle.rules_dictionary.specs.Numbers.{all, areBytes}
@@ -18,7 +18,7 @@ use Rattle.rules_dictionary.proofs.Packing.{within}
 use Rattle.rules_dictionary.proofs.Rows.{read-fits}
 use Rattle.rules_dictionary.proofs.Members.{all-of, in-map, identifier-in}
 use Rattle.rules.specs.Sound.{identifiersLegal}
-use Rattle.theorems.proofs.Booleans.{not-false, false-not, and-false-if, and-then-false, eqb-comm}
+use Rattle.theorems.proofs.Booleans.{false-not, and-false-if, and-then-false, eqb-comm}
 use Rattle.theorems.proofs.Dictionary.{of-pdo, Fits, fits, fits-back, badAlone}
 use Rattle.soundness.specs.Keys.{keyIn, isLegalKey, distinct, areApart}
 use Rattle.soundness.proofs.Distinct.{all-mapped, apart-in, of-apart, by-direction}
@@ -75,7 +75,7 @@ module _ (d : List ℕ) (long : length d ≡ dictionaryLength) (bytes : areBytes
       }
     where
       alone : {q : ℕ} → In q pdos → badAlone q (word q) ≡ false
-      alone j = not-false _ (sym (legal-of j) ∙ all-in isLegalKey (in-map (keyIn d) j) (and-left (all isLegalKey (keys d)) (distinct (keys d)) h))
+      alone j = not-true _ (sym (legal-of j) ∙ all-in isLegalKey (in-map (keyIn d) j) (and-left (all isLegalKey (keys d)) (distinct (keys d)) h))
 
   -- ---- words that fit are legal identifiers, and back
 
@@ -88,7 +88,7 @@ module _ (d : List ℕ) (long : length d ≡ dictionaryLength) (bytes : areBytes
   legal-fits h p i =
       fits word (word p) i
       (subst (λ (w : ℕ). badIdentifier (identifiers d) p w ≡ false) (at-word i)
-      (not-false _ (all-in (λ p. not (badIdentifier (identifiers d) p (getD (identifiers d) p 0))) i h)))
+      (not-true _ (all-in (λ p. not (badIdentifier (identifiers d) p (getD (identifiers d) p 0))) i h)))
 
   fits-legal : ((p : ℕ) → In p pdos → Fits word p (word p)) → identifiersLegal d ≡ true
   unfolding identifiersLegal identifiers word

@@ -10,14 +10,15 @@ use lib.Dec.{eqb, leb, ltb}
 use lib.ListN.{length}
 use Rattle.rules_dictionary.specs.Numbers.{all, areBytes}
 use Rattle.rules_dictionary.specs.Table.{Row, table, nodeRows, driveRows, receivePdos, transmitPdos, pdos, communicationRows, mappingRows, eachWay}
-use Rattle.rules_dictionary.specs.Table.{sizeOf, largest, isConstant, dictionaryLength}
-use Rattle.rules_dictionary.specs.Values.{Write, write, read, defaultOf}
+use Rattle.rules_dictionary.specs.Table.{sizeOf, largest, dictionaryLength}
+use Rattle.rules_dictionary.specs.Values.{write, read}
 use Rattle.rules_dictionary.specs.Legal.{isBelow, isAbove, badChoice}
 use Rattle.rules_dictionary.specs.Members.{In, here, there}
 use Rattle.rules_dictionary.proofs.Packing.{within}
 use Rattle.rules_dictionary.proofs.Rows.{read-fits}
 use Rattle.rules_dictionary.proofs.Members.{unpacked-table}
 use Rattle.rules.specs.Sound.{constantsAsListed, valuesInRange, inRange}
+use Rattle.theorems.proofs.Dictionary.{listed, ranged}
 use Rattle.mapping.proofs.Orders.{swap, beside}
 use Rattle.soundness.specs.Rows.{testsOf, tests, communicationTests, rowTests, fewMoves}
 
@@ -40,13 +41,6 @@ at-most k v most h = go (eqb k most) (leb v k) refl refl
     go false false e f = rw (lt-ltb k v (leb-false v k f))
 
 -- ---- rows
-
--- "constants as listed" and "values in range", of one value
-listed : ℕ → Write → Bool
-listed n w = not (isConstant (w .row .access)) || eqb (w .value) (defaultOf n (w .row))
-
-ranged : Write → Bool
-ranged w = inRange (w .row) (w .value)
 
 in-a-row : (l a b c rest : Bool) → ((l && ((a && b) && c)) && rest) ≡ (l && (a && (b && (c && rest))))
 in-a-row l a b c rest = simp and-assoc

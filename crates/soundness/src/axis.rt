@@ -1,6 +1,7 @@
 // The drive's clauses, 6041h and 6061h, and the heartbeat count.
 use dictionary::objects;
 use drive::Drive;
+use drive::set_points::NEW_SET_POINT;
 use drive::states::has;
 use drive::states::is_faulty;
 use drive::status::status;
@@ -16,9 +17,6 @@ ghost use Rattle.rules_dictionary.specs.Legal.{modeNumber};
 ghost use Rattle.drive.specs.StatusWord.{status};
 ghost use Rattle.rules.specs.Sound.{storeInPlace, takenInPlace, causeInPlace, driveSound, heartbeatSound};
 ghost use Rattle.soundness.specs.Parts.{driveClauses};
-
-// Bit 4 of 6040h.
-const NEW_SET_POINT: u16 = 16;
 
 // "6041h .. as the rules make" it. The flags: not Stopped, voltage.
 fn is_status_made(remote: bool, voltage: bool, v: Drive, d: &[u8]) -> bool

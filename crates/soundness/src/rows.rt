@@ -1,5 +1,7 @@
 // The rows of the table: constants as listed, values in range. A row that may hold any value of its type is not read here, nor the count of a
 // mapping, which is read beside its plan.
+use dictionary::choices::is_mode;
+use dictionary::choices::is_type;
 use dictionary::objects;
 use dictionary::places;
 use dictionary::records;
@@ -28,7 +30,7 @@ fn communication_legal(d: &[u8], p: usize) -> bool
     ensures { λ r. ⌜ r ≡ communicationTest (now (d .entry)) p ⌝ }
 {
     let transmission = records::transmission_type(d, p);
-    (records::communication_count(d, p) == 2) & ((transmission <= 240) | (254 <= transmission))
+    (records::communication_count(d, p) == 2) & is_type(transmission as u32)
 }
 
 // The same of the four PDOs from PDO p on.
@@ -46,8 +48,7 @@ fn drive_legal(d: &[u8], n: u8) -> bool
     requires { ⌜ length (now d) ≡ dictionaryLength ⌝ }
     ensures { λ r. ⌜ r ≡ tests n (now (d .entry)) driveRows ⌝ }
 {
-    let mode = objects::mode(d);
-    ((mode == 0) | ((mode == 1) | (mode == 3)))
+    is_mode(objects::mode(d) as u32)
         & ((objects::position_window(d) <= 0x7FFF_FFFF)
             & ((objects::limit_count(d) == 2)
                 & ((1 <= objects::profile_acceleration(d))

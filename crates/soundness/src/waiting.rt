@@ -1,5 +1,6 @@
 // What waits for SYNC, tested where the state's bytes keep it: SYNC counts, due marks and held frames. Mostly nothing waits, which their bytes
 // tell all together; then of a transmit PDO two bytes tell it, of a receive PDO nine.
+use dictionary::choices::LAST_SYNCHRONOUS;
 use dictionary::places::EACH_WAY;
 use dictionary::read4;
 use dictionary::records;
@@ -28,9 +29,6 @@ ghost use Rattle.rules_services.specs.PdoTraffic.{works, noData};
 ghost use Rattle.rules.specs.Sound.{countSound, dueSound, paceSound, heldSound};
 ghost use Rattle.soundness.specs.Kept.{planKept, plansKeptIn};
 ghost use Rattle.soundness.specs.Waiting.{pacePlace, heldFramePlace, noneWaiting, waitSound, zeroFrom};
-
-// The last type that waits for SYNC.
-const LAST_SYNCHRONOUS: u8 = 240;
 
 // The PDOs of a direction, counted in a word of the controller.
 const ROUNDS: u32 = EACH_WAY as u32;

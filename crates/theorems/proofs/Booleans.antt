@@ -7,8 +7,6 @@ use mathlib.Core.Bool.{Bool, true, false, cond, not, _&&_, _||_, and-assoc, fals
 use mathlib.Core.List.{List, [], _∷_, _++_}
 use lib.Dec.{eqb}
 use borrow.Author.Tests.{eqb-true, eq-eqb, ne-eqb}
--- the name that `soundness` and `calls` still have for it
-pub use borrow.Author.Tests.{not-true as not-false}
 use Rattle.rules_dictionary.specs.{Numbers.all, Numbers.any, Members.In, Members.here, Members.there}
 
 -- a test passes or fails

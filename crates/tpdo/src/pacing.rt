@@ -8,15 +8,13 @@ ghost use Rattle.rules_dictionary.specs.Legal.{isCyclic};
 ghost use Rattle.rules_services.specs.PdoTraffic.{paced, cyclic, acyclic, paceOf, typeOf};
 ghost use Rattle.mapping.specs.Working.{isOpen};
 ghost use Rattle.tpdo.specs.Sending.{openPace};
+use dictionary::choices::LAST_SYNCHRONOUS;
 use dictionary::places::EACH_WAY;
 use dictionary::records;
 use mapping::is_open;
 use rules_services::Paced;
 use state::Occasion;
 use state::Pace;
-
-// The last type that waits for SYNC.
-const LAST_SYNCHRONOUS: u8 = 240;
 
 // Whether it is sent, and what is kept of it.
 fn paced(send: bool, count: u8, due: bool) -> Paced

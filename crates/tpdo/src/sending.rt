@@ -21,9 +21,6 @@ use state::NmtState;
 use state::Occasion;
 use state::Pace;
 
-// The frame identifiers: eleven bits.
-const IDENTIFIERS: u32 = 0x800;
-
 // Whether a transmit PDO's ready frame changed, or the node entered Operational.
 fn changed(was: bool, kept: PdoData, ready: PdoData) -> bool
     ensures { λ r. ⌜ r ≡ (not was || not (sameData kept ready)) ⌝ }
@@ -41,7 +38,7 @@ fn transmit(goes: bool, t: usize, content: PdoData, d: &[u8], output: &mut [u8])
         return 0;
     }
     let word = records::identifier(d, EACH_WAY + t);
-    send(output, (word % IDENTIFIERS) as u16, content);
+    send(output, (word % records::IDENTIFIERS) as u16, content);
     1
 }
 

@@ -1,49 +1,57 @@
 -- `calls::event` meets its contract. Assumes nothing.
+use Prim.Native.Nat.{ℕ}
 use mathlib.Core.Path.{sym, _∙_, ap}
 use mathlib.Core.List.{List}
-use Prim.Native.Nat.{ℕ}
-use borrow.Author.Needs.{needs}
 use Rattle.state.specs.declared.Answer.{Answer}
-use Rattle.rules.specs.Calls.{eventCall}
-use Rattle.form.specs.Form.{stateOf}
-use Rattle.form.proofs.OneForm.{stateOf-form}
+use Rattle.state.specs.declared.State.{State}
+use Rattle.rules.specs.Calls.{eventCall, answer}
+use Rattle.form.specs.Holding.{Holds}
+use Rattle.form.proofs.Holding.{held-state}
 use Rattle.calls.specs.declared.Opening.{Opening}
 use Rattle.calls.specs.Opening.{openingOf}
-use Rattle.calls.specs.Briefs.{outcome}
+use Rattle.calls.specs.Answers.{outcome}
 use Rattle.calls.proofs.Refusals.{not-opened, opens-form, opened-in, unsound-event}
+use Rattle.calls.proofs.Answered.{answers-by, owned}
+use borrow.Author.Needs.{needs}
 use Rattle.calls.proofs.event.Statement.{statement}
 use Rattle.calls.proofs.event.Tie as tie
 
 returns : tie.Need-returns
 returns c =
-    let own = c .before .before .before .before .before .before .form-of .ensures in
-    let a = c .before .before .before .before .before .before .before .before .before .before .args in
+    let form-of = c .before .before .before .before .before .before in
+    let start = form-of .before .before .before .before in
+    let own = form-of .form-of .ensures in
+    let a = start .args in
     let e = c .before .before .opened .ensures ∙ ap (λ (bs : List ℕ). openingOf bs (a .d .now) (a .output .now)) (own .0)
     ∙ opens-form (a .s) (a .d .now) (a .output .now) (own .1) in
     ap (λ (x : Answer). outcome x (a .d .now) (a .output .now)) (c .refuse .ensures)
     ∙ rw e (not-opened (eventCall (a .number) (a .arguments .now)) (a .s) (a .d .now) (a .output .now)
     (unsound-event (a .number) (a .arguments .now) (a .s) (a .d .now)) (ap (λ (x : Opening). x .refused) (sym e) ∙ c .before .if1 .taken))
 
-brief-event-requires : tie.Need-brief-event-requires
-brief-event-requires c κs =
-    let a = c .before .before .before .before .before .before .before .before .before .before .before .before .args in
+event-in-requires : tie.Need-event-in-requires
+event-in-requires c κs =
+    let opened = c .before .before .before .before in
+    let form-of = opened .before .before .before .before in
+    let start = form-of .before .before .before .before in
+    let a = start .args in
+    let own = form-of .form-of .ensures in
     let k = opened-in _ (a .d .now) (a .output .now)
-    (ap (λ (x : Opening). x .refused) (sym (c .before .before .before .before .opened .ensures)) ∙ c .before .before .before .if1 .left) in
-    (k .0, k .1 .1)
-
-with-plans-requires : tie.Need-with-plans-requires
-with-plans-requires c κs = c .before .before .before .before .before .brief-event .ensures .1
+    (ap (λ (x : Opening). x .refused) (sym (opened .opened .ensures)) ∙ c .before .before .before .if1 .left) in
+    record { own = owned (record { bytes = own .0; typed = own .1 }); whole = k .0; stands = k .1 .1 }
 
 returns-2 : tie.Need-returns-2
 returns-2 c =
-    let made = c .before .before .before .before .before .before in
-    let formed = made .before .before .before .before .before .before .before .before .before in
-    let own = formed .form-of .ensures in
-    let s = formed .before .before .before .before .args .s in
-    let held = ap stateOf (own .0) ∙ stateOf-form s (own .1) in
-    rw (c .with-plans .ensures) (rw held at (made .brief-event .ensures .0))
+    let event-in = c .before .before .before .before .before .before .before in
+    let form-of = event-in .before .before .before .before .before .before .before .before .before in
+    let start = form-of .before .before .before .before in
+    let a = start .args in
+    let own = form-of .form-of .ensures in
+    let held : Holds (form-of .form-of .result) (a .s) = record { bytes = own .0; typed = own .1 } in
+    rw (c .with-state .ensures) (answers-by (event-in .event-in .ensures)
+    ∙ ap (λ (s : State). answer (eventCall (a .number) (a .arguments .now)) s (a .d .now) (a .output .now)) (held-state held))
 
 pub event-spec : {M : Type 1} → statement M
 event-spec =
     tie.close (tie.spec (λ c κs. search needs) (λ c. search needs) (λ c κs. search needs) (λ c κs. search needs) (λ c. search needs)
-    (λ c. search needs) returns (λ c. search needs) brief-event-requires with-plans-requires (λ c. search needs) (λ c. search needs) returns-2)
+    (λ c. search needs) returns (λ c. search needs) event-in-requires (λ c. search needs) (λ c κs. search needs) (λ c. search needs)
+    (λ c. search needs) returns-2)

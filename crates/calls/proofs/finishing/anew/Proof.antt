@@ -1,21 +1,47 @@
 -- `calls::finishing::anew` meets its contract. Assumes nothing.
-use Rattle.calls.proofs.Ends.{still-plannable, renewed}
+use Rattle.form.specs.Form.{stateOf}
+use Rattle.calls.proofs.Ends.{still-plannable}
 use borrow.Author.Needs.{needs}
 use Rattle.calls.proofs.finishing.anew.Statement.{statement}
 use Rattle.calls.proofs.finishing.anew.Tie as tie
 
+all-plans-requires : tie.Need-all-plans-requires
+all-plans-requires c κs =
+    let settle = c .before .before .before .before in
+    let read-drive = settle .before .before in
+    let read-node = read-drive .before .before in
+    let start = read-node .before .before .before .before in
+    let made = rw (read-node .read-node .ensures, read-drive .read-drive .ensures) at (settle .settle .ensures .0) in
+    still-plannable (stateOf (start .args .state .now)) _ _ made (start .pre .plannable)
+
 ready-anew-requires : tie.Need-ready-anew-requires
 ready-anew-requires c κs =
-    let t = c .before .before .before in
-    let start = t .before .before .before .before .before .before in
-    still-plannable (start .args .done .parts) _ _ (t .settle .ensures .0) (start .pre .plannable)
+    let settle = c .before .before .before .before .before .before .before .before .before .before in
+    let read-drive = settle .before .before in
+    let read-node = read-drive .before .before in
+    let start = read-node .before .before .before .before in
+    let made = rw (read-node .read-node .ensures, read-drive .read-drive .ensures) at (settle .settle .ensures .0) in
+    still-plannable (stateOf (start .args .state .now)) _ _ made (start .pre .plannable)
 
 returns : tie.Need-returns
-returns c s o =
-    let w = c .before in
-    let t = w .before .before .before .before in
-    let p = t .before .before .before .before .before .before .pre in
-    renewed s _ _ _ (t .settle .ensures .0) (p .idle) (p .remapped) _ (w .ready-anew .ensures) o
+returns c =
+    let put-ready = c .before .before .before .before .before .before in
+    let ready-anew = put-ready .before in
+    let put-plans = ready-anew .before .before .before .before .before in
+    let all-plans = put-plans .before in
+    let settle = all-plans .before .before .before .before .before in
+    let read-drive = settle .before .before in
+    let read-node = read-drive .before .before in
+    let start = read-node .before .before .before .before in
+    let planned = put-plans .put-plans .ensures _ (start .pre .own) in
+    let worked = put-ready .put-ready .ensures _ planned in
+    let idle = c .before .before .put-paces .ensures _ worked in
+    record {
+      dictionary = rw (read-node .read-node .ensures, read-drive .read-drive .ensures) at (settle .settle .ensures .0);
+      state = rw (all-plans .all-plans .ensures, ready-anew .ready-anew .ensures) at idle;
+    }
 
 pub anew-spec : {M : Type 1} → statement M
-anew-spec = tie.close (tie.spec (λ c κs. search needs) ready-anew-requires (λ c. search needs) (λ c. search needs) returns)
+anew-spec =
+    tie.close (tie.spec (λ c κs. search needs) (λ c κs. search needs) (λ c κs. search needs) all-plans-requires
+    (λ c κs. search needs) ready-anew-requires (λ c κs. search needs) (λ c κs. search needs) (λ c. search needs) (λ c. search needs) returns)

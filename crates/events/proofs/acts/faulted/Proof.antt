@@ -1,36 +1,35 @@
 -- `events::acts::faulted` meets its contract. Assumes nothing.
 use Prim.Native.Nat.{ℕ}
-use mathlib.Core.Path.{_≡_, refl, ap}
+use native.Mathlib.Omega.{arith}
+use mathlib.Core.Path.{_≡_, refl}
 use mathlib.Core.List.{List, append-nil}
 use mathlib.Core.Bool.{true, false, false≢true}
 use lib.Bits.{bitOr}
 use lib.ListN.{length}
 use Rattle.state.specs.declared.Occasion.the-variants.{Plain}
 use Rattle.state.specs.declared.State.{State}
-use Rattle.drive.specs.declared.Drive.{Drive}
 use Rattle.rules_dictionary.specs.Table.{errorCode, errorRegister}
 use Rattle.rules_dictionary.specs.Values.{read, store, stored}
-use Rattle.rules_services.specs.Effects.{withDrive}
 use Rattle.rules_services.specs.Emergency.{emergency}
 use Rattle.rules_services.specs.Events.{genericError, faulted}
 use Rattle.rules.specs.Outcome.{sentInto}
-use Rattle.output.specs.Leaves.{partsOf, Leaves}
+use Rattle.form.specs.Holding.{Holds}
+use Rattle.output.specs.Leaves.{keeping, Leaves}
 use Rattle.emergency.specs.Emergencies.{emergencyOf}
 use borrow.Author.Needs.{needs}
 use Rattle.events.proofs.acts.faulted.Statement.{statement}
 use Rattle.events.proofs.acts.faulted.Tie as tie
 
-leaves : (code register before k : ℕ) (s : State) (v : Drive) (d o d′ d″ o′ : List ℕ) → before ≡ read d errorRegister →
+leaves : (code register before k : ℕ) (s : State) (d o d′ d″ o′ : List ℕ) {bs : List ℕ} → before ≡ read d errorRegister →
     d′ ≡ store errorCode code d → d″ ≡ store errorRegister (bitOr before (bitOr register genericError)) d′ →
     (k ≡ length (emergencyOf code (s .node) d″)) × (o′ ≡ sentInto o (emergencyOf code (s .node) d″)) →
-    v ≡ faulted code register s d .state .axis .drive →
-    Leaves (faulted code register s d) d o
-    (record { parts = partsOf (withDrive v s); frames = k; touched = true; remapped = false; occasion = Plain; quiet = false }) d″ o′
+    Holds bs (keeping s (faulted code register s d .state)) →
+    Leaves s (faulted code register s d) d o (record { frames = k; touched = true; remapped = false; occasion = Plain; quiet = false }) bs d″ o′
 unfolding faulted stored emergency emergencyOf
-leaves code register before k s v d o d′ d″ o′ was coded gained h drive =
+leaves code register before k s d o d′ d″ o′ was coded gained h held =
     let written : d″ ≡ stored (faulted code register s d .writes) d = rw (← was, ← coded) gained in
     record {
-      parts = ap (λ (x : Drive). partsOf (withDrive x s)) drive;
+      state = held;
       frames = rw (append-nil, ← written) (h .0);
       touched = refl;
       remapped = refl;
@@ -39,21 +38,45 @@ leaves code register before k s v d o d′ d″ o′ was coded gained h drive =
       output = rw (append-nil, ← written) (h .1);
     }
 
+emergency-requires : tie.Need-emergency-requires
+emergency-requires c κs =
+    let set-error-register = c .before .before .before .before .before .before .before .before .before .before .before in
+    let set-error-code = set-error-register .before .before .before .before in
+    let read-node = set-error-code .before .before .before .before .before .before in
+    let start = read-node .before .before .before .before .before in
+    let p = start .pre in
+    rw (read-node .read-node .ensures) (
+      omega (arith, set-error-register .set-error-register .kept, set-error-code .set-error-code .kept, p .long),
+      (p .room, p .id),
+    )
+
 returns : tie.Need-returns
 unfolding faulted
 returns c =
-    let to = c .before .before in
-    let sent = to .before .before .before in
-    let gained = sent .before .before .before .before .before in
-    let coded = gained .before .before .before .before in
-    let was = coded .before .before in
-    let a = was .before .before .before .before .before .before .before .args in
-    let drive = rw (c .before .enters .ensures, to .reaction-from .ensures) at (c .with-cause .ensures) in
-    λ s e.
-    let written = leaves _ (a .register) _ _ s _ _ _ _ _ _ (was .error-register .ensures) (coded .set-error-code .ensures) in
-    (rw e (written (gained .set-error-register .ensures) (rw e at (sent .emergency .ensures)) (rw e at drive)), λ q. absurd (false≢true q))
+    let put-drive = c .before .before .before .before .before .before .before in
+    let with-cause = put-drive .before in
+    let enters = with-cause .before in
+    let reaction-from = enters .before in
+    let set-error-register = reaction-from .before .before .before .before in
+    let set-error-code = set-error-register .before .before .before .before in
+    let error-register = set-error-code .before .before in
+    let read-drive = error-register .before .before in
+    let read-node = read-drive .before .before in
+    let start = read-node .before .before .before .before .before in
+    let a = start .args in
+    let moved = rw (enters .enters .ensures, reaction-from .reaction-from .ensures, read-drive .read-drive .ensures) at
+    (with-cause .with-cause .ensures) in
+    let held = rw moved at (put-drive .put-drive .ensures _ (start .pre .own)) in
+    let sent = rw (read-node .read-node .ensures) at (c .before .before .emergency .ensures) in (
+      leaves (a .code) (a .register) _ _ _ _ _ _ _ _ (error-register .error-register .ensures) (set-error-code .set-error-code .ensures)
+          (set-error-register .set-error-register .ensures) sent held,
+      λ q. absurd (false≢true q),
+    )
 
 pub faulted-spec : {M : Type 1} → statement M
 faulted-spec =
     tie.close (tie.spec (λ c κs. search needs) (λ c κs. search needs) (λ c κs. search needs) (λ c κs. search needs) (λ c κs. search needs)
-    (λ c κs. search needs) (λ c κs. search needs) (λ c. search needs) (λ c. search needs) returns)
+    (λ c κs. search needs) (λ c κs. search needs) (λ c κs. search needs)
+    (λ c κs. c .before .before .before .before .before .before .before .before .before .before .before .before .before .before .before
+    .before .before .before .before .before .before .pre .whole) emergency-requires (λ c. search needs) (λ c. search needs)
+    (λ c. search needs) returns)

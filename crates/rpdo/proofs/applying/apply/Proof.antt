@@ -8,14 +8,14 @@ use Rattle.rpdo.proofs.applying.apply.Tie as tie
 returns : tie.Need-returns
 unfolding open-table
 returns c =
-    let g = c .before .before .before .before in
-    let m = g .before .before .before in
+    let g = c .before .before .before .before .before .before in
+    let m = g .before .before .before .before in
     let t = m .before .before .before .before in
     let k = t .before .before in
-    λ xs r. applied-by r (k .before .before .before .before .args .content) _ _ _
+    λ xs r. applied-by r (k .before .before .before .before .before .args .content) _ _ _
     (k .control-word .ensures) (t .store-values .ensures) (m .before .maps .ensures) (m .maps2 .ensures) (g .acted .ensures)
 
 pub apply-spec : {M : Type 1} → statement M
 apply-spec =
     tie.close (tie.spec (λ c κs. search needs) (λ c κs. search needs) (λ c. search needs) (λ c κs. search needs) (λ c. search needs)
-    (λ c κs. search needs) (λ c κs. search needs) (λ c. search needs) (λ c. search needs) returns)
+    (λ c κs. search needs) (λ c κs. search needs) (λ c. search needs) (λ c. search needs) (λ c. search needs) returns)

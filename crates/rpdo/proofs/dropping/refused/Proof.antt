@@ -4,10 +4,17 @@ use borrow.Author.Needs.{needs}
 use Rattle.rpdo.proofs.dropping.refused.Statement.{statement}
 use Rattle.rpdo.proofs.dropping.refused.Tie as tie
 
+emergency-requires : tie.Need-emergency-requires
+emergency-requires c κs =
+    let k = c .before .before .before .before .before .before .pre in
+    rw (c .before .read-node .ensures) (k .long, (k .room, k .id))
+
 returns : tie.Need-returns
 returns c =
-    let b = c .before .before .before .before in
-    rw (b .becomes .ensures) (left-said (b .before .before .before .before .args .code) (c .before .before .emergency .ensures))
+    let n = c .before .before .before .before in
+    let start = n .before .before .before .before .before in
+    rw (n .before .nothing-done .ensures)
+    (left-said (start .args .code) (start .pre .own) (rw (n .read-node .ensures) at (c .before .before .emergency .ensures)))
 
 pub refused-spec : {M : Type 1} → statement M
-refused-spec = tie.close (tie.spec (λ c κs. search needs) (λ c κs. search needs) (λ c. search needs) returns)
+refused-spec = tie.close (tie.spec (λ c κs. search needs) (λ c κs. search needs) emergency-requires (λ c. search needs) returns)

@@ -1,8 +1,10 @@
 -- `rpdo::syncing::sync` meets its contract. Assumes nothing.
-use native.Mathlib.Omega.{arith}
-use mathlib.Core.Path.{sym, _∙_}
+use mathlib.Core.Path.{_≡_, sym, _∙_}
+use mathlib.Core.Bool.{false}
 use borrow.Author.Needs.{needs}
 use borrow.Author.Tests.{eq-eqb, ne-eqb}
+use Rattle.state.specs.NmtStates.{isStopped}
+use Rattle.form.specs.Form.{stateOf}
 use Rattle.rpdo.specs.Traffic.{syncOf}
 use Rattle.rpdo.proofs.Leaving.{left-still}
 use Rattle.rpdo.proofs.syncing.sync.Statement.{statement}
@@ -11,36 +13,31 @@ use Rattle.rpdo.proofs.syncing.sync.Tie as tie
 returns : tie.Need-returns
 unfolding syncOf
 returns c =
-    let t = c .before in
-    λ s e. rw (sym (rw e at (t .before .is-stopped .ensures)) ∙ t .if1 .taken) (left-still (c .becomes .ensures) s e)
+    let n = c .before .before .before in
+    rw (sym (rw (n .read-node .ensures) at (c .before .before .is-stopped .ensures)) ∙ c .before .if1 .taken)
+    (left-still (n .before .before .before .before .before .pre .lent .own) (c .nothing-done .ensures))
 
-refused-requires : tie.Need-refused-requires
-refused-requires c κs =
-    let k = c .before .before .before .before .before .before .before .before .before .pre in
-    (k .long, (omega (arith, k .room), k .id))
+-- past the test of the NMT state the node is not Stopped
+served : (c : tie.Else1) → isStopped (stateOf (c .before .before .before .before .before .before .before .args .state .now) .node .nmt) ≡ false
+served c = sym (rw (c .before .before .read-node .ensures) at (c .before .is-stopped .ensures)) ∙ c .if1 .left
 
 returns-2 : tie.Need-returns-2
 unfolding syncOf
 returns-2 c =
-    let t = c .before .before .before .before .before in
+    let t = c .before .before .before .before .before .before in
     let n = t .before in
-    let a = n .before .before .before .before .before .before .args in
-    λ s e. rw (sym (rw e at (n .before .is-stopped .ensures)) ∙ n .if1 .left, ne-eqb (a .length) 0 (t .if2 .taken))
-    (c .before .before .refused .ensures s e)
+    let a = n .before .before .before .before .before .before .before .args in
+    rw (served n, ne-eqb (a .length) 0 (t .if2 .taken)) (c .before .before .refused .ensures)
 
 returns-3 : tie.Need-returns-3
 unfolding syncOf
 returns-3 c =
-    let f = c .before .before .before .before in
-    let t = f .before .before .before in
+    let t = c .before .before .before .before .before .before .before .before .before .before in
     let l = t .before .before in
     let n = l .before in
-    let a = n .before .before .before .before .before .before .args in
-    λ s e. rw (
-      sym (rw e at (n .before .is-stopped .ensures)) ∙ n .if1 .left,
-      eq-eqb (a .length) 0 (l .if2 .left),
-      sym (rw e at (t .before .is-operational .ensures)) ∙ t .if3 .taken,
-    ) (f .release-all .ensures s e)
+    let a = n .before .before .before .before .before .before .before .args in
+    let on = sym (rw (n .before .before .read-node .ensures) at (t .before .is-operational .ensures)) ∙ t .if3 .taken in
+    rw (served n, eq-eqb (a .length) 0 (l .if2 .left), on) (c .before .before .before .before .before .before .release-all .ensures)
 
 returns-4 : tie.Need-returns-4
 unfolding syncOf
@@ -48,14 +45,12 @@ returns-4 c =
     let t = c .before in
     let l = t .before .before in
     let n = l .before in
-    let a = n .before .before .before .before .before .before .args in
-    λ s e. rw (
-      sym (rw e at (n .before .is-stopped .ensures)) ∙ n .if1 .left,
-      eq-eqb (a .length) 0 (l .if2 .left),
-      sym (rw e at (t .before .is-operational .ensures)) ∙ t .if3 .left,
-    ) (left-still (c .becomes2 .ensures) s e)
+    let start = n .before .before .before .before .before .before .before in
+    let off = sym (rw (n .before .before .read-node .ensures) at (t .before .is-operational .ensures)) ∙ t .if3 .left in
+    rw (served n, eq-eqb (start .args .length) 0 (l .if2 .left), off) (left-still (start .pre .lent .own) (c .nothing-done2 .ensures))
 
 pub sync-spec : {M : Type 1} → statement M
 sync-spec =
-    tie.close (tie.spec (λ c κs. search needs) (λ c κs. search needs) returns refused-requires (λ c. search needs) (λ c. search needs) returns-2
-    (λ c κs. search needs) (λ c κs. search needs) (λ c. search needs) (λ c. search needs) returns-3 (λ c κs. search needs) returns-4)
+    tie.close (tie.spec (λ c κs. search needs) (λ c κs. search needs) (λ c κs. search needs) (λ c. search needs) returns (λ c κs. search needs)
+    (λ c. search needs) (λ c. search needs) (λ c. search needs) returns-2 (λ c κs. search needs) (λ c κs. search needs) (λ c. search needs)
+    (λ c. search needs) (λ c. search needs) returns-3 (λ c κs. search needs) (λ c. search needs) returns-4)

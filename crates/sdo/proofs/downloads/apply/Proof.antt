@@ -1,43 +1,41 @@
 -- The reply, then the value stored, then acted on in the output behind the reply. Assumes nothing.
 use borrow.Author.Needs.{needs}
 use native.Mathlib.Omega.{arith}
-use mathlib.Core.Path.{_∙_}
 use lib.Dec.{eqb}
 use lib.ListN.{length-take, length-drop}
 use Rattle.rules_dictionary.specs.Table.{placeOf, heartbeatTime, open-table}
-use Rattle.sdo.proofs.Downloading.{restarted-id, acts-fit, apply-left}
+use Rattle.sdo.proofs.Downloading.{restarted-lent, acts-fit, apply-left}
 use Rattle.sdo.proofs.downloads.apply.Statement.{statement}
 use Rattle.sdo.proofs.downloads.apply.Tie as tie
 
 acted-requires : tie.Need-acted-requires
 acted-requires c κs =
-    let n = c .before .before in
-    let s = n .before .before .before .before .before .before .before .before .before .before .before .before .before .before in
-    let b = eqb (s .args .e .place) (placeOf heartbeatTime) in
-    (search needs, (simp (length-take, length-drop) (omega arith), restarted-id b (s .args .parts) _ (n .restarted .ensures) (s .pre .0 .id)))
-
-same-length-2 : tie.Need-same-length-2
-same-length-2 c =
-    let k = c .before .before .before .before in
-    let y = k .before .before .before .before .before .before .before .before .before .before .before .before .before in
-    k .output2 .given .1 ∙ y .reply .kept .1 .1 .1 .1 .0
+    let n = c .before .before .before .before .before in
+    let w = n .before .before .before .before in
+    let s = w .before .before .before .before .before .before .before .before .before .before .before .before .before .before in
+    restarted-lent (eqb (s .args .e .place) (placeOf heartbeatTime)) (s .pre .0) (n .restart-count .ensures) (search needs)
+    (simp (length-take, length-drop) (omega arith))
 
 returns : tie.Need-returns
 unfolding open-table
 returns c =
-    let k = c .before .before .before .before .before .before .before in
-    let n = k .before .before .before in
-    let w = n .before .before .before in
+    let k = c .before .before .before .before .before .before .before .before .before in
+    let n = k .before .before .before .before .before .before in
+    let w = n .before .before .before .before in
     let y = w .before .before .before .before in
-    let q = y .before .before in
-    let s = q .before .before .before .before .before in
+    let i = y .before .before in
+    let q = i .before .before in
+    let s = q .before .before .before .before .before .before in
     let a = s .args in
-    λ st. apply-left (a .request) (a .parts) (a .d .now) (a .output .now) st (a .v) (s .pre .1 .1) (c .before .is-mapping .ensures)
-    (w .write .ensures) (y .reply .ensures) (q .control-word .ensures) (n .restarted .ensures) (k .acted .ensures .0)
+    λ st. apply-left (a .request) (a .state .now) (a .d .now) (a .output .now) st (a .v) (s .pre .1 .1) (c .before .is-mapping .ensures)
+    (w .write .ensures) (rw (i .read-node .ensures) at (y .reply .ensures)) (q .control-word .ensures) (s .pre .0 .own) (n .restart-count .ensures)
+    (k .acted .ensures .0)
 
 pub apply-spec : {M : Type 1} → statement M
 apply-spec =
     tie.close (tie.spec (λ c. search needs) (λ c κs. search needs) (λ c κs. search needs) (λ c κs. search needs) (λ c κs. search needs)
+    (λ c κs. search needs)
     (λ c. search needs) (λ c. search needs) (λ c. search needs) acted-requires
-    (λ c. record { fits = acts-fit _ _ _ _ _ _ (c .before .before .before .before .before .acted .ensures .0 .frames) }) (λ c κs. search needs)
-    (λ c. search needs) same-length-2 returns)
+    (λ c. record { fits = acts-fit _ _ _ _ _ _ (c .before .before .before .before .before .before .before .acted .ensures .0 .frames) })
+    (λ c κs. search needs)
+    (λ c. search needs) (λ c. search needs) (λ c. search needs) returns)

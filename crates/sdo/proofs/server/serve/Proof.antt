@@ -5,6 +5,7 @@ use mathlib.Core.Bool.{true}
 use mathlib.Core.Logic.{⊎-elim}
 use Rattle.rules_services.specs.Sdo.{sdo, asked, abort}
 use Rattle.output.proofs.Left.{left-as, calm-said}
+use Rattle.sdo.proofs.Answering.{replied}
 use Rattle.sdo.proofs.server.serve.Statement.{statement}
 use Rattle.sdo.proofs.server.serve.Tie as tie
 
@@ -12,13 +13,16 @@ pub serve-spec : {M : Type 1} → statement M
 unfolding sdo asked abort
 serve-spec =
     tie.close (tie.spec (λ c. search needs) (λ c κs. search needs) (λ c. search needs) (λ c. search needs) (λ c. search needs) (λ c κs. search needs)
-    (λ c s e. let m = c .before .before .before in let a = m .before .before .before .args in
-    rw (← m .command-of .ensures, c .before .enum-told3 .given .1, c .becomes .ensures)
-    (left-as s _ true (a .d .now) (a .output .now) e, λ q. calm-said s []))
-    (λ c. search needs) (λ c κs. search needs) (λ c. search needs)
-    (λ c. let k = c .before .before in let g = k .before .before in let m = g .before .before in
-    rw (← m .command-of .ensures, g .enum-told4 .given .1) (k .answer .ensures (m .before .before .before .args .d .now)))
-    (λ c κs. search needs) (λ c. search needs) (λ c. search needs)
-    (λ c. let k = c .before .before .before .before in let g = k .before .before .before in let m = g .before in let f = k .to-object .ensures in
+    (λ c. let m = c .before .before .before in let s = m .before .before .before .before in let a = s .args in
+    rw (← m .command-of .ensures, c .before .enum-told3 .given .1, c .nothing-done .ensures)
+    (left-as _ _ true (a .d .now) (a .output .now) (s .pre .own), λ q. calm-said _ []))
+    (λ c. search needs) (λ c κs. search needs) (λ c κs. search needs) (λ c. search needs) (λ c. search needs)
+    (λ c. let k = c .before .before in let n = k .before .before in let g = n .before .before in let m = g .before .before in
+    let s = m .before .before .before .before in
+    rw (← m .command-of .ensures, g .enum-told4 .given .1)
+    (replied (s .args .d .now) (s .pre .own) (rw (n .read-node .ensures) at (k .answer .ensures))))
+    (λ c κs. search needs) (λ c. search needs) (λ c. search needs) (λ c. search needs)
+    (λ c. let k = c .before .before .before .before .before .before in let g = k .before .before .before .before in let m = g .before in
+    let f = k .to-object .ensures in
     ⊎-elim (λ t. rw (← m .command-of .ensures, t .1 .given .1) (rw (t .2) at f)) (λ t. rw (← m .command-of .ensures, t .1 .given .1) (rw (t .2) at f))
     (g .match .came)))

@@ -7,4 +7,4 @@ returns c = cc
 
 pub communication-legal-spec : {M : Type 1} → statement M
 communication-legal-spec =
-    tie.close (tie.spec (λ c κs. search needs) (λ c κs. search needs) returns)
+    tie.close (tie.spec (λ c κs. search needs) (λ c κs. search needs) (λ c. search needs) (λ c κs. search needs) returns)
