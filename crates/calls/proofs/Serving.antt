@@ -56,11 +56,7 @@ module _ {bs d o : List ℕ} (h : Starts bs d o) where
   pub kept : Kept bs d o
   kept = lawful-kept (h .own) law (plans-are (stateOf bs) d (clauses (stateOf bs) d (h .stands .sound) .plans)) (h .stands .room)
 
--- ---- another name for the effect
-
-pub as-served : {s : State} {e e′ : Effect} {d o : List ℕ} {r : Done} {bs′ d′ o′ : List ℕ} → e′ ≡ e →
-    Leaves s e d o r bs′ d′ o′ × Rests s e r → Leaves s e′ d o r bs′ d′ o′ × Rests s e′ r
-as-served is h = rw is h
+-- ---- the effect, by what the code tests
 
 module _ (bs : List ℕ) (s : State) (d : List ℕ) where
   pub framed-nmt : (i : ℕ) → i ≡ nmtIdentifier → framed i bs s d ≡ nmt bs s

@@ -16,7 +16,6 @@ use form::read_node;
 use form::read_paces;
 use form::read_ready;
 use mapping::all_plans;
-use mapping::ready_anew;
 use mapping::ready_by;
 use output::Done;
 use rules_dictionary::PdoData;
@@ -32,7 +31,8 @@ pub fn anew(state: &mut [u8], d: &mut [u8])
     let drive = read_drive(state);
     settle(node, drive, true, d);
     put_plans(state, all_plans(d));
-    put_ready(state, ready_anew(d));
+    let ready = ready_by(state, d);
+    put_ready(state, ready);
     put_paces(state, [IDLE, IDLE, IDLE, IDLE]);
 }
 

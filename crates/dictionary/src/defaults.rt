@@ -63,9 +63,10 @@ fn write_first(d: &mut [u8], count: usize)
     ensures { λ r. ⌜ now (d .exit) ≡ paste (now (d .entry)) 0 (packedDefaults 0 table) count ⌝ }
 {
     let all = DEFAULTS;
-    let mut i: usize = 0;
-    while i < count {
-        d[i] = all[i];
+    let end = count as u32;
+    let mut i: u32 = 0;
+    while i < end {
+        d[i as usize] = all[i as usize];
         i += 1;
     }
 }

@@ -83,7 +83,7 @@ store-of (Queued x y) k t a b e f g h = rw (e, g, h)
 same : (n : ℕ) → eqb n n ≡ true
 same n = eq-eqb n n refl
 
-as-data : {n n′ : ℕ} {bs bs′ : List ℕ} → n ≡ n′ → bs ≡ bs′ →
+pub as-data : {n n′ : ℕ} {bs bs′ : List ℕ} → n ≡ n′ → bs ≡ bs′ →
     _≡_ {A = PdoData} (record { length = n; bytes = bs }) (record { length = n′; bytes = bs′ })
 as-data e f = rw (e, f)
 

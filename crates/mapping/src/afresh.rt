@@ -69,17 +69,3 @@ pub fn ready_by(state: &[u8], d: &[u8]) -> [PdoData; 4]
     }
     ready
 }
-
-// The ready frames by the plans that the mappings now give.
-pub fn ready_anew(d: &[u8]) -> [PdoData; 4]
-    requires { ⌜ GivesPlans (now d) ⌝ }
-    ensures { λ r. ⌜ r ≡ readyOf (now (d .entry)) ⌝ }
-{
-    let mut ready = [NO_DATA, NO_DATA, NO_DATA, NO_DATA];
-    let mut t: usize = 0;
-    while t < EACH_WAY {
-        ready[t] = ready_of(d, plan_of(d, EACH_WAY + t));
-        t += 1;
-    }
-    ready
-}

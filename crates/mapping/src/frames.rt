@@ -83,7 +83,7 @@ fn join_one(d: &[u8], m: Move, behind: u64) -> u64
 }
 
 // The bytes of the first moves, joined.
-fn join(d: &[u8], moves: [Move; 8], count: usize) -> Joined
+fn join(d: &[u8], moves: [Move; 8], count: u32) -> Joined
     requires { ⌜ (length (now d) ≡ dictionaryLength) × MovesFit moves count ⌝ }
     ensures { λ r. ⌜ r .length ≡ length (joinedMoves (now (d .entry)) (take count moves)) ⌝ }
     ensures { λ r. ⌜ r .value ≡ value (joinedMoves (now (d .entry)) (take count moves)) ⌝ }
@@ -93,7 +93,7 @@ fn join(d: &[u8], moves: [Move; 8], count: usize) -> Joined
     let mut k = count;
     while 0 < k {
         k -= 1;
-        let m = moves[k];
+        let m = moves[k as usize];
         value = join_one(d, m, value);
         length += m.size;
     }
@@ -106,7 +106,7 @@ pub fn ready_of(d: &[u8], plan: Plan) -> PdoData
     ensures { λ r. ⌜ r ≡ readyBy (now (d .entry)) plan ⌝ }
 {
     let moves = plan.moves;
-    let joined = join(d, moves, plan.count as usize);
+    let joined = join(d, moves, plan.count as u32);
     PdoData {
         length: joined.length,
         bytes: bytes_of(joined.value),

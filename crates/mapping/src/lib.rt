@@ -10,7 +10,6 @@ mod kept; // what a state's bytes keep of a mapping
 mod working; // whether a PDO works in Operational
 
 pub use afresh::all_plans;
-pub use afresh::ready_anew;
 pub use afresh::ready_by;
 pub use frames::same_data;
 pub use kept::is_frame_kept;

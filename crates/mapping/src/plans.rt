@@ -18,15 +18,15 @@ ghost use Rattle.mapping.specs.Words.{wayOf};
 ghost use Rattle.mapping.specs.Slots.{movesNamed};
 
 // The moves that the first mapping words from a place on name, then spare slots.
-fn moves_of(d: &[u8], first: usize, count: usize, transmit: bool) -> [Move; 8]
+fn moves_of(d: &[u8], first: usize, count: u32, transmit: bool) -> [Move; 8]
     requires { ⌜ (first + 4 * mostMoves ≤ length (now d)) × ((first < 2 ^ 16) × (count ≤ mostMoves)) ⌝ }
     ensures { λ r. ⌜ r ≡ movesNamed (wayOf transmit) count first (now (d .entry)) ⌝ }
 {
     let mut moves = [Move { place: 0, size: 0 }; 8];
     let mut at = first;
-    let mut k: usize = 0;
+    let mut k: u32 = 0;
     while k < count {
-        moves[k] = move_of(read4(d, at), transmit);
+        moves[k as usize] = move_of(read4(d, at), transmit);
         at += places::WORD_LENGTH;
         k += 1;
     }
@@ -40,6 +40,6 @@ pub fn plan_of(d: &[u8], p: usize) -> Plan
 {
     let count = records::map_count(d, p);
     let first = records::words_place(p);
-    let moves = moves_of(d, first, count as usize, places::EACH_WAY <= p);
+    let moves = moves_of(d, first, count as u32, places::EACH_WAY <= p);
     Plan { count, moves }
 }

@@ -14,6 +14,7 @@ use Rattle.rules_dictionary.specs.Plans.{plansOf, readyOf}
 use Rattle.rules_dictionary.proofs.Tests.{and-left, and-right}
 use Rattle.rules.specs.Outcome.{sameBy, samePlan, sameData}
 use Rattle.rules.specs.Sound.{plansFresh, readyFresh}
+use Rattle.form.proofs.Back.{as-data}
 use Rattle.form.specs.Form.{planPlace, planAt, planIn, dataAt}
 use Rattle.form.specs.Own.{planOwn}
 use Rattle.form.proofs.OneForm.{plan-stands}
@@ -48,9 +49,6 @@ same-by f h [] [] e = refl
 same-by f h [] (y ∷ ys) e = absurd (false≢true e)
 same-by f h (x ∷ xs) [] e = absurd (false≢true e)
 same-by f h (x ∷ xs) (y ∷ ys) e = ap₂ (λ (z : _) (zs : _). z ∷ zs) (h x y (and-left (f x y) _ e)) (same-by f h xs ys (and-right (f x y) _ e))
-
-as-data : {m n : ℕ} {bs cs : List ℕ} → m ≡ n → bs ≡ cs → _≡_ {A = PdoData} (record { length = m; bytes = bs }) (record { length = n; bytes = cs })
-as-data e f = rw (e, f)
 
 same-data : (a b : PdoData) → sameData a b ≡ true → a ≡ b
 same-data a b h =

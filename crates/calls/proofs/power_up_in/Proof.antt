@@ -1,7 +1,7 @@
 -- `calls::power_up_in` meets its contract. Assumes nothing.
 use Prim.Native.Nat.{ℕ, _≤_}
 use native.Mathlib.Omega.{arith}
-use mathlib.Core.Path.{_≡_}
+use mathlib.Core.Path.{_≡_, _∙_, ap}
 use mathlib.Core.Bool.{true, false}
 use mathlib.Core.List.{List}
 use lib.ListN.{length}
@@ -10,7 +10,9 @@ use Rattle.rules_dictionary.specs.TheNode.{firstNode, lastNode, isNodeId}
 use Rattle.rules_dictionary.specs.Table.{dictionaryLength}
 use Rattle.rules_services.specs.Nmt.{powerUp}
 use Rattle.state.specs.declared.Refusal.the-variants.{NodeId}
+use Rattle.state.specs.declared.State.{State}
 use Rattle.rules.specs.Calls.{powerUpCall, does, answered, outputLength}
+use Rattle.form.proofs.Holding.{held-state, held-length}
 use Rattle.calls.specs.Opening.{lending, powering}
 use Rattle.calls.proofs.Refusals.{lengths, passes-both, decides, node-between, a-node}
 use Rattle.calls.proofs.Anew.{all-written, gives-plans, starts-anew}
@@ -62,31 +64,44 @@ all-plans-requires c κs =
     let made = rw (fresh-node .fresh-node .ensures, fresh-drive .fresh-drive .ensures n) at (settle .settle .ensures .0) in
     gives-plans n (k .first) (k .last) (k .long) (start .start .ensures) made
 
-ready-anew-requires : tie.Need-ready-anew-requires
-ready-anew-requires c κs =
-    let settle = c .before .before .before .before .before .before .before .before .before .before in
+ready-by-requires : tie.Need-ready-by-requires
+ready-by-requires c κs =
+    let write-head = c .before .before .before .before in
+    let write-plans = write-head .before .before .before .before in
+    let all-plans = write-plans .before in
+    let settle = all-plans .before .before .before .before .before in
     let fresh-drive = settle .before .before in
     let fresh-node = fresh-drive .before in
     let start = fresh-node .before .before .before .before .before in
     let s = start .before .before .before .before .before .before in
-    let n = s .args .n in
-    let k = clear n (s .args .d .now) (s .args .output .now) (s .pre .1) in
+    let a = s .args in
+    let n = a .n in
+    let k = clear n (a .d .now) (a .output .now) (s .pre .1) in
     let made = rw (fresh-node .fresh-node .ensures, fresh-drive .fresh-drive .ensures n) at (settle .settle .ensures .0) in
-    gives-plans n (k .first) (k .last) (k .long) (start .start .ensures) made
+    let held = all-written (now (a .state)) _ _ _ _ _ _ (s .pre .0) (write-plans .write-plans .ensures) (write-head .write-head .ensures) in (
+      held-length held,
+      (
+        gives-plans n (k .first) (k .last) (k .long) (start .start .ensures) made,
+        ap (λ (t : State). t .axis .plans) (held-state held) ∙ all-plans .all-plans .ensures,
+      ),
+    )
 
 cast-accepted : tie.Need-cast-accepted
 unfolding powerUp
 cast-accepted c =
-    let start = c .before .before .before .before .before .before .before .before .before .before .before .before .before .before .before
-    .before .before .before .before .before .before .before .before in
+    let put-ready = c .before .before .before in
+    let write-head = put-ready .before .before .before .before .before .before .before in
+    let settle = write-head .before .before .before .before .before .before .before .before .before .before in
+    let start = settle .before .before .before .before .before .before .before .before in
     let one : start .start .result .frames ≡ 1 = start .start .ensures .frames in omega (arith, one)
 
 returns : tie.Need-returns
 unfolding answered
 returns c =
-    let write-head = c .before .before .before .before in
-    let ready-anew = write-head .before in
-    let write-plans = ready-anew .before .before .before .before .before in
+    let put-ready = c .before .before .before .before in
+    let ready-by = put-ready .before .before in
+    let write-head = ready-by .before .before .before .before .before in
+    let write-plans = write-head .before .before .before .before in
     let all-plans = write-plans .before in
     let settle = all-plans .before .before .before .before .before in
     let fresh-drive = settle .before .before in
@@ -100,7 +115,8 @@ returns c =
     let drive = fresh-drive .fresh-drive .ensures n in
     let made = rw (node, drive) at (settle .settle .ensures .0) in
     let held = all-written (now (a .state)) _ _ _ _ _ _ (s .pre .0) (write-plans .write-plans .ensures) (write-head .write-head .ensures) in
-    let fresh = rw (all-plans .all-plans .ensures, ready-anew .ready-anew .ensures, node, drive) at held in
+    let worked = put-ready .put-ready .ensures _ held in
+    let fresh = rw (all-plans .all-plans .ensures, ready-by .ready-by .ensures, node, drive) at worked in
     λ x. rw (
       c .accepted .ensures,
       decides (powerUpCall n) x (a .d .now) (a .output .now) (k .lent) (does (powerUp n)) (a-node n x (a .d .now)
@@ -111,20 +127,37 @@ returns c =
 -- the dictionary keeps its length
 long : tie.Need-same-length-2
 long c =
-    let settle = c .before .before .before .before .before .before .before .before .before .before .before .before .before .before .before .before in
+    let put-ready = c .before .before .before .before in
+    let settle = put-ready .before .before .before .before .before .before .before .before .before .before .before .before .before
+    .before .before .before .before in
     let start = settle .before .before .before .before .before .before .before .before in
     omega (arith, start .start .kept, settle .settle .kept)
+
+-- the output keeps its length
+lent-long : tie.Need-same-length-3
+lent-long c =
+    let put-ready = c .before .before .before .before in
+    let settle = put-ready .before .before .before .before .before .before .before .before .before .before .before .before .before
+    .before .before .before .before in
+    omega (arith, settle .before .before .before .before .before .before .before .before .start .kept)
+
+-- the state keeps its length
+write-head-requires : tie.Need-write-head-requires
+write-head-requires c κs =
+    let write-plans = c .before .before .before in
+    let start = write-plans .before .before .before .before .before .before .before .before .before .before .before .before .before .before in
+    omega (arith, write-plans .write-plans .kept, start .before .before .before .before .before .before .pre .0)
+
+put-ready-requires : tie.Need-put-ready-requires
+put-ready-requires c κs =
+    let write-head = c .before .before .before .before .before .before in
+    let write-plans = write-head .before .before .before .before in
+    let start = write-plans .before .before .before .before .before .before .before .before .before .before .before .before .before .before in
+    omega (arith, write-head .write-head .kept, write-plans .write-plans .kept, start .before .before .before .before .before .before .pre .0)
 
 pub power-up-in-spec : {M : Type 1} → statement M
 power-up-in-spec =
     tie.close (tie.spec cast-id start-requires (λ c κs. search needs) (λ c κs. search needs) settle-requires all-plans-requires
     (λ c κs. c .before .before .before .before .before .before .before .before .before .before .before .before .before .before .before
-    .before .before .before .before .pre .0) ready-anew-requires
-    (λ c κs. omega (
-      arith,
-      c .before .before .before .before .before .write-plans .kept,
-      c .before .before .before .before .before .before
-          .before .before .before .before .before .before .before .before .before .before .before .before .before .before .before .before .before
-          .before .before .pre .0,
-    )) cast-accepted
-    (λ c κs. search needs) (λ c. search needs) long (λ c. search needs) returns)
+    .before .before .before .before .pre .0) write-head-requires ready-by-requires put-ready-requires cast-accepted
+    (λ c κs. search needs) (λ c. search needs) long lent-long returns)

@@ -3,7 +3,8 @@ use mathlib.Core.Path.{sym, _∙_, ap}
 use Rattle.state.specs.declared.Node.{Node}
 use Rattle.state.specs.NmtStates.{isStopped}
 use Rattle.form.specs.Form.{stateOf}
-use Rattle.calls.proofs.Serving.{as-served, idle-served, lent-all, request-served, request-stopped, request-short}
+use Rattle.rpdo.proofs.Leaving.{renamed}
+use Rattle.calls.proofs.Serving.{idle-served, lent-all, request-served, request-stopped, request-short}
 use borrow.Author.Needs.{needs}
 use Rattle.calls.proofs.served.request.Statement.{statement}
 use Rattle.calls.proofs.served.request.Tie as tie
@@ -38,7 +39,7 @@ returns-3 c =
     let start = read-node .before .before .before .before .before in
     let a = start .args in
     let own = ap (λ (n : Node). isStopped (n .nmt)) (sym (read-node .read-node .ensures)) in
-    as-served (request-served (a .content) (start .pre .1) (stateOf (a .state .now)) (a .d .now)
+    renamed (request-served (a .content) (start .pre .1) (stateOf (a .state .now)) (a .d .now)
     (own ∙ sym (is-stopped .is-stopped .ensures) ∙ first .if1 .left) (second .if2 .left)) (serve .serve .ensures)
 
 pub request-spec : {M : Type 1} → statement M

@@ -5,7 +5,8 @@ use Rattle.state.specs.declared.Node.{Node}
 use Rattle.rules_services.specs.Sdo.{requestBase}
 use Rattle.form.specs.Form.{stateOf}
 use Rattle.output.specs.Laying.{dataOf}
-use Rattle.calls.proofs.Serving.{as-served, kept, serviced-sync, serviced-request, serviced-received, sync-is}
+use Rattle.rpdo.proofs.Leaving.{renamed}
+use Rattle.calls.proofs.Serving.{kept, serviced-sync, serviced-request, serviced-received, sync-is}
 use borrow.Author.Needs.{needs}
 use Rattle.calls.proofs.served.service.Statement.{statement}
 use Rattle.calls.proofs.served.service.Tie as tie
@@ -17,7 +18,7 @@ returns c =
     let start = first .before .before .before .before in
     let a = start .args in
     let s = stateOf (a .state .now) in
-    as-served (serviced-sync (dataOf (a .content)) s (a .d .now) (a .identifier) (first .if1 .taken)
+    renamed (serviced-sync (dataOf (a .content)) s (a .d .now) (a .identifier) (first .if1 .taken)
     ∙ sync-is (a .content) (start .pre .1 .0) s (a .d .now)) (sync .sync .ensures)
 
 returns-2 : tie.Need-returns-2
@@ -29,7 +30,7 @@ returns-2 c =
     let start = first .before .before .before .before in
     let a = start .args in
     let own = ap (λ (n : Node). requestBase + n .id) (read-node .read-node .ensures) in
-    as-served (serviced-request (dataOf (a .content)) (stateOf (a .state .now)) (a .d .now) (a .identifier) (first .if1 .left)
+    renamed (serviced-request (dataOf (a .content)) (stateOf (a .state .now)) (a .d .now) (a .identifier) (first .if1 .left)
     (second .if2 .taken ∙ own)) (request .request .ensures)
 
 returns-3 : tie.Need-returns-3
@@ -41,7 +42,7 @@ returns-3 c =
     let start = first .before .before .before .before in
     let a = start .args in
     let own = ap (λ (n : Node). requestBase + n .id) (read-node .read-node .ensures) in
-    as-served (serviced-received (dataOf (a .content)) (stateOf (a .state .now)) (a .d .now) (a .identifier) (first .if1 .left)
+    renamed (serviced-received (dataOf (a .content)) (stateOf (a .state .now)) (a .d .now) (a .identifier) (first .if1 .left)
     (λ e. second .if2 .left (e ∙ sym own))) (receive .receive .ensures)
 
 pub service-spec : {M : Type 1} → statement M

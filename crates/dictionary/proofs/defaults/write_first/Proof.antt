@@ -14,16 +14,16 @@ use Rattle.dictionary.proofs.defaults.write_first.Statement.{statement}
 use Rattle.dictionary.proofs.defaults.write_first.Tie as tie
 
 abbrev Inv-loop : tie.InvT-loop
-Inv-loop d₀ count all i₀ d i = (d ≡ paste d₀ 0 all i) × (i ≤ count) × (length d ≡ length d₀)
+Inv-loop d₀ count all end i₀ d i = (d ≡ paste d₀ 0 all i) × (i ≤ end) × (length d ≡ length d₀)
 
 abbrev μ-loop : tie.MeasureT-loop
-μ-loop d₀ count all i₀ d i = count - i
+μ-loop d₀ count all end i₀ d i = end - i
 
 pub write-first-spec : {M : Type 1} → statement M
 unfolding dictionaryLength packedDefaults table bytes
 write-first-spec =
-    tie.close (tie.spec Inv-loop μ-loop (λ c. (refl, omega arith, refl)) (λ c. search needs) (λ c. search needs) (λ c. search needs)
-    (λ c. search needs)
+    tie.close (tie.spec Inv-loop μ-loop (λ c. search needs) (λ c. (refl, omega arith, refl)) (λ c. search needs) (λ c. search needs)
+    (λ c. search needs) (λ c. search needs) (λ c. search needs) (λ c. search needs)
     (λ c.
     let l = c .before .loop in (
       copied (c .before .before .args .d .now) (l .d) _ (l .i) (l .inv .0) (omega arith) (omega arith),
