@@ -137,12 +137,6 @@ module _ (c : Call) (s : State) (d o : List ℕ) {passes : Bool} {why : Refusal}
       go false false e f k = decides-not c s d o e why (fails-by f)
       go false true e f k = absurd (false≢true k)
 
-pub opened-stands : (s : State) (d o : List ℕ) → opening s d o .refused ≡ false → Stands s d o
-opened-stands s d o h =
-    let p = passes-both d o (sound s d) NotSound h in
-    let l = lengths d o (p .0) in
-    record { long = l .0; room = l .1; sound = p .1 }
-
 -- what stands is lent well
 pub stands-lent : {s : State} {d o : List ℕ} → Stands s d o → lending d o .refused ≡ false
 stands-lent {s} {d} {o} h = rw (← (well-lent d o (h .long) (h .room)))

@@ -23,7 +23,7 @@ use Rattle.form.specs.Form.{plansPlace, stateLength}
 use Rattle.form.specs.Typed.{Many, none, more, AnyPace, DataTyped, StoreTyped, PlanTyped, HeadTyped}
 use Rattle.form.specs.Holding.{Holds, withReady, planned, holding}
 use Rattle.form.proofs.Rows.{length-node, length-drive, length-data, length-frames, length-paces, length-plans, length-form}
-use Rattle.form.proofs.OneForm.{stateOf-form, form-stateOf, isForm-form, typed-read}
+use Rattle.form.proofs.OneForm.{stateOf-form, form-stateOf, typed-read}
 
 -- ---- bytes that hold a state
 
@@ -38,9 +38,6 @@ module _ {bs : List ℕ} {s : State} (h : Holds bs s) where
 
   pub held-length : length bs ≡ stateLength
   held-length = ap length (h .bytes) ∙ length-form s (h .typed)
-
-  pub held-form : isForm bs ≡ true
-  held-form = rw (h .bytes) (isForm-form s (h .typed))
 
 -- ---- a part of bytes replaced by another of its length
 

@@ -5,11 +5,10 @@ use native.Mathlib.Nat.{pow-suc, mod-lt}
 use native.Mathlib.Omega.{arith}
 use mathlib.Core.Path.{_≡_, refl, sym, _∙_, ap}
 use mathlib.Core.Bool.{Bool, true, false, cond, false≢true}
-use mathlib.Core.List.{List, [], _∷_, _++_}
+use mathlib.Core.List.{List, [], _∷_}
 use borrow.Author.Tests.{eq-eqb, eqb-true}
 use lib.Dec.{eqb, lit<}
-use lib.ListN.{length, getD, drop}
-use lib.Seq.{drop-at}
+use lib.ListN.{length, getD}
 use Rattle.rules_dictionary.specs.Numbers.{value, bytes, part}
 use Rattle.rules_dictionary.specs.Table.{eachWay, mostMoves}
 use Rattle.rules_dictionary.proofs.Tests.{and-left, and-right}
@@ -18,10 +17,10 @@ use Rattle.drive.specs.declared.Store.the-variants.{Empty, Rested, Moving, Queu
 use Rattle.state.specs.declared.State.{State}
 use Rattle.rules.specs.Outcome.{sameBy}
 use Rattle.dictionary.proofs.Bytes.{value-step, value-none}
-use Rattle.form.specs.Form.{moveAt, dataAt, wordLength, paceForm, paceAt, paceLength, pacesPlace, each}
-use Rattle.form.specs.Form.{joined, heartbeatOffset, nodeForm, nodeAt, velocityOffset}
-use Rattle.form.specs.Form.{accelerationOffset, decelerationOffset, setPointLength, setPointForm, setPointAt, storeForm, storeAt, driveForm}
-use Rattle.form.specs.Form.{driveAt, dataForm, resting, moveLength, planLength, planForm, planAt, headForm, form, HoldsPlans, stateOf, isForm}
+use Rattle.form.specs.Form.{moveAt, dataAt, wordLength, paceAt, paceLength, pacesPlace, each}
+use Rattle.form.specs.Form.{heartbeatOffset, nodeAt, velocityOffset}
+use Rattle.form.specs.Form.{accelerationOffset, decelerationOffset, setPointLength, setPointAt, storeAt}
+use Rattle.form.specs.Form.{driveAt, resting, moveLength, planLength, planAt, form, stateOf, isForm}
 use Rattle.form.specs.Form.{dataLength, nodePlace, storePlace, readyPlace, heldPlace, plansPlace, planPlace, planIn, heldIn, stateLength}
 use Rattle.form.specs.Own.{isOwn}
 use Rattle.form.specs.Typed.{Many, none, more, AnyPace, DataTyped, SetPointTyped, StoreTyped, MoveTyped, PlanTyped, Typed}
@@ -141,14 +140,3 @@ is-own bs fits l = go (isOwn bs) (isForm bs) refl refl
     go true b p q = sym (ap (λ (xs : List ℕ). sameBy eqb xs bs) (own-kept bs fits l p) ∙ same-bytes bs) ∙ q
     go false false p q = refl
     go false true p q = sym p ∙ state-back bs (stateOf bs) (typed-read bs fits) (sym (form-stateOf bs q)) .1
-
--- the plans' bytes of a form
-read-length : (bs : List ℕ) → length (headForm (stateOf bs)) ≡ plansPlace
-unfolding headForm stateOf nodeForm driveForm storeForm setPointForm dataForm paceForm bytes
-read-length bs = refl
-
-pub plans-held : (bs : List ℕ) → isForm bs ≡ true → HoldsPlans bs (stateOf bs .axis .plans)
-unfolding form
-plans-held bs h =
-    let f : headForm (stateOf bs) ++ joined planForm (stateOf bs .axis .plans) ≡ bs = form-stateOf bs h in
-    ap (drop plansPlace) (sym f) ∙ drop-at (headForm (stateOf bs)) _ plansPlace (read-length bs)
