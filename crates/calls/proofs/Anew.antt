@@ -30,7 +30,7 @@ use Rattle.form.proofs.Rows.{plans-written, head-over, typed-whole}
 use Rattle.mapping.specs.Afresh.{GivesPlans}
 use Rattle.output.specs.declared.Done.{Done}
 use Rattle.output.specs.Leaves.{keeping}
-use Rattle.nmt.specs.Commanding.{Starts}
+use Rattle.nmt.specs.Commanding.{PowersUp}
 use Rattle.calls.specs.Answers.{acceptedGiven, Answers}
 use Rattle.calls.specs.Ending.{settledBy}
 use Rattle.calls.proofs.Plannable.{plannable}
@@ -49,7 +49,7 @@ all-written bs plans node drive ready held paces long p h =
     }
 
 module _ (n : ℕ) {d o : List ℕ} {r : Done} {d′ o′ : List ℕ} (first : firstNode ≤ n) (last : n ≤ lastNode) (long : length d ≡ dictionaryLength)
-    (left : Starts n d o r d′ o′) where
+    (left : PowersUp n d o r d′ o′) where
   gives : GivesPlans d′
   gives =
       let law : LawfulAfter d (powerUp n) = fresh-lawful n d

@@ -27,7 +27,7 @@ use Rattle.output.specs.Laying.{IsData, dataOf}
 use Rattle.output.specs.Leaves.{touches, remaps, keeping, Leaves, Rests, nothingDone}
 use Rattle.output.proofs.Frames.{length-data}
 use Rattle.output.proofs.Left.{left-as, loud}
-use Rattle.nmt.specs.Commanding.{isForNode, Starts, ticked}
+use Rattle.nmt.specs.Commanding.{isForNode, PowersUp, ticked}
 
 -- ---- which frames are commands for this node
 
@@ -98,7 +98,7 @@ set-back n s t d o d′ o′ h w b =
     (record { state = h; frames = refl; touched = sym (writes .0); remapped = sym (writes .1); occasion = refl; dictionary = w; output = b })
 
 pub starts : (n : ℕ) (d o d′ o′ : List ℕ) → d′ ≡ stored (toDefaults n table) d → o′ ≡ sentInto o (bootUp n) →
-    Starts n d o (record { frames = 1; touched = true; remapped = true; occasion = Plain; quiet = false }) d′ o′
+    PowersUp n d o (record { frames = 1; touched = true; remapped = true; occasion = Plain; quiet = false }) d′ o′
 unfolding powerUp
 starts n d o d′ o′ w b =
     let all = append-nil (toDefaults n table) in
@@ -116,7 +116,7 @@ starts n d o d′ o′ w b =
 
 -- a start, with its state
 pub started : {bs : List ℕ} (n : ℕ) (s : State) (d o : List ℕ) (r : Done) (d′ o′ : List ℕ) → Holds bs (keeping s (freshState n)) →
-    Starts n d o r d′ o′ → Leaves s (powerUp n) d o r bs d′ o′ × Rests s (powerUp n) r
+    PowersUp n d o r d′ o′ → Leaves s (powerUp n) d o r bs d′ o′ × Rests s (powerUp n) r
 unfolding powerUp
 started n s d o r d′ o′ h st = (
   record {

@@ -35,7 +35,7 @@ isForNode content n =
     eqb (content .length) nmtLength && (eqb (getD (content .bytes) 1 0) everyNode || eqb (getD (content .bytes) 1 0) n)
 
 -- THE PROMISE of a start of node n: of power-up all but the state; it is never quiet, and every mapping is written
-pub record Starts (n : ℕ) (d o : List ℕ) (r : Done) (d′ o′ : List ℕ) : Type 0 where
+pub record PowersUp (n : ℕ) (d o : List ℕ) (r : Done) (d′ o′ : List ℕ) : Type 0 where
   pub frames : r .frames ≡ length (powerUp n .sent)
   pub touched : r .touched ≡ touches (powerUp n .writes)
   pub remapped : r .remapped ≡ remaps (powerUp n .writes)

@@ -6,7 +6,7 @@ ghost use Rattle.rules_services.specs.Nmt.{freshState, voltageDisabled, resetNo
 ghost use Rattle.form.specs.Form.{stateLength};
 ghost use Rattle.form.specs.Holding.{Puts};
 ghost use Rattle.output.specs.Leaves.{keeping, LeavesIn};
-ghost use Rattle.nmt.specs.Commanding.{MayReset, Commandable, Starts};
+ghost use Rattle.nmt.specs.Commanding.{MayReset, Commandable, PowersUp};
 use crate::heartbeats::boot_up;
 use dictionary::write_communication_defaults;
 use dictionary::write_defaults;
@@ -68,7 +68,7 @@ pub fn fresh_drive() -> Drive
 // Node n starts anew, beside its state: every object to its default, boot-up.
 pub fn start(d: &mut [u8], output: &mut [u8], n: u8) -> Done
     requires { ⌜ MayReset n (now d) (now output) ⌝ }
-    ensures { λ r. ⌜ Starts n (now (d .entry)) (now (output .entry)) r (now (d .exit)) (now (output .exit)) ⌝ }
+    ensures { λ r. ⌜ PowersUp n (now (d .entry)) (now (output .entry)) r (now (d .exit)) (now (output .exit)) ⌝ }
 {
     write_defaults(d, n);
     boot_up(output, n);
