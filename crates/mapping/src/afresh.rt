@@ -7,6 +7,7 @@ ghost use Rattle.mapping.specs.Afresh.{GivesPlans};
 use crate::frames::ready_of;
 use crate::plans::plan_of;
 use dictionary::places::EACH_WAY;
+use dictionary::places::PDOS;
 use form::read_plan;
 use rules_dictionary::Move;
 use rules_dictionary::PdoData;
@@ -49,7 +50,7 @@ pub fn all_plans(d: &[u8]) -> [Plan; 8]
         NO_PLAN,
     ];
     let mut p: usize = 0;
-    while p < 8 {
+    while p < PDOS {
         plans[p] = plan_of(d, p);
         p += 1;
     }

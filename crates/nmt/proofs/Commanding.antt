@@ -111,7 +111,6 @@ starts n d o d′ o′ w b =
       dictionary = rw all w;
       output = b;
       loud = refl;
-      anew = refl;
     }
 
 -- a start, with its state

@@ -34,7 +34,7 @@ abbrev pub isForNode : PdoData → ℕ → Bool
 isForNode content n =
     eqb (content .length) nmtLength && (eqb (getD (content .bytes) 1 0) everyNode || eqb (getD (content .bytes) 1 0) n)
 
--- THE PROMISE of a start of node n: of power-up all but the state; it is never quiet, and every mapping is written
+-- THE PROMISE of a start of node n: of power-up all but the state; it is never quiet
 pub record PowersUp (n : ℕ) (d o : List ℕ) (r : Done) (d′ o′ : List ℕ) : Type 0 where
   pub frames : r .frames ≡ length (powerUp n .sent)
   pub touched : r .touched ≡ touches (powerUp n .writes)
@@ -43,7 +43,6 @@ pub record PowersUp (n : ℕ) (d o : List ℕ) (r : Done) (d′ o′ : List ℕ)
   pub dictionary : d′ ≡ stored (powerUp n .writes) d
   pub output : o′ ≡ sentInto o (powerUp n .sent)
   pub loud : r .quiet ≡ false
-  pub anew : r .remapped ≡ true
 
 -- what a tick leaves beside the lent bytes
 abbrev pub ticked : ℕ → Done
