@@ -2,7 +2,7 @@
 -- Assumes nothing.
 use Prim.Native.Nat.{ℕ, zero, suc, _+_}
 use native.Mathlib.Omega.{arith}
-use mathlib.Core.Path.{_≡_, refl, sym, _∙_}
+use mathlib.Core.Path.{_≡_, refl, sym, _∙_, ap}
 use mathlib.Core.Bool.{Bool, true, false, cond, not, _&&_, _||_, and-not-self, and-false, or-false, false≢true, true≢false}
 use mathlib.Core.List.{List, [], _∷_, map}
 use borrow.Author.Tests.{eqb-true, ne-eqb}
@@ -28,6 +28,7 @@ use Rattle.rules_services.specs.Effects.{Frame}
 use Rattle.rules.specs.Outcome.{End, statusOf, transmissions, transmitters}
 use Rattle.rules.specs.Sound.{sound, statusAsMade, modeAsMade, waitingSound, countSound, dueSound, paceSound, heldSound, pairwise}
 use Rattle.theorems.proofs.Lawful.{clauses, data-refl}
+use Rattle.mapping.specs.Afresh.{whichChange}
 use Rattle.tpdo.specs.Sending.{turn}
 use Rattle.calls.specs.Ending.{settledBy, turnsOf, endWith, endOf}
 use Rattle.calls.proofs.StatusMade.{both-stand}
@@ -85,6 +86,24 @@ at-each f (a ∷ b ∷ c ∷ e ∷ x ∷ ks) p turns h d ready =
 
 -- ---- the end of such a call
 
+-- ready frames that are as they were: none is told
+abbrev untold : List Bool
+untold = false ∷ false ∷ false ∷ false ∷ []
+
+pub none-change : {kept ready : List PdoData} → kept ≡ ready → whichChange kept ready ≡ untold
+none-change {ready = ready} e =
+    rw (e, data-refl (getD ready 0 noData), data-refl (getD ready 1 noData), data-refl (getD ready 2 noData), data-refl (getD ready 3 noData))
+
+none-told : (k : ℕ) → getD untold k false ≡ false
+none-told zero = refl
+none-told (suc zero) = refl
+none-told (suc (suc zero)) = refl
+none-told (suc (suc (suc zero))) = refl
+none-told (suc (suc (suc (suc k)))) = refl
+
+told-still : {kept ready : List PdoData} → kept ≡ ready → (k : ℕ) → getD (whichChange kept ready) k false ≡ false
+told-still e k = ap (λ (bs : List Bool). getD bs k false) (none-change e) ∙ none-told k
+
 -- an end that leaves that state
 as-end : (t : State) (d : List ℕ) {plans : List Plan} {ready : List PdoData} {paces : List Pace} {sent : List Frame} →
     plans ≡ t .axis .plans → ready ≡ t .axis .ready → paces ≡ t .axis .paces → sent ≡ [] →
@@ -122,7 +141,7 @@ module _ (s t : State) (occasion : Occasion) (d : List ℕ) (long : length d ≡
       turnsOf was t occasion d k ≡ record { send = false; kept = getD (s .axis .paces) k idle }
   unfolding turn
   turn-still k h =
-      rw (nmt, ready, paces, data-refl (getD (readyOf d) k noData), and-not-self (isOperational (s .node .nmt)))
+      rw (told-still ready k, nmt, paces, and-not-self (isOperational (s .node .nmt)))
       (idles (s .node .nmt) d (eachWay + k) (getD (s .axis .paces) k idle) occasion off h)
 
   -- THE LAW

@@ -57,7 +57,7 @@ module _ (s : State) (d : List ℕ) (e : Effect) where
   ended-idle off = rw off
 
   ended-on : e .state .axis .paces ≡ s .axis .paces → ended s d e ≡ endedBy
-  unfolding ended driveAtEnd settled statusOf paceFor entersOperational changes settledBy endWith turn
+  unfolding ended driveAtEnd settled statusOf paceFor entersOperational changes transmissions settledBy endWith turn
   ended-on paces = rw paces
 
   ended-by : (isOperational (e .state .node .nmt) ≡ true → e .state .axis .paces ≡ s .axis .paces) → ended s d e ≡ endedBy

@@ -55,15 +55,14 @@ renewed {r = r} o off h =
 
 module _ {was : Bool} {t : State} {r : Done} {d′ d″ : List ℕ} (made : d″ ≡ settledBy (t .node) (t .axis .drive) d′) where
   -- the transmit PDOs were sent
-  pub ended : (plans : t .axis .plans ≡ plansOf d″) (ready : List PdoData) → ready ≡ readyOf d″ → (x : Sent) (bs″ o o′ : List ℕ) →
-      SentBy (turn was (r .occasion) (t .node .nmt) (t .axis .ready) (t .axis .paces) d″ ready) ready d″ (r .frames) o x o′ →
-      Holds bs″ (withPaces (x .paces) (withReady ready t)) → Stepped was t r d′ o (x .frames) bs″ d″ o′
+  pub ended : (plans : t .axis .plans ≡ plansOf d″) (x : Sent) (bs″ o o′ : List ℕ) →
+      SentBy (turnsOf was t (r .occasion) d″) (readyOf d″) d″ (r .frames) o x o′ →
+      Holds bs″ (withPaces (x .paces) (withReady (readyOf d″) t)) → Stepped was t r d′ o (x .frames) bs″ d″ o′
   unfolding endWith
-  ended plans ready fresh x bs″ o o′ by held =
-      let sent : SentBy (turnsOf was t (r .occasion) d″) (readyOf d″) d″ (r .frames) o x o′ = rw fresh at by in
+  ended plans x bs″ o o′ sent held =
       record {
         frames = rw (← made) (sent .frames);
-        state = rw (← made, ← sent .paces, ← fresh, ← plans) held;
+        state = rw (← made, ← sent .paces, ← plans) held;
         dictionary = made;
         output = rw (← made) (sent .output);
       }

@@ -23,7 +23,7 @@ use Rattle.rules.specs.Sound.{sound}
 use Rattle.rules.specs.Calls.{outputLength}
 use Rattle.form.specs.Form.{stateLength, stateOf}
 use Rattle.form.specs.Holding.{Holds, withReady, planned}
-use Rattle.mapping.specs.Afresh.{GivesPlans}
+use Rattle.mapping.specs.Afresh.{GivesPlans, whichChange}
 use Rattle.output.specs.declared.Done.{Done}
 use Rattle.output.specs.Laying.{emitted}
 use Rattle.tpdo.specs.Sending.{mostBefore, turn}
@@ -46,7 +46,7 @@ settledBy node drive d = store modeDisplay (modeNumber (drive .mode)) (store sta
 
 -- the turns of the transmit PDOs, with 6041h and 6061h made; t still has the ready frames and the paces of the call's start
 abbrev pub turnsOf : Bool → State → Occasion → List ℕ → ℕ → Paced
-turnsOf was t occasion d = turn was occasion (t .node .nmt) (t .axis .ready) (t .axis .paces) d (readyOf d)
+turnsOf was t occasion d = turn was occasion (t .node .nmt) (whichChange (t .axis .ready) (readyOf d)) (t .axis .paces) d
 
 -- the end, with 6041h and 6061h made
 unfoldable pub endWith : Bool → State → Occasion → List ℕ → End

@@ -1,24 +1,20 @@
 // The end of a call, on the bytes of the state that its service left.
 ghost use mathlib.Core.Path.{_≡_};
 ghost use mathlib.Core.Bool.{false};
-ghost use lib.ListN.{length};
 ghost use Rattle.rules_dictionary.specs.Plans.{readyOf};
-ghost use Rattle.form.specs.Form.{stateLength, stateOf};
+ghost use Rattle.form.specs.Form.{stateOf};
 ghost use Rattle.form.specs.Holding.{Holds, withReady};
-ghost use Rattle.state.specs.declared.State.{State};
+ghost use Rattle.mapping.specs.Afresh.{whichChange};
 ghost use Rattle.calls.specs.Ending.{MayFinish, MayRenew, MayReady, Renews, Stepped};
 use crate::settling::settle;
 use form::put_paces;
 use form::put_plans;
-use form::put_ready;
 use form::read_drive;
 use form::read_node;
 use form::read_paces;
-use form::read_ready;
 use mapping::all_plans;
-use mapping::ready_by;
+use mapping::renew_all;
 use output::Done;
-use rules_dictionary::PdoData;
 use tpdo::IDLE;
 use tpdo::transmit_all;
 
@@ -31,31 +27,20 @@ pub fn anew(state: &mut [u8], d: &mut [u8])
     let drive = read_drive(state);
     settle(node, drive, true, d);
     put_plans(state, all_plans(d));
-    let ready = ready_by(state, d);
-    put_ready(state, ready);
+    renew_all(state, d);
     put_paces(state, [IDLE, IDLE, IDLE, IDLE]);
 }
 
-// The ready frames at the call's end: worked again by the kept plans where something was written that can be mapped.
-fn ready_at_end(written: bool, state: &[u8], d: &[u8]) -> [PdoData; 4]
-    requires { ⌜ (length (now state) ≡ stateLength) × MayReady written (stateOf (now state)) (now d) ⌝ }
-    ensures { λ r. ⌜ r ≡ readyOf (now (d .entry)) ⌝ }
+// The ready frames worked again by the kept plans where something was written that can be mapped. Which of them changed.
+fn renewed(written: bool, state: &mut [u8], d: &[u8]) -> [bool; 4]
+    requires { ⌜ Holds (now state) (stateOf (now state)) × MayReady written (stateOf (now state)) (now d) ⌝ }
+    ensures { λ r. ⌜ Holds (now (state .exit)) (withReady (readyOf (now (d .entry))) (stateOf (now (state .entry)))) ⌝ }
+    ensures { λ r. ⌜ r ≡ whichChange (stateOf (now (state .entry)) .axis .ready) (readyOf (now (d .entry))) ⌝ }
 {
     if written {
-        return ready_by(state, d);
+        return renew_all(state, d);
     }
-    read_ready(state)
-}
-
-// Those ready frames, where they were worked again; else they stand there.
-fn keep_ready(written: bool, ready: [PdoData; 4], state: &mut [u8])
-    requires { ⌜ length (now state) ≡ stateLength ⌝ }
-    ensures { λ r. ⌜ ((s : State) → Holds (now (state .entry)) s → (written ≡ false → ready ≡ s .axis .ready) →
-        Holds (now (state .exit)) (withReady ready s)) ⌝ }
-{
-    if written {
-        put_ready(state, ready);
-    }
+    [false; 4]
 }
 
 // 6041h and 6061h made, the ready frames worked again, and the transmit PDOs sent as they are due.
@@ -67,22 +52,21 @@ fn end_call(done: Done, was: bool, state: &mut [u8], d: &mut [u8], output: &mut 
     let node = read_node(state);
     let drive = read_drive(state);
     let written = settle(node, drive, done.touched, d);
-    let ready = ready_at_end(written, state, d);
+    let changed = renewed(written, state, d);
     let nmt = node.nmt;
     let occasion = done.occasion;
     let sent = transmit_all(
-        read_ready(state),
+        state,
+        changed,
         read_paces(state),
         was,
         nmt,
         occasion,
-        ready,
         d,
         output,
         done.frames,
     );
     let paces = sent.paces;
-    keep_ready(written, ready, state);
     put_paces(state, paces);
     sent.frames
 }

@@ -13,13 +13,12 @@ use events::event_of;
 use events::is_in_place;
 use finishing::finish;
 use form::form_of;
-use form::put_ready;
 use form::read_node;
 use form::state_of;
 use form::write_head;
 use form::write_plans;
 use mapping::all_plans;
-use mapping::ready_by;
+use mapping::renew_all;
 use nmt::fresh_drive;
 use nmt::fresh_node;
 use nmt::start;
@@ -134,8 +133,7 @@ pub fn power_up_in(state: &mut [u8], d: &mut [u8], output: &mut [u8], n: u32) ->
         [none, none, none, none],
         [IDLE, IDLE, IDLE, IDLE],
     );
-    let ready = ready_by(state, d);
-    put_ready(state, ready);
+    renew_all(state, d);
     accepted(done.frames as u8)
 }
 

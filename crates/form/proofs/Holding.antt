@@ -21,7 +21,7 @@ use Rattle.form.specs.Form.{heartbeatOffset, nodeLength, driveLength, da
 use Rattle.form.specs.Form.{heldPlace, pacesPlace}
 use Rattle.form.specs.Form.{plansPlace, stateLength}
 use Rattle.form.specs.Typed.{Many, none, more, AnyPace, DataTyped, StoreTyped, PlanTyped, HeadTyped}
-use Rattle.form.specs.Holding.{Holds, withReady, planned, holding}
+use Rattle.form.specs.Holding.{Holds, withReady, planned, readying, holding}
 use Rattle.form.proofs.Rows.{length-node, length-drive, length-data, length-frames, length-paces, length-plans, length-form}
 use Rattle.form.proofs.OneForm.{stateOf-form, form-stateOf, typed-read}
 
@@ -157,6 +157,21 @@ module _ {bs : List ℕ} {s : State} (h : Holds bs s) where
             (sets-first (joined dataForm (s .axis .ready)) _ (joined dataForm x) (length-frames fits ∙ sym in-ready))));
         typed = record {
           head = record { heartbeat = t .heartbeat; store = t .store; ready = fits; held = t .held; paces = t .paces };
+          plans = h .typed .plans;
+        };
+      }
+
+  -- the ready frame of one transmit PDO
+  pub put-one-ready : (k : ℕ) (x : PdoData) → k < eachWay → DataTyped x →
+      Holds (sets bs (readyPlace + dataLength * k) (dataForm x)) (readying k x s)
+  put-one-ready k x i fits =
+      let place : readyPlace + dataLength * k ≡ nodeLength + (driveLength + dataLength * k) = omega arith in
+      record {
+        bytes = rw (h .bytes, flat s, flat (readying k x s), place)
+            (within n nodeLength (driveLength + dataLength * k) (dataForm x) _ in-node (within v driveLength (dataLength * k) (dataForm x) _ in-drive
+            (row-set (s .axis .ready) k x _ (t .ready) fits i)));
+        typed = record {
+          head = record { heartbeat = t .heartbeat; store = t .store; ready = many-set k x (t .ready) fits; held = t .held; paces = t .paces };
           plans = h .typed .plans;
         };
       }

@@ -21,7 +21,7 @@ use Rattle.form.specs.Form.{moveAt, dataAt, wordLength, paceAt, paceLeng
 use Rattle.form.specs.Form.{heartbeatOffset, nodeAt, velocityOffset}
 use Rattle.form.specs.Form.{accelerationOffset, decelerationOffset, setPointLength, setPointAt, storeAt}
 use Rattle.form.specs.Form.{driveAt, resting, moveLength, planLength, planAt, form, stateOf, isForm}
-use Rattle.form.specs.Form.{dataLength, nodePlace, storePlace, readyPlace, heldPlace, plansPlace, planPlace, planIn, heldIn, stateLength}
+use Rattle.form.specs.Form.{dataLength, nodePlace, storePlace, readyPlace, heldPlace, plansPlace, planPlace, planIn, readyIn, heldIn, stateLength}
 use Rattle.form.specs.Own.{isOwn}
 use Rattle.form.specs.Typed.{Many, none, more, AnyPace, DataTyped, SetPointTyped, StoreTyped, MoveTyped, PlanTyped, Typed}
 use Rattle.form.proofs.Rows.{each-at}
@@ -112,6 +112,11 @@ module _ (bs : List ℕ) (fits : (i : ℕ) → getD bs i 0 < 256) where
 pub plan-stands : (bs : List ℕ) (p : ℕ) → p < 2 * eachWay → planIn bs p ≡ planAt (planPlace p) bs
 unfolding stateOf
 plan-stands bs p h = each-at (2 * eachWay) plansPlace planLength (λ i. planAt i bs) _ p h
+
+-- the ready frame that they hold for a transmit PDO, where it stands
+pub ready-stands : (bs : List ℕ) (t : ℕ) → t < eachWay → readyIn bs t ≡ dataAt (readyPlace + dataLength * t) bs
+unfolding stateOf
+ready-stands bs t h = each-at eachWay readyPlace dataLength (λ i. dataAt i bs) _ t h
 
 -- the held frame that they hold for a receive PDO, where it stands
 pub held-stands : (bs : List ℕ) (p : ℕ) → p < eachWay → heldIn bs p ≡ dataAt (heldPlace + dataLength * p) bs

@@ -344,6 +344,10 @@ stateOf bs =
 abbrev pub planIn : List ℕ → ℕ → Plan
 planIn bs p = getD (stateOf bs .axis .plans) p (record { count = 0; moves = [] })
 
+-- the ready frame that they hold for a transmit PDO
+abbrev pub readyIn : List ℕ → ℕ → PdoData
+readyIn bs t = getD (stateOf bs .axis .ready) t (record { length = 0; bytes = [] })
+
 -- the held frame that they hold for a receive PDO
 abbrev pub heldIn : List ℕ → ℕ → PdoData
 heldIn bs p = getD (stateOf bs .axis .held) p (record { length = 0; bytes = [] })

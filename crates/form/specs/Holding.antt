@@ -32,6 +32,10 @@ planned ps s =
     let a = s .axis in
     withAxis (record { drive = a .drive; plans = ps; ready = a .ready; held = a .held; paces = a .paces }) s
 
+-- one ready frame
+abbrev pub readying : ℕ → PdoData → State → State
+readying t r s = withReady (set (s .axis .ready) t r) s
+
 -- one held frame
 abbrev pub holding : ℕ → PdoData → State → State
 holding p r s = withHeld (set (s .axis .held) p r) s

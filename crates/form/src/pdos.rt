@@ -20,7 +20,7 @@ ghost use lib.ListN.{length};
 ghost use lib.Seq.{sets};
 ghost use Rattle.rules_dictionary.specs.Table.{eachWay, mostMoves};
 ghost use Rattle.form.specs.Form.{each, dataLength, dataAt, moveLength, moveAt, planLength, planAt, paceLength, paceAt};
-ghost use Rattle.form.specs.Form.{stateLength, stateOf, planIn, heldIn, pacesPlace, plansPlace, joined, dataForm, paceForm, moveForm, planForm};
+ghost use Rattle.form.specs.Form.{stateLength, stateOf, planIn, readyIn, heldIn, pacesPlace, plansPlace, joined, dataForm, paceForm, moveForm, planForm};
 ghost use Rattle.form.specs.Typed.{Many, AnyPace, DataTyped, MoveTyped, PlanTyped};
 ghost use Rattle.form.specs.Own.{pacesOwn};
 
@@ -74,6 +74,14 @@ pub fn read_ready(bytes: &[u8]) -> [PdoData; 4]
     ensures { λ r. ⌜ r ≡ stateOf (now (bytes .entry)) .axis .ready ⌝ }
 {
     read_frames(bytes, layout::READY)
+}
+
+// The ready frame of transmit PDO t.
+pub fn read_ready_frame(bytes: &[u8], t: usize) -> PdoData
+    requires { ⌜ (length (now bytes) ≡ stateLength) × (t < eachWay) ⌝ }
+    ensures { λ r. ⌜ r ≡ readyIn (now (bytes .entry)) t ⌝ }
+{
+    read_frame(bytes, layout::READY + layout::FRAME_LENGTH * t)
 }
 
 // The held frames of the receive PDOs.

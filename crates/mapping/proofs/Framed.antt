@@ -113,7 +113,7 @@ abbrev sameLeft : List ℕ → List ℕ → Plan → ℕ → ℕ → ℕ → Boo
 sameLeft d bs plan k at room = sameBy eqb (part at room bs) (padded 0 room (joinedMoves d (left (plan .moves) (plan .count) k)))
 
 -- how many bytes the moves that are left map
-abbrev bytesLeft : List ℕ → Plan → ℕ → ℕ
+abbrev pub bytesLeft : List ℕ → Plan → ℕ → ℕ
 bytesLeft d plan k = length (joinedMoves d (left (plan .moves) (plan .count) k))
 
 sized-part : (at size : ℕ) (bs : List ℕ) → at + size ≤ length bs → length (part at size bs) ≡ size
@@ -123,17 +123,17 @@ module _ (d bs : List ℕ) (plan : Plan) (f : MovesFit (plan .moves) (plan .coun
   -- the next move, by the place and the size that the code reads
   module _ (l : length d ≡ dictionaryLength) (k : ℕ) (h : k < plan .count) (place size : ℕ) (p : place ≡ getD (plan .moves) k noMove .place)
       (s : size ≡ getD (plan .moves) k noMove .size) where
-    move-fits : (place + size ≤ dictionaryLength) × IsSize size
+    pub move-fits : (place + size ≤ dictionaryLength) × IsSize size
     move-fits = let g = fits (plan .moves) (plan .count) k f h in (rw (p, s) (g .inside), rw s (g .size))
 
-    joined-next : joinedMoves d (left (plan .moves) (plan .count) k) ≡ part place size d ++ joinedMoves d (left (plan .moves) (plan .count) (k + 1))
+    pub joined-next : joinedMoves d (left (plan .moves) (plan .count) k) ≡ part place size d ++ joinedMoves d (left (plan .moves) (plan .count) (k + 1))
     unfolding joinedMoves
     joined-next = rw (step (plan .moves) (plan .count) k f h, p, s)
 
-    theirs : length (part place size d) ≡ size
+    pub theirs : length (part place size d) ≡ size
     theirs = sized-part place size d (rw l (move-fits .0))
 
-    length-next : bytesLeft d plan k ≡ size + bytesLeft d plan (k + 1)
+    pub length-next : bytesLeft d plan k ≡ size + bytesLeft d plan (k + 1)
     length-next = rw (joined-next, length-append, theirs)
 
     same-next : areBytes d ≡ true → areBytes bs ≡ true → (at room : ℕ) → size ≤ room → at + room ≤ length bs →
@@ -152,9 +152,12 @@ module _ (d bs : List ℕ) (plan : Plan) (f : MovesFit (plan .moves) (plan .coun
 
   -- none is left
   module _ (k : ℕ) (h : plan .count ≤ k) where
-    none-longer : bytesLeft d plan k ≡ 0
+    pub none-joined : joinedMoves d (left (plan .moves) (plan .count) k) ≡ []
     unfolding joinedMoves
-    none-longer = rw (none-left (plan .moves) (plan .count) k h)
+    none-joined = rw (none-left (plan .moves) (plan .count) k h)
+
+    pub none-longer : bytesLeft d plan k ≡ 0
+    none-longer = rw none-joined
 
     same-last : (at room : ℕ) → at + room ≤ length bs → sameLeft d bs plan k at room ≡ eqb (value (part at room bs)) 0
     unfolding joinedMoves
@@ -181,7 +184,7 @@ getD-each (suc n) at (suc k) g h =
     let e : at + 4 + 4 * k ≡ at + 4 * suc k = omega arith in
     getD-each n (at + 4) k g (omega arith) ∙ rw e
 
-moves-at : (place k : ℕ) (bs : List ℕ) → k < 8 → getD (planAt place bs .moves) k noMove ≡ moveOf (wordAt (place + 1 + 4 * k) bs)
+pub moves-at : (place k : ℕ) (bs : List ℕ) → k < 8 → getD (planAt place bs .moves) k noMove ≡ moveOf (wordAt (place + 1 + 4 * k) bs)
 unfolding planAt moveAt
 moves-at place k bs h = getD-each 8 (place + 1) k (λ i. moveAt i bs) h
 

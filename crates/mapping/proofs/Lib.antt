@@ -12,4 +12,5 @@ pub mod Unpacked
 pub mod Validity
 pub mod Keeping
 pub mod Framed
+pub mod Laid
 pub mod Ends

@@ -6,6 +6,7 @@ mod frames; // the data of a PDO
 mod plans; // the plan that a PDO's mapping gives
 mod received; // the values of a received frame
 mod afresh; // all plans, and all ready frames
+mod ready; // the ready frames, worked where they stand
 mod kept; // what a state's bytes keep of a mapping
 mod working; // whether a PDO works in Operational
 
@@ -14,6 +15,7 @@ pub use afresh::ready_by;
 pub use frames::same_data;
 pub use kept::is_frame_kept;
 pub use kept::is_plan_kept;
+pub use ready::renew_all;
 pub use received::are_legal;
 pub use received::length_of;
 pub use received::maps;

@@ -17,9 +17,10 @@ use Rattle.rules_dictionary.specs.Legal.{isCyclic}
 use Rattle.rules_services.specs.Effects.{Frame}
 use Rattle.rules_services.specs.declared.Paced.{Paced}
 use Rattle.rules_services.specs.PdoTraffic.{paced, works, typeOf, noData, idle, allIdle}
-use Rattle.rules.specs.Outcome.{sameData, frameSize, transmissions, transmitters}
+use Rattle.rules.specs.Outcome.{frameSize, transmissions, transmitters}
 use Rattle.rules.specs.Calls.{outputLength}
-use Rattle.output.specs.Laying.{emitted}
+use Rattle.form.specs.Form.{stateOf, readyIn}
+use Rattle.output.specs.Laying.{IsData, emitted}
 use Rattle.output.proofs.Frames.{emitted-none, emitted-then, length-emitted}
 use Rattle.mapping.proofs.Filling.{filled, none-filled, one-filled}
 use Rattle.mapping.specs.Working.{isOpen}
@@ -49,10 +50,19 @@ operational PreOperational h = absurd (true≢false (sym h))
 operational Operational h = refl
 operational Stopped h = absurd (true≢false (sym h))
 
-module _ (was : Bool) (occasion : Occasion) (nmt : NmtState) (kept : List PdoData) (paces : List Pace) (d : List ℕ) (ready : List PdoData) where
+-- a ready frame of the state's, whatever stands for one past their end
+pub ready-default : (bs : List ℕ) {t : ℕ} → t < eachWay → readyIn bs t ≡ getD (stateOf bs .axis .ready) t noData
+unfolding stateOf
+ready-default bs {t} h = any-default (stateOf bs .axis .ready) t (record { length = 0; bytes = [] }) noData (omega arith)
+
+pub ready-data : (bs : List ℕ) {nmt : NmtState} {paces : List Pace} {d : List ℕ} → MaySend nmt paces (stateOf bs .axis .ready) d → {t : ℕ} → t < eachWay →
+    IsData (readyIn bs t)
+ready-data bs may {t} h = rw (ready-default bs h) (may .shape t h)
+
+module _ (was : Bool) (occasion : Occasion) (nmt : NmtState) (changed : List Bool) (paces : List Pace) (d : List ℕ) (ready : List PdoData) where
   -- the turns, and the frames from transmit PDO t on
   abbrev turns : ℕ → Paced
-  turns = turn was occasion nmt kept paces d ready
+  turns = turn was occasion nmt changed paces d
 
   abbrev leftFrom : ℕ → List Frame
   leftFrom t = transmissions d ready turns (drop t transmitters)
@@ -117,12 +127,10 @@ module _ (was : Bool) (occasion : Occasion) (nmt : NmtState) (kept : List PdoDat
       }
 
   -- in Operational, the turn by what the code looks at
-  pub in-operational : isOperational nmt ≡ true → {t : ℕ} → t < eachWay → length kept ≡ eachWay → length ready ≡ eachWay → length paces ≡ eachWay →
-      (x : PdoData) (y : Pace) (changed : Bool) → changed ≡ (not was || not (sameData (getD kept t x) (getD ready t x))) →
-      openPace d t occasion changed (getD paces t y) ≡ turns t
+  pub in-operational : isOperational nmt ≡ true → {t : ℕ} → t < eachWay → length changed ≡ eachWay → length paces ≡ eachWay →
+      (x : Bool) (y : Pace) (new : Bool) → new ≡ (not was || getD changed t x) → openPace d t occasion new (getD paces t y) ≡ turns t
   unfolding turn works openPace
-  in-operational on {t} h l m k x y changed e =
-      rw (on, e, any-default kept t x noData (omega arith), any-default ready t x noData (omega arith), any-default paces t y idle (omega arith))
+  in-operational on {t} h l k x y new e = rw (on, e, any-default changed t x false (omega arith), any-default paces t y idle (omega arith))
 
   -- a working one's count, in Operational
   pub count-below : isOperational nmt ≡ true → MaySend nmt paces ready d → (t : ℕ) → t < eachWay →

@@ -15,7 +15,7 @@ use Rattle.rules_dictionary.specs.Legal.{isCyclic}
 use Rattle.rules_services.specs.Effects.{Frame}
 use Rattle.rules_services.specs.declared.Paced.{Paced}
 use Rattle.rules_services.specs.PdoTraffic.{paced, paceOf, works, typeOf, transmitted, noData, idle}
-use Rattle.rules.specs.Outcome.{sameData, transmissions, transmitters}
+use Rattle.rules.specs.Outcome.{transmissions, transmitters}
 use Rattle.mapping.specs.Working.{isOpen}
 use Rattle.output.specs.Laying.{IsData, emitted}
 use Rattle.tpdo.specs.declared.Sent.{Sent}
@@ -36,13 +36,12 @@ sentOne send d t content = cond send (transmitted d (eachWay + t) content ∷ []
 
 -- ---- all of them
 
--- the turn of transmit PDO t: `was` is whether the node was Operational at the call's start, `kept` and `paces` are the ready frames and what
--- was kept of the transmit PDOs then; the NMT state, the dictionary and the ready frames are those of its end
-unfoldable pub turn : Bool → Occasion → NmtState → List PdoData → List Pace → List ℕ → List PdoData → ℕ → Paced
-turn was occasion nmt kept paces d ready t =
+-- the turn of transmit PDO t: `was` is whether the node was Operational at the call's start, `changed` whether each ready frame is another than
+-- then, `paces` what was kept of the transmit PDOs then; the NMT state and the dictionary are those of its end
+unfoldable pub turn : Bool → Occasion → NmtState → List Bool → List Pace → List ℕ → ℕ → Paced
+turn was occasion nmt changed paces d t =
     cond (works nmt d (eachWay + t))
-    (paceOf (typeOf d (eachWay + t)) occasion
-    ((isOperational nmt && not was) || not (sameData (getD kept t noData) (getD ready t noData))) (getD paces t idle))
+    (paceOf (typeOf d (eachWay + t)) occasion ((isOperational nmt && not was) || getD changed t false) (getD paces t idle))
     (paced false 0 false)
 
 -- ready frames are data, and SYNC counts are below their type

@@ -12,7 +12,7 @@ use Rattle.rules_services.specs.Nmt.{powerUp}
 use Rattle.state.specs.declared.Refusal.the-variants.{NodeId}
 use Rattle.state.specs.declared.State.{State}
 use Rattle.rules.specs.Calls.{powerUpCall, does, answered, outputLength}
-use Rattle.form.proofs.Holding.{held-state, held-length}
+use Rattle.form.proofs.Holding.{held-state}
 use Rattle.calls.specs.Opening.{lending, powering}
 use Rattle.calls.proofs.Refusals.{lengths, passes-both, decides, node-between, a-node}
 use Rattle.calls.proofs.Anew.{all-written, gives-plans, starts-anew}
@@ -64,8 +64,8 @@ all-plans-requires c κs =
     let made = rw (fresh-node .fresh-node .ensures, fresh-drive .fresh-drive .ensures n) at (settle .settle .ensures .0) in
     gives-plans n (k .first) (k .last) (k .long) (start .start .ensures) made
 
-ready-by-requires : tie.Need-ready-by-requires
-ready-by-requires c κs =
+renew-all-requires : tie.Need-renew-all-requires
+renew-all-requires c κs =
     let write-head = c .before .before .before .before in
     let write-plans = write-head .before .before .before .before in
     let all-plans = write-plans .before in
@@ -79,7 +79,7 @@ ready-by-requires c κs =
     let k = clear n (a .d .now) (a .output .now) (s .pre .1) in
     let made = rw (fresh-node .fresh-node .ensures, fresh-drive .fresh-drive .ensures n) at (settle .settle .ensures .0) in
     let held = all-written (now (a .state)) _ _ _ _ _ _ (s .pre .0) (write-plans .write-plans .ensures) (write-head .write-head .ensures) in (
-      held-length held,
+      rw (held-state held) held,
       (
         gives-plans n (k .first) (k .last) (k .long) (start .start .ensures) made,
         ap (λ (t : State). t .axis .plans) (held-state held) ∙ all-plans .all-plans .ensures,
@@ -89,8 +89,8 @@ ready-by-requires c κs =
 cast-accepted : tie.Need-cast-accepted
 unfolding powerUp
 cast-accepted c =
-    let put-ready = c .before .before .before in
-    let write-head = put-ready .before .before .before .before .before .before .before in
+    let renew-all = c .before .before .before in
+    let write-head = renew-all .before .before .before .before .before in
     let settle = write-head .before .before .before .before .before .before .before .before .before .before in
     let start = settle .before .before .before .before .before .before .before .before in
     let one : start .start .result .frames ≡ 1 = start .start .ensures .frames in omega (arith, one)
@@ -98,9 +98,8 @@ cast-accepted c =
 returns : tie.Need-returns
 unfolding answered
 returns c =
-    let put-ready = c .before .before .before .before in
-    let ready-by = put-ready .before .before in
-    let write-head = ready-by .before .before .before .before .before in
+    let renew-all = c .before .before .before .before in
+    let write-head = renew-all .before .before .before .before .before in
     let write-plans = write-head .before .before .before .before in
     let all-plans = write-plans .before in
     let settle = all-plans .before .before .before .before .before in
@@ -115,8 +114,8 @@ returns c =
     let drive = fresh-drive .fresh-drive .ensures n in
     let made = rw (node, drive) at (settle .settle .ensures .0) in
     let held = all-written (now (a .state)) _ _ _ _ _ _ (s .pre .0) (write-plans .write-plans .ensures) (write-head .write-head .ensures) in
-    let worked = put-ready .put-ready .ensures _ held in
-    let fresh = rw (all-plans .all-plans .ensures, ready-by .ready-by .ensures, node, drive) at worked in
+    let worked = rw (held-state held) at (renew-all .renew-all .ensures .0) in
+    let fresh = rw (all-plans .all-plans .ensures, node, drive) at worked in
     λ x. rw (
       c .accepted .ensures,
       decides (powerUpCall n) x (a .d .now) (a .output .now) (k .lent) (does (powerUp n)) (a-node n x (a .d .now)
@@ -127,18 +126,16 @@ returns c =
 -- the dictionary keeps its length
 long : tie.Need-same-length-2
 long c =
-    let put-ready = c .before .before .before .before in
-    let settle = put-ready .before .before .before .before .before .before .before .before .before .before .before .before .before
-    .before .before .before .before in
+    let renew-all = c .before .before .before .before in
+    let settle = renew-all .before .before .before .before .before .before .before .before .before .before .before .before .before .before .before in
     let start = settle .before .before .before .before .before .before .before .before in
     omega (arith, start .start .kept, settle .settle .kept)
 
 -- the output keeps its length
 lent-long : tie.Need-same-length-3
 lent-long c =
-    let put-ready = c .before .before .before .before in
-    let settle = put-ready .before .before .before .before .before .before .before .before .before .before .before .before .before
-    .before .before .before .before in
+    let renew-all = c .before .before .before .before in
+    let settle = renew-all .before .before .before .before .before .before .before .before .before .before .before .before .before .before .before in
     omega (arith, settle .before .before .before .before .before .before .before .before .start .kept)
 
 -- the state keeps its length
@@ -148,16 +145,9 @@ write-head-requires c κs =
     let start = write-plans .before .before .before .before .before .before .before .before .before .before .before .before .before .before in
     omega (arith, write-plans .write-plans .kept, start .before .before .before .before .before .before .pre .0)
 
-put-ready-requires : tie.Need-put-ready-requires
-put-ready-requires c κs =
-    let write-head = c .before .before .before .before .before .before in
-    let write-plans = write-head .before .before .before .before in
-    let start = write-plans .before .before .before .before .before .before .before .before .before .before .before .before .before .before in
-    omega (arith, write-head .write-head .kept, write-plans .write-plans .kept, start .before .before .before .before .before .before .pre .0)
-
 pub power-up-in-spec : {M : Type 1} → statement M
 power-up-in-spec =
     tie.close (tie.spec cast-id start-requires (λ c κs. search needs) (λ c κs. search needs) settle-requires all-plans-requires
     (λ c κs. c .before .before .before .before .before .before .before .before .before .before .before .before .before .before .before
-    .before .before .before .before .pre .0) write-head-requires ready-by-requires put-ready-requires cast-accepted
+    .before .before .before .before .pre .0) write-head-requires renew-all-requires cast-accepted
     (λ c κs. search needs) (λ c. search needs) long lent-long returns)

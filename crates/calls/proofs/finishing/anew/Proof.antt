@@ -2,7 +2,7 @@
 use mathlib.Core.Path.{_∙_, ap}
 use Rattle.state.specs.declared.State.{State}
 use Rattle.form.specs.Form.{stateOf}
-use Rattle.form.proofs.Holding.{held-state, held-length}
+use Rattle.form.proofs.Holding.{held-state}
 use Rattle.calls.proofs.Ends.{still-plannable}
 use borrow.Author.Needs.{needs}
 use Rattle.calls.proofs.finishing.anew.Statement.{statement}
@@ -17,8 +17,8 @@ all-plans-requires c κs =
     let made = rw (read-node .read-node .ensures, read-drive .read-drive .ensures) at (settle .settle .ensures .0) in
     still-plannable (stateOf (start .args .state .now)) _ _ made (start .pre .plannable)
 
-ready-by-requires : tie.Need-ready-by-requires
-ready-by-requires c κs =
+renew-all-requires : tie.Need-renew-all-requires
+renew-all-requires c κs =
     let put-plans = c .before .before .before .before in
     let all-plans = put-plans .before in
     let settle = all-plans .before .before .before .before .before in
@@ -27,7 +27,7 @@ ready-by-requires c κs =
     let start = read-node .before .before .before .before in
     let made = rw (read-node .read-node .ensures, read-drive .read-drive .ensures) at (settle .settle .ensures .0) in
     let held = put-plans .put-plans .ensures _ (start .pre .own) in (
-      held-length held,
+      rw (held-state held) held,
       (
         still-plannable (stateOf (start .args .state .now)) _ _ made (start .pre .plannable),
         ap (λ (t : State). t .axis .plans) (held-state held) ∙ all-plans .all-plans .ensures,
@@ -36,23 +36,22 @@ ready-by-requires c κs =
 
 returns : tie.Need-returns
 returns c =
-    let put-ready = c .before .before .before .before .before .before in
-    let ready-by = put-ready .before .before in
-    let put-plans = ready-by .before .before .before .before .before in
+    let renew-all = c .before .before .before .before .before .before in
+    let put-plans = renew-all .before .before .before .before .before in
     let all-plans = put-plans .before in
     let settle = all-plans .before .before .before .before .before in
     let read-drive = settle .before .before in
     let read-node = read-drive .before .before in
     let start = read-node .before .before .before .before in
     let planned = put-plans .put-plans .ensures _ (start .pre .own) in
-    let worked = put-ready .put-ready .ensures _ planned in
+    let worked = rw (held-state planned) at (renew-all .renew-all .ensures .0) in
     let idle = c .before .before .put-paces .ensures _ worked in
     record {
       dictionary = rw (read-node .read-node .ensures, read-drive .read-drive .ensures) at (settle .settle .ensures .0);
-      state = rw (all-plans .all-plans .ensures, ready-by .ready-by .ensures) at idle;
+      state = rw (all-plans .all-plans .ensures) at idle;
     }
 
 pub anew-spec : {M : Type 1} → statement M
 anew-spec =
     tie.close (tie.spec (λ c κs. search needs) (λ c κs. search needs) (λ c κs. search needs) all-plans-requires
-    (λ c κs. search needs) ready-by-requires (λ c κs. search needs) (λ c κs. search needs) (λ c. search needs) (λ c. search needs) returns)
+    (λ c κs. search needs) renew-all-requires (λ c κs. search needs) (λ c. search needs) (λ c. search needs) returns)
