@@ -21,7 +21,7 @@ use Rattle.form.specs.Form.{heartbeatOffset, nodeLength, driveLength, da
 use Rattle.form.specs.Form.{heldPlace, pacesPlace}
 use Rattle.form.specs.Form.{plansPlace, stateLength}
 use Rattle.form.specs.Typed.{Many, none, more, AnyPace, DataTyped, StoreTyped, PlanTyped, HeadTyped}
-use Rattle.form.specs.Holding.{Holds, withReady, planned, readying, holding}
+use Rattle.form.specs.Holding.{Holds, planned, readying, holding}
 use Rattle.form.proofs.Rows.{length-node, length-drive, length-data, length-frames, length-paces, length-plans, length-form}
 use Rattle.form.proofs.OneForm.{stateOf-form, form-stateOf, typed-read}
 
@@ -145,18 +145,6 @@ module _ {bs : List ℕ} {s : State} (h : Holds bs s) where
             (within n nodeLength 0 (driveForm x) _ in-node (sets-first v _ (driveForm x) (length-drive x ∙ sym in-drive)));
         typed = record {
           head = record { heartbeat = t .heartbeat; store = fits; ready = t .ready; held = t .held; paces = t .paces };
-          plans = h .typed .plans;
-        };
-      }
-
-  pub put-ready : (x : List PdoData) → Many DataTyped eachWay x → Holds (sets bs readyPlace (joined dataForm x)) (withReady x s)
-  put-ready x fits =
-      record {
-        bytes = rw (h .bytes, flat s, flat (withReady x s))
-            (within n nodeLength driveLength (joined dataForm x) _ in-node (within v driveLength 0 (joined dataForm x) _ in-drive
-            (sets-first (joined dataForm (s .axis .ready)) _ (joined dataForm x) (length-frames fits ∙ sym in-ready))));
-        typed = record {
-          head = record { heartbeat = t .heartbeat; store = t .store; ready = fits; held = t .held; paces = t .paces };
           plans = h .typed .plans;
         };
       }

@@ -20,7 +20,7 @@ ghost use lib.ListN.{length};
 ghost use lib.Seq.{sets};
 ghost use Rattle.rules_dictionary.specs.Table.{eachWay, mostMoves};
 ghost use Rattle.form.specs.Form.{each, dataLength, dataAt, moveLength, moveAt, planLength, planAt, paceLength, paceAt};
-ghost use Rattle.form.specs.Form.{stateLength, stateOf, planIn, readyIn, heldIn, pacesPlace, plansPlace, joined, dataForm, paceForm, moveForm, planForm};
+ghost use Rattle.form.specs.Form.{stateLength, stateOf, readyIn, heldIn, pacesPlace, plansPlace, joined, dataForm, paceForm, moveForm, planForm};
 ghost use Rattle.form.specs.Typed.{Many, AnyPace, DataTyped, MoveTyped, PlanTyped};
 ghost use Rattle.form.specs.Own.{pacesOwn};
 
@@ -165,14 +165,6 @@ fn plan_at(bytes: &[u8], place: usize) -> Plan
             read_move(bytes, eighth),
         ],
     }
-}
-
-// The plan of PDO p.
-pub fn read_plan(bytes: &[u8], p: usize) -> Plan
-    requires { ⌜ (length (now bytes) ≡ stateLength) × (p < 2 * eachWay) ⌝ }
-    ensures { λ r. ⌜ r ≡ planIn (now (bytes .entry)) p ⌝ }
-{
-    plan_at(bytes, layout::PLANS + layout::PLAN_LENGTH * p)
 }
 
 // The plans of the eight PDOs.

@@ -20,7 +20,7 @@ ghost use Rattle.rules_dictionary.specs.Table.{eachWay};
 ghost use Rattle.rules_services.specs.Effects.{withNode, withHeartbeat, withDrive, withHeld, withPaces};
 ghost use Rattle.rules_services.specs.PdoTraffic.{noneHeld};
 ghost use Rattle.form.specs.Form.{stateLength};
-ghost use Rattle.form.specs.Holding.{Puts, withReady, planned, holding};
+ghost use Rattle.form.specs.Holding.{Puts, planned, holding};
 
 // The node's part.
 pub fn put_node(state: &mut [u8], node: Node)
@@ -44,14 +44,6 @@ pub fn put_drive(state: &mut [u8], drive: Drive)
     ensures { λ r. ⌜ Puts (withDrive drive) (now (state .entry)) (now (state .exit)) ⌝ }
 {
     write_drive(state, drive);
-}
-
-// The ready frames of the transmit PDOs.
-pub fn put_ready(state: &mut [u8], ready: [PdoData; 4])
-    requires { ⌜ length (now state) ≡ stateLength ⌝ }
-    ensures { λ r. ⌜ Puts (withReady ready) (now (state .entry)) (now (state .exit)) ⌝ }
-{
-    write_frames(state, layout::READY, ready);
 }
 
 // The held frame of receive PDO p.

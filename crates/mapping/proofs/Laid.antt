@@ -13,11 +13,11 @@ use Rattle.rules_dictionary.specs.declared.PdoData.{PdoData}
 use Rattle.state.specs.declared.State.{State}
 use Rattle.rules_dictionary.specs.Numbers.{value, bytes, part, areBytes, padded}
 use Rattle.rules_dictionary.specs.Table.{eachWay, dictionaryLength}
-use Rattle.rules_dictionary.specs.Plans.{noMove, pdoData}
+use Rattle.rules_dictionary.specs.Plans.{pdoData}
 use Rattle.rules_dictionary.proofs.Rows.{bytes-value, part-bytes}
 use Rattle.rules_dictionary.proofs.Padded.{length-padded}
 use Rattle.dictionary.specs.Sizes.{IsSize}
-use Rattle.form.specs.Form.{each, dataForm, dataAt, dataLength, moveAt, moveOf, planAt, planPlace, planIn, readyPlace, stateOf}
+use Rattle.form.specs.Form.{each, dataForm, dataAt, dataLength, wordAt, moveAt, moveOf, planAt, planPlace, planIn, readyPlace, stateOf}
 use Rattle.form.specs.Typed.{DataTyped}
 use Rattle.form.specs.Holding.{Holds, readying}
 use Rattle.form.proofs.Rows.{sets-append}
@@ -25,8 +25,7 @@ use Rattle.form.proofs.OneForm.{plan-stands, ready-stands}
 use Rattle.form.proofs.Holding.{held-state, put-one-ready}
 use Rattle.mapping.specs.Moves.{joinedMoves, readyBy, MovesFit}
 use Rattle.mapping.proofs.Assembly.{joined-room}
-use Rattle.mapping.proofs.Steps.{left}
-use Rattle.mapping.proofs.Framed.{bytesLeft, move-fits, joined-next, theirs, length-next, none-joined, none-longer, moves-at, count-at}
+use Rattle.mapping.proofs.Steps.{leftAt, bytesLeft, Reached, none-reached, none-joined, further, move-fits, joined-step, value-sized, longer}
 
 -- ---- what stands behind what is written stays
 
@@ -59,16 +58,12 @@ plan-behind place bs bs′ e =
 
 -- the bytes bs as far as moves are laid: what is left to lay is what was to lay into those of the start; the plan stands behind the frame
 pub record Laying (d start bs : List ℕ) (first place word at k : ℕ) : Type 0 where
-  pub rest :
-      sets bs at (joinedMoves d (left (planAt place start .moves) (planAt place start .count) k))
-      ≡ sets start first (joinedMoves d (take (planAt place start .count) (planAt place start .moves)))
+  pub rest : sets bs at (joinedMoves d (leftAt place start k)) ≡ sets start first (joinedMoves d (leftAt place start 0))
   pub stays : drop place bs ≡ drop place start
   pub long : length bs ≡ length start
-  pub bytes : at + bytesLeft d (planAt place start) k ≡ first + bytesLeft d (planAt place start) 0
-  pub room : bytesLeft d (planAt place start) 0 ≤ 8
-  pub stands : word ≡ place + 1 + 4 * k
-  pub few : getD start place 0 ≤ 8
-  pub within : k ≤ getD start place 0
+  pub bytes : at + bytesLeft d start place k ≡ first + bytesLeft d start place 0
+  pub room : bytesLeft d start place 0 ≤ 8
+  pub reached : Reached start place word k
 
 pub none-laid : (d start : List ℕ) (first place : ℕ) → MovesFit (planAt place start .moves) (planAt place start .count) →
     Laying d start start first place (place + 1) first 0
@@ -79,9 +74,7 @@ none-laid d start first place f =
       long = refl;
       bytes = refl;
       room = joined-room d (planAt place start .moves) (planAt place start .count) f;
-      stands = omega arith;
-      few = omega (arith, count-at place start, f .few);
-      within = omega arith;
+      reached = none-reached start place f;
     }
 
 -- what holds all along
@@ -89,70 +82,45 @@ pub record Layable (d start : List ℕ) (first place : ℕ) : Type 0 where
   pub full : length d ≡ dictionaryLength
   pub before : first + 8 ≤ place
   pub inside : place ≤ length start
-  pub fits : MovesFit (planAt place start .moves) (planAt place start .count)
   pub values : areBytes d ≡ true
 
 module _ {d start bs : List ℕ} {first place word at k : ℕ} (g : Layable d start first place) (c : Laying d start bs first place word at k) where
-  abbrev plan : Plan
-  plan = planAt place start
-
   -- the next move, by the word that the code reads and takes apart
   module _ (h : k < getD start place 0) {v p s : ℕ} (reads : v ≡ value (part word 4 bs)) (ep : p ≡ moveOf v .place) (es : s ≡ moveOf v .size) where
-    in-count : k < plan .count
-    in-count = omega (arith, count-at place start)
+    as-begun : v ≡ wordAt word start
+    as-begun = reads ∙ ap value (part-behind place word 4 bs start (c .stays) (omega (arith, c .reached .stands)))
 
-    taken : getD (plan .moves) k noMove ≡ moveOf v
-    taken =
-        moves-at place k start (omega (arith, c .few))
-        ∙ rw (reads, c .stands, part-behind place (place + 1 + 4 * k) 4 bs start (c .stays) (omega arith))
-
-    place-is : p ≡ getD (plan .moves) k noMove .place
-    place-is = rw taken ep
-
-    size-is : s ≡ getD (plan .moves) k noMove .size
-    size-is = rw taken es
-
-    longer : bytesLeft d plan k ≡ s + bytesLeft d plan (k + 1)
-    longer = length-next d bs plan (g .fits) (g .full) k in-count p s place-is size-is
+    shorter : bytesLeft d start place k ≡ s + bytesLeft d start place (k + 1)
+    shorter = longer (c .reached) h as-begun ep es d (g .full)
 
     pub laid-within : at + s ≤ first + 8
-    laid-within = omega (arith, longer, c .bytes, c .room)
+    laid-within = omega (arith, shorter, c .bytes, c .room)
 
     pub laid-room : (at + s ≤ length bs) × ((p + s ≤ length d) × IsSize s)
-    laid-room =
-        let m = move-fits d bs plan (g .fits) (g .full) k in-count p s place-is size-is in
-        (omega (arith, laid-within, g .before, g .inside, c .long), (rw (g .full) (m .0), m .1))
+    laid-room = (omega (arith, laid-within, g .before, g .inside, c .long), rw (g .full) (move-fits (c .reached) h as-begun ep es))
 
     pub one-laid : {r : ℕ} {bs′ : List ℕ} → r ≡ value (part p s d) → bs′ ≡ sets bs at (bytes s r) →
         Laying d start bs′ first place (word + 4) (at + s) (k + 1)
     one-laid {r} {bs′} read put =
-        let size : length (part p s d) ≡ s = theirs d bs plan (g .fits) (g .full) k in-count p s place-is size-is in
+        let size : length (part p s d) ≡ s = value-sized (c .reached) h as-begun ep es d (g .full) in
         let back : bytes s r ≡ part p s d = ap (bytes s) read ∙ rw size at (bytes-value (part p s d) (part-bytes p s d (g .values))) in
-        let next = joined-next d bs plan (g .fits) (g .full) k in-count p s place-is size-is in
         let is : bs′ ≡ sets bs at (part p s d) = put ∙ ap (sets bs at) back in
+        let next = joined-step (c .reached) h as-begun ep es d in
         record {
-          rest = rw (is, ← sets-append bs (part p s d) (joinedMoves d (left (plan .moves) (plan .count) (k + 1))) at (at + s) (rw size), ← next)
-              (c .rest);
+          rest = rw (is, ← sets-append bs (part p s d) (joinedMoves d (leftAt place start (k + 1))) at (at + s) (rw size), ← next) (c .rest);
           stays = rw is (drop-sets (part p s d) bs at place (rw size (omega (arith, laid-within, g .before))) ∙ c .stays);
           long = ap length is ∙ length-sets bs at (part p s d) ∙ c .long;
-          bytes = omega (arith, longer, c .bytes);
+          bytes = omega (arith, shorter, c .bytes);
           room = c .room;
-          stands = omega (arith, c .stands);
-          few = c .few;
-          within = omega arith;
+          reached = further (c .reached) h;
         }
 
   -- no move is left
-  module _ (h : getD start place 0 ≤ k) where
-    past-count : plan .count ≤ k
-    past-count = omega (arith, count-at place start)
-
-    pub all-laid :
-        (bs ≡ sets start first (joinedMoves d (take (plan .count) (plan .moves))))
-        × (at ≡ first + length (joinedMoves d (take (plan .count) (plan .moves))))
-    all-laid =
-        let none = none-joined d bs plan (g .fits) k past-count in
-        (rw none at (c .rest), omega (arith, none-longer d bs plan (g .fits) k past-count, c .bytes))
+  pub all-laid : getD start place 0 ≤ k →
+      (bs ≡ sets start first (joinedMoves d (leftAt place start 0))) × (at ≡ first + bytesLeft d start place 0)
+  all-laid h =
+      let none = none-joined (c .reached) h d in
+      let e : bytesLeft d start place k ≡ 0 = rw none in (rw none at (c .rest), omega (arith, c .bytes))
 
 -- ---- a whole frame
 

@@ -29,10 +29,11 @@ use Rattle.rules_services.specs.PdoTraffic.{mappedLength, areLegal}
 use Rattle.rules_services.specs.Written.{wrote}
 use Rattle.rules.specs.Sound.{inRange, mappingLegal}
 use Rattle.theorems.proofs.Dictionary.{isPdo, DictionaryOk, entries-good}
+use Rattle.form.specs.Form.{stateLength, planIn}
 use Rattle.mapping.specs.Words.{mappables}
 use Rattle.mapping.proofs.Worked.{plan-fits, maps-count, legal-mapping, Tested}
 use Rattle.mapping.proofs.Legality.{neither, named-row, targets-named}
-use Rattle.mapping.specs.Received.{movesOf, sizes, hasPlace, isLegal, movesLegal, storedMoves, Received, Receives}
+use Rattle.mapping.specs.Received.{PlanFits, movesOf, sizes, hasPlace, isLegal, movesLegal, storedMoves, Received, Receives}
 
 -- ---- a value for a row that may be received
 
@@ -216,6 +217,10 @@ module _ (d : List ℕ) (p : ℕ) (l : p < eachWay) (legal : mappingLegal d p �
 
   pub receives : Receives (planFor (mapped d p)) (mapped d p)
   receives = record { fresh = refl; few = omega (arith, maps-count d p legal few); received = mapped-received; fits = plan-fits d p legal few }
+
+-- the plan of one that stands in a state's bytes
+pub in-place : (bs : List ℕ) (p : ℕ) {xs : List Row} → length bs ≡ stateLength → p < eachWay → Receives (planIn bs p) xs → PlanFits bs p
+in-place bs p whole l r = record { whole = whole; number = omega arith; fits = r .fits }
 
 -- of one that passed the test of its mapping
 pub tested-receives : {d : List ℕ} {p : ℕ} {plan : Plan} → p < eachWay → Tested d p plan → Receives plan (mapped d p)

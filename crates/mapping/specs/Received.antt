@@ -1,6 +1,6 @@
 -- What a plan's moves do with the bytes of a received frame: each takes its own from the front, and leaves the rest to those behind it.
 -- Assumes nothing.
-use Prim.Native.Nat.{ℕ, _≤_}
+use Prim.Native.Nat.{ℕ, _*_, _<_, _≤_}
 use mathlib.Core.Path.{_≡_}
 use mathlib.Core.List.{List, [], _∷_, map}
 use mathlib.Core.Bool.{Bool, true, cond, not, _&&_}
@@ -10,8 +10,9 @@ use lib.Seq.{sets}
 use Rattle.rules_dictionary.specs.declared.Move.{Move}
 use Rattle.rules_dictionary.specs.declared.Plan.{Plan}
 use Rattle.rules_dictionary.specs.Numbers.{value, bytes, any, sum}
-use Rattle.rules_dictionary.specs.Table.{Row, receive, mostMoves, placeOf, mode, profileAcceleration, profileDeceleration}
+use Rattle.rules_dictionary.specs.Table.{Row, receive, eachWay, mostMoves, placeOf, mode, profileAcceleration, profileDeceleration}
 use Rattle.rules_dictionary.specs.Legal.{isMode}
+use Rattle.form.specs.Form.{stateLength, planIn}
 use Rattle.mapping.specs.Words.{mappables}
 use Rattle.rules_dictionary.specs.Members.{In}
 use Rattle.rules_dictionary.specs.Plans.{planFor}
@@ -20,6 +21,12 @@ use Rattle.mapping.specs.Moves.{MovesFit}
 -- a plan's moves, without its spare slots
 abbrev pub movesOf : Plan → List Move
 movesOf plan = take (plan .count) (plan .moves)
+
+-- the plan of PDO p stands in a state's bytes, and its moves are values of the dictionary
+pub record PlanFits (bs : List ℕ) (p : ℕ) : Type 0 where
+  pub whole : length bs ≡ stateLength
+  pub number : p < 2 * eachWay
+  pub fits : MovesFit (planIn bs p .moves) (planIn bs p .count)
 
 -- how many bytes the moves are
 abbrev pub sizes : List Move → ℕ

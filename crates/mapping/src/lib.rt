@@ -2,17 +2,15 @@
 // in a received frame by its plan.
 
 mod words; // the move that a mapping word names
-mod frames; // the data of a PDO
+mod frames; // the data of a PDO, compared
 mod plans; // the plan that a PDO's mapping gives
 mod received; // the values of a received frame
-mod afresh; // all plans, and all ready frames
+mod afresh; // all plans
 mod ready; // the ready frames, worked where they stand
 mod kept; // what a state's bytes keep of a mapping
 mod working; // whether a PDO works in Operational
 
 pub use afresh::all_plans;
-pub use afresh::ready_by;
-pub use frames::same_data;
 pub use kept::is_frame_kept;
 pub use kept::is_plan_kept;
 pub use ready::renew_all;

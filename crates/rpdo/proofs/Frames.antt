@@ -24,8 +24,9 @@ use Rattle.rules_services.specs.PdoTraffic.{typeOf, mappedLength, areLegal, hel
 use Rattle.rules.specs.Outcome.{frameSize, mostData, sentInto}
 use Rattle.theorems.proofs.Booleans.{whichever}
 use Rattle.theorems.proofs.PdoKept.{unpacked-same}
-use Rattle.mapping.specs.Received.{movesOf, sizes, movesLegal, Receives}
-use Rattle.mapping.proofs.Unpacked.{legal-is, length-is}
+use Rattle.form.specs.Form.{planIn}
+use Rattle.mapping.specs.Received.{PlanFits, movesOf, sizes, movesLegal, Receives}
+use Rattle.mapping.proofs.Unpacked.{legal-is, length-is, in-place}
 use Rattle.output.specs.Laying.{IsData, dataOf, emitted}
 use Rattle.output.specs.Leaves.{Leaves, Rests}
 use Rattle.output.specs.declared.Done.{Done}
@@ -58,16 +59,20 @@ next-zero k bs front h l e = rw (add-one k, take-suc-set bs k 0 h, e) (sym (padd
 
 -- ---- another part of the output lent
 
-pub lends : {m : ℕ} {plan : Plan} {p : ℕ} {state d o : List ℕ} → Serves m plan p state d o → {n : ℕ} {part : List ℕ} → n ≤ length part →
-    Serves n plan p state d part
+pub lends : {m p : ℕ} {state d o : List ℕ} → Serves m p state d o → {n : ℕ} {part : List ℕ} → n ≤ length part → Serves n p state d part
 lends k room =
     let l = k .lent in
     record { lent = lent (l .own) (l .long) room (l .id); number = k .number; receives = k .receives }
 
+-- ---- its plan where it stands
+
+pub fits-in : {n p : ℕ} {state d o : List ℕ} → Serves n p state d o → PlanFits state p
+fits-in {p = p} {state} k = in-place state p (k .lent .whole) (k .number) (k .receives)
+
 -- ---- as many bytes as the PDO maps
 
-module _ {needed : ℕ} {plan : Plan} {p : ℕ} {state d o : List ℕ} (k : Serves needed plan p state d o) {content : PdoData} (shape : IsData content)
-    (is : content .length ≡ mappedLength (mapped d p)) {legal : Bool} (tested : legal ≡ movesLegal (movesOf plan) (content .bytes))
+module _ {needed p : ℕ} {state d o : List ℕ} (k : Serves needed p state d o) {content : PdoData} (shape : IsData content)
+    (is : content .length ≡ mappedLength (mapped d p)) {legal : Bool} (tested : legal ≡ movesLegal (movesOf (planIn state p)) (content .bytes))
     (bytes : areBytes (content .bytes) ≡ true) where
   values : unpacked (mapped d p) (dataOf content) ≡ unpacked (mapped d p) (content .bytes)
   values = unpacked-same (mapped d p) _ _ (rw (← is) (take-take (content .length) (content .length) (content .bytes) (omega arith)))
@@ -99,8 +104,8 @@ judged-few p bs s d r =
 
 -- ---- a frame that a PDO listens to, of n bytes or not
 
-module _ {needed : ℕ} {plan : Plan} {p : ℕ} {state d o : List ℕ} (k : Serves needed plan p state d o) {content : PdoData} (shape : IsData content)
-    {n : ℕ} (sized : n ≡ sizes (movesOf plan)) where
+module _ {needed p : ℕ} {state d o : List ℕ} (k : Serves needed p state d o) {content : PdoData} (shape : IsData content)
+    {n : ℕ} (sized : n ≡ sizes (movesOf (planIn state p))) where
   is : n ≡ mappedLength (mapped d p)
   is = sized ∙ length-is (k .receives)
 

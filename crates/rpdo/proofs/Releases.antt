@@ -47,6 +47,12 @@ other-none f a b h [] p = h
 other-none f a b h (x ∷ l) zero = refl
 other-none f a b h (x ∷ l) (suc p) = other-none f a b h l p
 
+-- its PDO is served without it
+pub still-serves : {n p : ℕ} {bs bs₁ d o : List ℕ} → Serves n p bs d o → Holds bs₁ (holding p noData (stateOf bs)) → Serves n p bs₁ d o
+still-serves k held =
+    let l = k .lent in
+    record { lent = lent held (l .long) (l .room) (l .id); number = k .number; receives = rw (held-state held) (k .receives) }
+
 module _ (p : ℕ) (d : List ℕ) where
   by : State → PdoData → Bool → Effect
   by s f b = elim b [ true ↦ applied (unpacked (mapped d p) (f .bytes)) (holding p noData s) d | false ↦ becomes s ]
@@ -136,7 +142,7 @@ module _ {bs₀ d₀ o₀ : List ℕ} (k : Kept bs₀ d₀ o₀) {p : ℕ} (l : 
   room = omega (arith, x .same, k .lent .room, x .leaves .frames, x .keeps .few)
 
   -- what is kept stays kept
-  pub serves : {part : List ℕ} → frameSize ≤ length part → Serves frameSize (planIn bs p) p bs d part
+  pub serves : {part : List ℕ} → frameSize ≤ length part → Serves frameSize p bs d part
   serves enough =
       let long = ap length (x .leaves .dictionary) ∙ length-stored (e .writes) d₀ ∙ k .lent .long in
       record { lent = lent held long enough (rw (x .keeps .id) (k .lent .id)); number = l; receives = receives }

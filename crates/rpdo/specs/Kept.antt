@@ -3,7 +3,6 @@
 -- Assumes nothing.
 use Prim.Native.Nat.{ℕ, _<_}
 use mathlib.Core.List.{List}
-use Rattle.rules_dictionary.specs.declared.Plan.{Plan}
 use Rattle.rules_dictionary.specs.Table.{eachWay, receivePdos}
 use Rattle.rules_dictionary.specs.Plans.{mapped}
 use Rattle.rules_dictionary.specs.Members.{In}
@@ -16,8 +15,8 @@ pub record Kept (state d o : List ℕ) : Type 0 where
   pub lent : Lent outputLength state d o
   pub plans : (p : ℕ) → In p receivePdos → Receives (planIn state p) (mapped d p)
 
--- the same for one receive PDO: by its plan, and the room that it needs
-pub record Serves (needed : ℕ) (plan : Plan) (p : ℕ) (state d o : List ℕ) : Type 0 where
+-- the same for one receive PDO, by the room that it needs
+pub record Serves (needed p : ℕ) (state d o : List ℕ) : Type 0 where
   pub lent : Lent needed state d o
   pub number : p < eachWay
-  pub receives : Receives plan (mapped d p)
+  pub receives : Receives (planIn state p) (mapped d p)

@@ -5,31 +5,24 @@ use emergency::acted;
 use mapping::maps;
 use mapping::store_values;
 use output::Done;
-use rules_dictionary::Plan;
 ghost use mathlib.Core.List.{List};
 ghost use Rattle.rules_dictionary.specs.Table.{Row};
 ghost use Rattle.rules_dictionary.specs.Values.{unpacked};
 ghost use Rattle.rules_services.specs.Written.{applied};
 ghost use Rattle.rules.specs.Outcome.{frameSize};
-ghost use Rattle.mapping.specs.Moves.{MovesFit};
-ghost use Rattle.mapping.specs.Received.{Receives};
+ghost use Rattle.form.specs.Form.{planIn};
+ghost use Rattle.mapping.specs.Received.{PlanFits, Receives};
 ghost use Rattle.output.specs.Leaves.{Lent, LeavesIn};
 
-// The values of the rows that a receive PDO's plan is for, taken from those bytes, stored and acted on.
-pub fn apply(
-    state: &mut [u8],
-    plan: Plan,
-    d: &mut [u8],
-    output: &mut [u8],
-    content: [u8; 8],
-) -> Done
-    requires { ⌜ Lent frameSize (now state) (now d) (now output) × MovesFit (plan .moves) (plan .count) ⌝ }
-    ensures { λ r. ⌜ ((xs : List Row) → Receives plan xs → LeavesIn (applied (unpacked xs content)) (now (state .entry)) (now (d .entry))
-        (now (output .entry)) r (now (state .exit)) (now (d .exit)) (now (output .exit))) ⌝ }
+// The values of the rows that receive PDO p's plan is for, taken from those bytes, stored and acted on.
+pub fn apply(state: &mut [u8], p: usize, d: &mut [u8], output: &mut [u8], content: [u8; 8]) -> Done
+    requires { ⌜ Lent frameSize (now state) (now d) (now output) × PlanFits (now state) p ⌝ }
+    ensures { λ r. ⌜ ((xs : List Row) → Receives (planIn (now (state .entry)) p) xs → LeavesIn (applied (unpacked xs content))
+        (now (state .entry)) (now (d .entry)) (now (output .entry)) r (now (state .exit)) (now (d .exit)) (now (output .exit))) ⌝ }
 {
     let old = objects::control_word(d);
-    store_values(d, plan, content);
-    let mode = maps(plan, places::MODE as u16);
-    let control = maps(plan, places::CONTROL_WORD as u16);
+    store_values(d, state, p, content);
+    let mode = maps(state, p, places::MODE as u16);
+    let control = maps(state, p, places::CONTROL_WORD as u16);
     acted(old, mode, control, state, d, output)
 }

@@ -9,14 +9,12 @@ use dictionary::records;
 use emergency::emergency;
 use form::put_held;
 use form::read_node;
-use form::read_plan;
 use mapping::are_legal;
 use mapping::length_of;
 use output::Done;
 use output::FRAME_LENGTH;
 use output::nothing_done;
 use rules_dictionary::PdoData;
-use rules_dictionary::Plan;
 ghost use mathlib.Core.Path.{_≡_};
 ghost use Prim.Native.Nat.{_≤_};
 ghost use lib.ListN.{length, take};
@@ -56,44 +54,30 @@ fn leading(content: [u8; 8], n: usize) -> [u8; 8]
 
 // As many bytes as receive PDO p maps: dropped if a value is refused. "Types 254, 255 apply at once; others are held, the latest kept, until
 // SYNC." A frame that is dropped or held is quiet.
-fn judge(
-    state: &mut [u8],
-    plan: Plan,
-    d: &mut [u8],
-    output: &mut [u8],
-    p: usize,
-    content: PdoData,
-) -> Done
-    requires { ⌜ Serves frameSize plan p (now state) (now d) (now output)
+fn judge(state: &mut [u8], d: &mut [u8], output: &mut [u8], p: usize, content: PdoData) -> Done
+    requires { ⌜ Serves frameSize p (now state) (now d) (now output)
         × (IsData content × (content .length ≡ mappedLength (mapped (now d) p))) ⌝ }
     ensures { λ r. ⌜ LeavesIn (judged p (dataOf content)) (now (state .entry)) (now (d .entry)) (now (output .entry))
         r (now (state .exit)) (now (d .exit)) (now (output .exit)) ⌝ }
 {
     let bytes = content.bytes;
-    if !are_legal(plan, bytes) {
+    if !are_legal(state, p, bytes) {
         return refused(VALUE_REFUSED, state, d, output);
     }
     if LAST_SYNCHRONOUS < records::transmission_type(d, p) {
-        return apply(state, plan, d, output, bytes);
+        return apply(state, p, d, output, bytes);
     }
     put_held(state, p, content);
     nothing_done(true)
 }
 
 // A frame that receive PDO p listens to.
-fn received(
-    state: &mut [u8],
-    plan: Plan,
-    d: &mut [u8],
-    output: &mut [u8],
-    p: usize,
-    content: PdoData,
-) -> Done
-    requires { ⌜ Serves outputLength plan p (now state) (now d) (now output) × IsData content ⌝ }
+fn received(state: &mut [u8], d: &mut [u8], output: &mut [u8], p: usize, content: PdoData) -> Done
+    requires { ⌜ Serves outputLength p (now state) (now d) (now output) × IsData content ⌝ }
     ensures { λ r. ⌜ LeavesIn (received p (dataOf content)) (now (state .entry)) (now (d .entry)) (now (output .entry))
         r (now (state .exit)) (now (d .exit)) (now (output .exit)) ⌝ }
 {
-    let needed = length_of(plan);
+    let needed = length_of(state, p);
     if content.length < needed {
         return refused(TOO_SHORT, state, d, output);
     }
@@ -104,11 +88,11 @@ fn received(
             length: needed,
             bytes: leading(bytes, needed as usize),
         };
-        let mut done = judge(state, plan, d, &mut output[FRAME_LENGTH * n..], p, used);
+        let mut done = judge(state, d, &mut output[FRAME_LENGTH * n..], p, used);
         done.frames += n;
         return done;
     }
-    judge(state, plan, d, output, p, content)
+    judge(state, d, output, p, content)
 }
 
 // A frame on an identifier: for the first receive PDO that listens to it, if any. "A PDO works only in Operational".
@@ -132,8 +116,7 @@ pub fn receive(
     let mut p: usize = 0;
     while p < places::EACH_WAY {
         if hears(d, p, identifier) {
-            let plan = read_plan(state, p);
-            return received(state, plan, d, output, p, content);
+            return received(state, d, output, p, content);
         }
         p += 1;
     }

@@ -5,7 +5,6 @@ use dictionary::places;
 use form::put_held;
 use form::read_held_frame;
 use form::read_node;
-use form::read_plan;
 use output::Done;
 use output::FRAME_LENGTH;
 use output::nothing_done;
@@ -18,7 +17,6 @@ ghost use Rattle.rules_dictionary.specs.Table.{receivePdos};
 ghost use Rattle.rules_services.specs.Effects.{on};
 ghost use Rattle.rules_services.specs.PdoTraffic.{release, releaseAll};
 ghost use Rattle.rules.specs.Outcome.{frameSize};
-ghost use Rattle.form.specs.Form.{planIn};
 ghost use Rattle.output.specs.Leaves.{LeavesIn};
 ghost use Rattle.rpdo.specs.Kept.{Kept, Serves};
 ghost use Rattle.rpdo.specs.Traffic.{syncOf};
@@ -28,7 +26,7 @@ const SYNC_LENGTH: u16 = 0x8240;
 
 // The held frame of receive PDO p, if any, applied, and held no more.
 fn release(state: &mut [u8], d: &mut [u8], output: &mut [u8], p: usize) -> Done
-    requires { ⌜ Serves frameSize (planIn (now state) p) p (now state) (now d) (now output) ⌝ }
+    requires { ⌜ Serves frameSize p (now state) (now d) (now output) ⌝ }
     ensures { λ r. ⌜ LeavesIn (release p) (now (state .entry)) (now (d .entry)) (now (output .entry))
         r (now (state .exit)) (now (d .exit)) (now (output .exit)) ⌝ }
 {
@@ -36,14 +34,13 @@ fn release(state: &mut [u8], d: &mut [u8], output: &mut [u8], p: usize) -> Done
     if frame.length == 0 {
         return nothing_done(true);
     }
-    let plan = read_plan(state, p);
     let none = PdoData {
         length: 0,
         bytes: [0; 8],
     };
     put_held(state, p, none);
     let bytes = frame.bytes;
-    apply(state, plan, d, output, bytes)
+    apply(state, p, d, output, bytes)
 }
 
 // One or the other.

@@ -90,6 +90,6 @@ module _ (m : NmtState) (d : List ℕ) (p : ℕ) (f : PdoData) where
   held-some h = rw (lt-ltb 0 (f .length) (omega arith))
 
   -- of a working synchronous PDO what is left to test goes by its plan
-  pub held-by : (plan : Plan) → (f .length ≡ 0 → ⊥) → works m d p ≡ true → typeOf d p ≤ lastSynchronous → Receives plan (mapped d p) →
+  pub held-by : {plan : Plan} → (f .length ≡ 0 → ⊥) → works m d p ≡ true → typeOf d p ≤ lastSynchronous → Receives plan (mapped d p) →
       heldSound m d p f ≡ (sameData f (pdoData (take (sizes (movesOf plan)) (f .bytes))) && areLegal d (unpacked (mapped d p) (f .bytes)))
-  held-by plan h w t r = held-some h ∙ rw (w, le-leb (typeOf d p) lastSynchronous t, ← length-is r)
+  held-by h w t r = held-some h ∙ rw (w, le-leb (typeOf d p) lastSynchronous t, ← length-is r)

@@ -7,12 +7,10 @@ use dictionary::records;
 use form::bits_of_words;
 use form::layout;
 use form::read_frame;
-use form::read_plan;
 use mapping::are_legal;
 use mapping::is_open;
 use mapping::length_of;
 use rules_dictionary::PdoData;
-use rules_dictionary::Plan;
 use state::NmtState;
 ghost use mathlib.Core.Path.{_≡_};
 ghost use mathlib.Core.Bool.{true, false};
@@ -22,8 +20,7 @@ ghost use Rattle.rules_dictionary.specs.Table.{eachWay, dictionaryLength};
 ghost use Rattle.rules_dictionary.specs.Plans.{pdoData};
 ghost use Rattle.dictionary.specs.Sizes.{IsPdo};
 ghost use Rattle.form.specs.Form.{dataLength, dataAt, paceAt, planIn, stateLength, stateOf};
-ghost use Rattle.mapping.specs.Moves.{MovesFit};
-ghost use Rattle.mapping.specs.Received.{movesOf, sizes};
+ghost use Rattle.mapping.specs.Received.{PlanFits, movesOf, sizes};
 ghost use Rattle.rules.specs.Outcome.{sameData};
 ghost use Rattle.rules_services.specs.PdoTraffic.{works, noData};
 ghost use Rattle.rules.specs.Sound.{countSound, dueSound, paceSound, heldSound};
@@ -121,13 +118,13 @@ fn is_zero_from(content: [u8; 8], first: u8) -> bool
     true
 }
 
-// Whether a frame has the length that the plan maps, and zeros behind.
-fn is_full(plan: Plan, frame: PdoData) -> bool
-    requires { ⌜ MovesFit (plan .moves) (plan .count) ⌝ }
-    ensures { λ r. ⌜ r ≡ sameData frame (pdoData (take (sizes (movesOf plan)) (frame .bytes))) ⌝ }
+// Whether a frame has the length that the plan of PDO p maps, and zeros behind.
+fn is_full(state: &[u8], p: usize, frame: PdoData) -> bool
+    requires { ⌜ PlanFits (now state) p ⌝ }
+    ensures { λ r. ⌜ r ≡ sameData frame (pdoData (take (sizes (movesOf (planIn (now (state .entry)) p))) (frame .bytes))) ⌝ }
 {
     let content = frame.bytes;
-    let mapped = length_of(plan);
+    let mapped = length_of(state, p);
     if frame.length != mapped {
         return false;
     }
@@ -135,9 +132,9 @@ fn is_full(plan: Plan, frame: PdoData) -> bool
 }
 
 // "held frames only in Operational, .. held for working synchronous RPDOs, with full length and legal values": of one where something is held
-fn is_frame_sound(m: NmtState, d: &[u8], p: usize, plan: Plan, frame: PdoData) -> bool
-    requires { ⌜ (length (now d) ≡ dictionaryLength) × ((p < eachWay)
-        × ((planKept (now d) p plan ≡ true) × (sameData frame noData ≡ false))) ⌝ }
+fn is_frame_sound(m: NmtState, state: &[u8], d: &[u8], p: usize, frame: PdoData) -> bool
+    requires { ⌜ (length (now state) ≡ stateLength) × ((length (now d) ≡ dictionaryLength)
+        × ((p < eachWay) × ((planKept (now d) p (planIn (now state) p) ≡ true) × (sameData frame noData ≡ false)))) ⌝ }
     ensures { λ r. ⌜ r ≡ heldSound m (now (d .entry)) p frame ⌝ }
 {
     let content = frame.bytes;
@@ -150,10 +147,10 @@ fn is_frame_sound(m: NmtState, d: &[u8], p: usize, plan: Plan, frame: PdoData) -
     if LAST_SYNCHRONOUS < records::transmission_type(d, p) {
         return false;
     }
-    if !is_full(plan, frame) {
+    if !is_full(state, p, frame) {
         return false;
     }
-    are_legal(plan, content)
+    are_legal(state, p, content)
 }
 
 // Whether what is held for receive PDO p is sound; its plan is known to be its mapping's.
@@ -166,9 +163,8 @@ fn is_held_sound(m: NmtState, state: &[u8], d: &[u8], p: usize) -> bool
     if is_none_held(state, at) {
         return true;
     }
-    let plan = read_plan(state, p);
     let frame = read_frame(state, at);
-    is_frame_sound(m, d, p, plan, frame)
+    is_frame_sound(m, state, d, p, frame)
 }
 
 // Whether nothing waits: neither a SYNC count, nor a due mark, nor a held frame.

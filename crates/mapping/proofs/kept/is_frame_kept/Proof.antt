@@ -5,7 +5,8 @@ use native.Mathlib.Omega.{arith}
 use borrow.Author.Needs.{needs}
 use borrow.Author.Tests.{not-true, not-false}
 use Rattle.mapping.proofs.Assembly.{are-bytes}
-use Rattle.mapping.proofs.Framed.{count-at, Compared, none-compared, Comparable, value-within, value-room}
+use Rattle.mapping.proofs.Steps.{none-reached}
+use Rattle.mapping.proofs.Framed.{Compared, none-compared, Comparable, value-within, value-room}
 use Rattle.mapping.proofs.Framed.{one-more, other-value}
 use Rattle.mapping.proofs.Framed.{zeros-room, other-length, zeros-left}
 use Rattle.mapping.proofs.kept.is_frame_kept.Statement.{statement}
@@ -20,7 +21,7 @@ abbrev μ-loop : tie.MeasureT-loop
 cast-count : tie.Need-cast-count Inv-loop μ-loop
 cast-count c =
     let s = c .before .before .before in
-    omega (arith, count-at (s .args .plan) (s .args .state .now), s .pre .1 .1 .1 .few)
+    omega (arith, none-reached (s .args .state .now) (s .args .plan) (s .pre .1 .1 .1) .few)
 
 loop-holds : tie.Need-loop-holds Inv-loop μ-loop
 loop-holds c =
@@ -28,24 +29,23 @@ loop-holds c =
     none-compared (s .args .d .now) (s .args .state .now) (s .args .frame) (s .args .plan) (s .pre .1 .1 .1)
 
 comparable : (c : tie.At-loop Inv-loop μ-loop) →
-    let a = c .before .before .before .before .args in Comparable (a .d .now) (a .state .now) (a .frame) (a .plan)
+    let a = c .before .before .before .before .args in Comparable (a .d .now) (a .state .now) (a .frame)
 comparable c =
     let s = c .before .before .before .before in
     record {
       full = s .pre .1 .1 .0;
       inside = s .pre .0 .0;
-      fits = s .pre .1 .1 .1;
       values = are-bytes (s .args .d .now) (λ i h. omega (arith, c .before .before .shared-slice-known2 .given i));
       contents = are-bytes (s .args .state .now) (λ i h. omega (arith, c .before .before .before .shared-slice-known .given i));
     }
 
 cast-read4 : tie.Need-cast-read4 Inv-loop μ-loop
 cast-read4 c =
-    let i = c .before .loop .inv in
-    omega (arith, i .stands, i .few, i .within, c .before .before .before .before .before .pre .1 .0 .1)
+    let r = c .before .loop .inv .reached in
+    omega (arith, r .stands, r .few, r .within, c .before .before .before .before .before .pre .1 .0 .1)
 
 read4-requires : tie.Need-read4-requires Inv-loop μ-loop
-read4-requires c κs = let i = c .before .loop .inv in omega (arith, i .stands, i .few)
+read4-requires c κs = let r = c .before .loop .inv .reached in omega (arith, r .stands, r .few)
 
 cast-is-value : tie.Need-cast-is-value Inv-loop μ-loop
 cast-is-value c =

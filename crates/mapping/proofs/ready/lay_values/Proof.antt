@@ -3,7 +3,7 @@ use Prim.Native.Nat.{_-_}
 use native.Mathlib.Omega.{arith}
 use borrow.Author.Needs.{needs}
 use Rattle.mapping.proofs.Assembly.{are-bytes}
-use Rattle.mapping.proofs.Framed.{count-at}
+use Rattle.mapping.proofs.Steps.{count-at}
 use Rattle.mapping.proofs.Laid.{Laying, none-laid, Layable, laid-within, laid-room, one-laid, all-laid}
 use Rattle.mapping.proofs.ready.lay_values.Statement.{statement}
 use Rattle.mapping.proofs.ready.lay_values.Tie as tie
@@ -32,19 +32,18 @@ layable c =
       full = s .pre .1 .0;
       before = s .pre .0 .0;
       inside = omega (arith, s .pre .0 .1 .0);
-      fits = s .pre .1 .1;
       values = are-bytes (s .args .d .now) (λ i h. omega (arith, c .before .before .shared-slice-known .given i));
     }
 
 cast-read4 : tie.Need-cast-read4 Inv-loop μ-loop
 cast-read4 c =
     let l = c .before .before in
-    omega (arith, l .loop .inv .stands, l .loop .inv .few, l .loop .inv .within, l .before .before .before .before .pre .0 .1 .1)
+    omega (arith, l .loop .inv .reached .stands, l .loop .inv .reached .few, l .loop .inv .reached .within, l .before .before .before .before .pre .0 .1 .1)
 
 read4-requires : tie.Need-read4-requires Inv-loop μ-loop
 read4-requires c κs =
     let l = c .before .before in
-    omega (arith, l .loop .inv .stands, l .loop .inv .few, l .loop .inv .long, l .before .before .before .before .pre .0 .1 .0)
+    omega (arith, l .loop .inv .reached .stands, l .loop .inv .reached .few, l .loop .inv .long, l .before .before .before .before .pre .0 .1 .0)
 
 cast-write : tie.Need-cast-write Inv-loop μ-loop
 cast-write c =

@@ -44,39 +44,33 @@ hears-requires c κs =
     let x = c .before .before in
     (ap length (x .loop .inv .2) ∙ x .before .before .before .before .before .before .before .before .pre .0 .lent .long, c .before .loop-test .taken)
 
-read-plan-requires : tie.Need-read-plan-requires Inv-loop μ-loop
-read-plan-requires c κs =
-    let l = c .before .before .before .before in
-    let k = l .before .before .before .before .before .before .before .before .before .pre .0 in
-    (ap length (l .before .loop .inv .1) ∙ k .lent .whole, omega (arith, l .loop-test .taken))
-
 received-requires : tie.Need-received-requires Inv-loop μ-loop
 received-requires c κs =
-    let l = c .before .before .before .before .before .before .before .before in
+    let l = c .before .before .before .before .before .before in
     let x = l .before .loop .inv in
     let t = l .loop-test .taken in
     let s = l .before .before .before .before .before .before .before .before .before .pre in
-    rw (c .before .before .before .read-plan .ensures, x .1, x .2, x .3)
+    rw (x .1, x .2, x .3)
     (record { lent = s .0 .lent; number = t; receives = s .0 .plans _ (receiver _ t .0) }, s .1)
 
 same-length-2 : tie.Need-same-length-2 Inv-loop μ-loop
 same-length-2 c =
     let r = c .before .before .before .before .before .before in
-    r .received .kept .0 ∙ ap length (r .before .before .before .before .before .before .before .before .before .before .loop .inv .1)
+    r .received .kept .0 ∙ ap length (r .before .before .before .before .before .before .before .before .loop .inv .1)
 
 same-length-3 : tie.Need-same-length-3 Inv-loop μ-loop
 same-length-3 c =
     let r = c .before .before .before .before .before .before in
-    r .received .kept .1 .1 .0 ∙ ap length (r .before .before .before .before .before .before .before .before .before .before .loop .inv .2)
+    r .received .kept .1 .0 ∙ ap length (r .before .before .before .before .before .before .before .before .loop .inv .2)
 
 same-length-4 : tie.Need-same-length-4 Inv-loop μ-loop
 same-length-4 c =
     let r = c .before .before .before .before .before .before in
-    r .received .kept .1 .1 .1 .0 ∙ ap length (r .before .before .before .before .before .before .before .before .before .before .loop .inv .3)
+    r .received .kept .1 .1 .0 ∙ ap length (r .before .before .before .before .before .before .before .before .loop .inv .3)
 
 returns-2 : tie.Need-returns-2 Inv-loop μ-loop
 returns-2 c =
-    let t = c .before .before .before .before .before .before .before .before .before .before .before .before in
+    let t = c .before .before .before .before .before .before .before .before .before .before in
     let l = t .before .before .before in
     let x = l .before .loop .inv in
     let o = l .before .before in
@@ -108,7 +102,7 @@ returns-3 c =
 pub receive-spec : {M : Type 1} → statement M
 receive-spec =
     tie.close (tie.spec Inv-loop μ-loop (λ c κs. search needs) (λ c κs. search needs) (λ c κs. search needs) (λ c. search needs) returns
-    (λ c. (omega arith, refl, refl, refl, refl)) hears-requires read-plan-requires received-requires same-length-2 same-length-3
+    (λ c. (omega arith, refl, refl, refl, refl)) hears-requires received-requires same-length-2 same-length-3
     same-length-4 returns-2 (λ c. search needs) (λ c. search needs) loop-again (λ c κs. search needs)
     (λ c. ap length (c .before .before .loop .inv .1)) (λ c. ap length (c .before .before .loop .inv .2))
     (λ c. ap length (c .before .before .loop .inv .3)) returns-3)

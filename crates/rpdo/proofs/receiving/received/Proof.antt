@@ -16,26 +16,26 @@ returns : tie.Need-returns
 returns c =
     let t = c .before .before .before .before .before .before in
     let n = t .before .before in
-    let k = n .before .before .before .before .pre in
+    let k = n .before .before .before .before .before .pre in
     renamed (too-short (k .0) (k .1) (n .length-of .ensures) (t .if1 .taken) _) (c .before .before .refused .ensures)
 
 emergency-requires : tie.Need-emergency-requires
 emergency-requires c κs =
-    let k = c .before .before .before .before .before .before .before .before .before .before .before .before .pre .0 .lent in
+    let k = c .before .before .before .before .before .before .before .before .before .before .before .before .before .pre .0 .lent in
     rw (c .before .before .read-node .ensures) (k .long, (omega (arith, k .room), k .id))
 
 mul-judge : tie.Need-mul-judge
 mul-judge c =
     let m = c .before .before .before .before .before .before in
     let n = m .before .before .before in
-    let a = n .before .before .before .before .before .before .before .before .before .before .args in
+    let a = n .before .before .before .before .before .before .before .before .before .before .before .args in
     omega (arith, m .emergency .ensures .0, one-frame pdoTooLong (n .read-node .result) (a .d .now))
 
 sub-judge : tie.Need-sub-judge
 sub-judge c =
     let m = c .before .before .before .before .before .before in
     let n = m .before .before .before in
-    let s = n .before .before .before .before .before .before .before .before .before .before in
+    let s = n .before .before .before .before .before .before .before .before .before .before .before in
     let few = one-frame pdoTooLong (n .read-node .result) (s .args .d .now) in
     omega (arith, m .emergency .kept .1 .1 .1 .0, s .pre .0 .lent .room, m .emergency .ensures .0)
 
@@ -44,7 +44,7 @@ judge-requires c κs =
     let m = c .before .before .before .before .before .before .before in
     let t = m .before .before .before .before .before in
     let n = t .before .before .before .before in
-    let s = n .before .before .before .before in
+    let s = n .before .before .before .before .before in
     let k = s .pre in
     let few = one-frame pdoTooLong (m .before .before .before .read-node .result) (s .args .d .now) in (
       lends (k .0) (simp (length-take, length-drop) (omega (arith, m .emergency .kept .1 .1 .1 .0, k .0 .lent .room, m .emergency .ensures .0))),
@@ -59,7 +59,7 @@ add-done c =
     let j = c .before .before .before .before .before .before .before in
     let m = j .before .before .before .before .before .before .before .before in
     let n = m .before .before .before .before .before .before .before .before .before in
-    let s = n .before .before .before .before in
+    let s = n .before .before .before .before .before in
     let a = s .args in
     let bs = take (n .length-of .result) (j .before .before .before .before .leading .result) in
     let few = one-frame pdoTooLong (m .before .before .before .read-node .result) (a .d .now) in
@@ -72,7 +72,7 @@ returns-2 c =
     let m = j .before .before .before .before .before .before .before .before in
     let t = m .before .before .before .before .before in
     let n = t .before .before .before .before in
-    let k = n .before .before .before .before .pre in
+    let k = n .before .before .before .before .before .pre in
     too-long (k .0) (k .1) (n .length-of .ensures) (t .if2 .taken) (j .before .before .before .before .leading .ensures)
     (rw (m .before .before .before .read-node .ensures) at (m .emergency .ensures)) (j .judge .ensures)
 
@@ -81,7 +81,7 @@ judge-requires-2 c κs =
     let t = c .before .before .before in
     let o = t .before .before in
     let n = o .before .before in
-    let s = n .before .before .before .before in
+    let s = n .before .before .before .before .before in
     let k = s .pre in
     let e : s .args .content .length ≡ n .length-of .result = omega (arith, t .if2 .left, o .if1 .left) in
     (lends (k .0) (omega (arith, k .0 .lent .room)), (k .1, e ∙ n .length-of .ensures ∙ length-is (k .0 .receives)))
@@ -92,7 +92,7 @@ returns-3 c =
     let t = j .before .before .before .before in
     let o = t .before .before in
     let n = o .before .before in
-    let k = n .before .before .before .before .pre in
+    let k = n .before .before .before .before .before .pre in
     renamed (fits (k .0) (k .1) (n .length-of .ensures) (omega (arith, t .if2 .left, o .if1 .left)) _) (j .judge2 .ensures)
 
 pub received-spec : {M : Type 1} → statement M
