@@ -4,7 +4,7 @@ use Prim.Native.Nat.{ℕ, zero, suc, _+_, _*_, _-_, _/_, _%_, _^_, _<_, _≤_}
 use native.Mathlib.Omega.{arith}
 use mathlib.Core.Path.{_≡_, refl, sym, _∙_, ap}
 use mathlib.Core.Logic.{_⊎_, inl, inr}
-use mathlib.Core.Bool.{Bool, true, false, not, _&&_, _||_, true≢false, and-true, and-false, and-assoc}
+use mathlib.Core.Bool.{Bool, true, false, not, _&&_, _||_, and-true, and-false, and-assoc}
 use mathlib.Core.List.{List, [], _∷_, map}
 use borrow.Author.Tests.{eqb-true, eqb-false, eq-eqb, ne-eqb, leb-true, leb-false, ltb-true}
 use lib.Bits.{bitOr}
@@ -30,7 +30,7 @@ use Rattle.form.proofs.Tested.{or-zero}
 use Rattle.mapping.specs.Words.{mappables, wordMove, keptWord, namesOne}
 use Rattle.mapping.specs.Slots.{wordsFrom}
 use Rattle.mapping.specs.Kept.{mapsKept, sparesKept, mappedKept, spareKept, planKeptIn, planKeptAt}
-use Rattle.mapping.proofs.Orders.{swap, beside}
+use Rattle.mapping.proofs.Orders.{swap, beside, both-ways}
 use Rattle.mapping.proofs.Naming.{Names, facts, one-or-none, sizes}
 use Rattle.mapping.proofs.Worked.{Tested, tested, same-move, take-words, length-words-from}
 use Rattle.mapping.proofs.Legality.{asRuled, isMapped, isUnmapped, within, past, none-left, words-behind}
@@ -71,7 +71,7 @@ module _ (way : Direction) (w : ℕ) where
 
 -- words with a zero byte above are the same where their moves are
 same-word : (k v : ℕ) → small v ≡ true → (small k && sameMove (moveOf k) (moveOf v)) ≡ eqb k v
-same-word k v s = go (small k && sameMove (moveOf k) (moveOf v)) refl (eqb k v) refl
+same-word k v s = both-ways (small k && sameMove (moveOf k) (moveOf v)) (eqb k v) (λ h. eq-eqb k v (back h)) (λ h. forth (eqb-true k v h))
   where
     back : (small k && sameMove (moveOf k) (moveOf v)) ≡ true → k ≡ v
     back h =
@@ -84,12 +84,6 @@ same-word k v s = go (small k && sameMove (moveOf k) (moveOf v)) refl (eqb k v) 
 
     forth : k ≡ v → (small k && sameMove (moveOf k) (moveOf v)) ≡ true
     forth e = rw (e, s, eq-eqb (v % half) (v % half) refl, eq-eqb (v / half % 256) (v / half % 256) refl)
-
-    go : (a : Bool) → (small k && sameMove (moveOf k) (moveOf v)) ≡ a → (b : Bool) → eqb k v ≡ b → a ≡ b
-    go true e true f = refl
-    go true e false f = absurd (eqb-false k v f (back e))
-    go false e true f = absurd (true≢false (sym (forth (eqb-true k v f)) ∙ e))
-    go false e false f = refl
 
 -- ---- one slot
 
@@ -222,20 +216,6 @@ spare-end way place at d bs = refl
 
 -- one slot, as the code tests it
 module _ (way : Direction) (w k : ℕ) where
-  pub nothing-kept : k ≡ 0 → mapsKept way w k ≡ false
-  nothing-kept e = rw (kept way w .names, e) (go (eqb (keptWord way w) 0) refl)
-    where
-      go : (b : Bool) → eqb (keptWord way w) 0 ≡ b → (not b && eqb 0 (keptWord way w)) ≡ false
-      go true f = refl
-      go false f = ne-eqb 0 (keptWord way w) (λ z. eqb-false _ _ f (sym z))
-
-  pub something-kept : (k ≡ 0 → ⊥) → eqb k (keptWord way w) ≡ mapsKept way w k
-  something-kept h = rw (kept way w .names) (go (eqb k (keptWord way w)) refl)
-    where
-      go : (b : Bool) → eqb k (keptWord way w) ≡ b → b ≡ (not (eqb (keptWord way w) 0) && b)
-      go true f = rw (ne-eqb (keptWord way w) 0 (λ z. h (eqb-true _ _ f ∙ z)))
-      go false f = sym (and-false (not (eqb (keptWord way w) 0)))
-
   pub both-empty : bitOr w k ≡ 0 → sparesKept way w k ≡ true
   both-empty e =
       let z = sym (or-zero w k) ∙ eq-eqb (bitOr w k) 0 e in

@@ -10,6 +10,7 @@ pub mod Steps
 pub mod ArrayBytes
 pub mod Unpacked
 pub mod Validity
+pub mod Slotting
 pub mod Keeping
 pub mod Framed
 pub mod Laid

@@ -1,6 +1,6 @@
--- Tests joined in another order.
+-- Tests joined in another order, and two tests that are one.
 -- Assumes nothing.
-use mathlib.Core.Path.{_≡_, refl}
+use mathlib.Core.Path.{_≡_, refl, sym}
 use mathlib.Core.Bool.{Bool, true, false, _&&_}
 
 -- the second before the first
@@ -16,3 +16,9 @@ beside true true false y = refl
 beside true false true y = refl
 beside true false false y = refl
 beside false x b y = refl
+
+-- each passes where the other does
+pub both-ways : (a b : Bool) → (a ≡ true → b ≡ true) → (b ≡ true → a ≡ true) → a ≡ b
+both-ways true b h i = sym (h refl)
+both-ways false true h i = i refl
+both-ways false false h i = refl

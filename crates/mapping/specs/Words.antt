@@ -1,15 +1,15 @@
 -- Document 01, 'PDO traffic': the move that a mapping word names, out of the objects that may be mapped.
 -- Assumes nothing.
-use Prim.Native.Nat.{ℕ, _+_, _*_, _%_, _^_}
-use mathlib.Core.List.{List, [], _∷_}
+use Prim.Native.Nat.{ℕ, _+_, _*_, _/_, _%_, _^_}
+use mathlib.Core.List.{List, [], _∷_, flatMap}
 use mathlib.Core.Bool.{Bool, cond, not}
 use lib.Dec.{eqb}
 use Rattle.rules_dictionary.specs.declared.Move.{Move}
 use Rattle.rules_dictionary.specs.Table.{Row, Direction, receive, transmit, mappingWord}
 use Rattle.rules_dictionary.specs.Table.{errorRegister, errorCode, statusWord, modeDisplay, position, velocity, controlWord, mode}
-use Rattle.rules_dictionary.specs.Table.{targetPosition, profileVelocity, profileAcceleration, profileDeceleration, targetVelocity}
+use Rattle.rules_dictionary.specs.Table.{targetPosition, profileVelocity, profileAcceleration, profileDeceleration, targetVelocity, open-table}
 use Rattle.rules_dictionary.specs.Plans.{move, noMove}
-use Rattle.form.specs.Form.{half}
+use Rattle.form.specs.Form.{half, each}
 
 -- the objects of the table that may be mapped that way
 abbrev pub mappables : Direction → List Row
@@ -33,6 +33,37 @@ wayOf transmits = cond transmits transmit receive
 abbrev pub namesOne : Direction → ℕ → Bool
 namesOne way w = not (eqb (wordMove way w .size) 0)
 
--- the word that a state keeps for that move: its place in the low half, above it its size
+-- a move's word: its place in the low half, above it its size
+abbrev pub moveWord : Move → ℕ
+moveWord m = m .place + half * m .size
+
+-- the word that a state keeps for that move
 unfoldable pub keptWord : Direction → ℕ → ℕ
-keptWord way w = wordMove way w .place + half * wordMove way w .size
+keptWord way w = moveWord (wordMove way w)
+
+-- ---- the objects that may be mapped, each at the slot of its mapping word
+
+-- the slots of a direction, and the numbers that a slot holds: a mapping word, and the word of the move that it names
+abbrev pub slots : ℕ
+slots = 8
+
+abbrev pub slotLength : ℕ
+slotLength = 2
+
+-- a mapping word's slot, out of its index; by this multiplier no two objects of a direction have the same
+abbrev pub multiplier : ℕ
+multiplier = 655
+
+unfoldable pub slotOf : ℕ → ℕ
+slotOf w = w / half * multiplier / 2 ^ 8 % slots
+
+-- what a slot holds: the first of the objects whose slot it is; zeros where it is none's
+unfoldable pub slotted : List Row → ℕ → List ℕ
+unfolding slotOf
+slotted [] i = 0 ∷ 0 ∷ []
+slotted (x ∷ xs) i = cond (eqb (slotOf (mappingWord x)) i) (mappingWord x ∷ moveWord (move x) ∷ []) (slotted xs i)
+
+-- what the slots of a direction hold, one after another
+unfoldable pub namedFor : Direction → List ℕ
+unfolding slotted flatMap open-table
+namedFor way = flatMap (slotted (mappables way)) (each slots 0 1 (λ i. i))

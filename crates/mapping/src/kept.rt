@@ -1,7 +1,9 @@
 // What a state's bytes keep of the PDOs' mappings, tested where it stands: the plan, and of a transmit PDO the ready frame.
+use crate::words::SLOT_LENGTH;
 use crate::words::kept_word;
 use crate::words::place_of;
 use crate::words::size_of;
+use crate::words::slot_of;
 use dictionary::places;
 use dictionary::places::MOST_WORDS;
 use dictionary::places::WORD_LENGTH;
@@ -20,7 +22,7 @@ ghost use Rattle.rules_dictionary.specs.Table.{dictionaryLength};
 ghost use Rattle.rules.specs.Outcome.{mostData};
 ghost use Rattle.dictionary.specs.Sizes.{IsSize};
 ghost use Rattle.form.specs.Form.{dataLength, planLength, planAt};
-ghost use Rattle.mapping.specs.Words.{wayOf};
+ghost use Rattle.mapping.specs.Words.{wayOf, namedFor};
 ghost use Rattle.mapping.specs.Slots.{wordsFrom};
 ghost use Rattle.mapping.specs.Moves.{MovesFit};
 ghost use Rattle.mapping.specs.Kept.{mapsKept, sparesKept, mappedKept, spareKept, endsEmpty, recordLength, planKeptAt, frameKeptAt};
@@ -45,14 +47,14 @@ const WORDS: u32 = places::WORDS as u32;
 
 const DATA_OFFSET: u32 = layout::DATA_OFFSET as u32;
 
-// Whether a mapping word within the count names an object, and the word of its move is kept.
-fn is_mapped(word: u32, kept: u32, transmit: bool) -> bool
+// Whether a mapping word within the count names an object, and the word of its move is kept. The objects of the direction are lent; which
+// direction it is matters to the contract alone.
+fn is_mapped(named: &[u32], word: u32, kept: u32, transmit: bool) -> bool
+    requires { ⌜ now named ≡ namedFor (wayOf transmit) ⌝ }
     ensures { λ r. ⌜ r ≡ mapsKept (wayOf transmit) word kept ⌝ }
 {
-    if kept == 0 {
-        return false;
-    }
-    kept == kept_word(word, transmit)
+    let at = SLOT_LENGTH * slot_of(word);
+    (named[at as usize] == word) & (named[(at + 1) as usize] == kept)
 }
 
 // Whether a mapping word past the count is legal, and nothing is kept for it.
@@ -69,7 +71,16 @@ fn is_spare(word: u32, kept: u32, transmit: bool) -> bool
 }
 
 // Whether so many mapping words name objects, of eight bytes at the most, and the words of their moves are kept.
-fn are_mapped(state: &[u8], d: &[u8], moves: u32, words: u32, count: u32, transmit: bool) -> bool
+fn are_mapped(
+    named: &[u32],
+    state: &[u8],
+    d: &[u8],
+    moves: u32,
+    words: u32,
+    count: u32,
+    transmit: bool,
+) -> bool
+    requires { ⌜ now named ≡ namedFor (wayOf transmit) ⌝ }
     requires { ⌜ (moves + 4 * count ≤ length (now state)) × (moves < 2 ^ 16) ⌝ }
     requires { ⌜ (words + 4 * count ≤ length (now d)) × ((words < 2 ^ 16) × (count ≤ 8)) ⌝ }
     ensures { λ r. ⌜ r ≡
@@ -81,7 +92,7 @@ fn are_mapped(state: &[u8], d: &[u8], moves: u32, words: u32, count: u32, transm
     let mut used: u32 = 0;
     while 0 < left {
         let kept = read4(state, at as usize);
-        if !is_mapped(read4(d, place as usize), kept, transmit) {
+        if !is_mapped(named, read4(d, place as usize), kept, transmit) {
             return false;
         }
         used += size_of(kept) as u32;
@@ -147,7 +158,15 @@ fn are_spare(state: &[u8], d: &[u8], moves: u32, words: u32, count: u32, transmi
 }
 
 // Whether the mapping record at a place is legal, its count at most eight, and the plan at a place is the one that it gives.
-pub fn is_plan_kept(state: &[u8], d: &[u8], plan: u32, map: u32, transmit: bool) -> bool
+pub fn is_plan_kept(
+    named: &[u32],
+    state: &[u8],
+    d: &[u8],
+    plan: u32,
+    map: u32,
+    transmit: bool,
+) -> bool
+    requires { ⌜ now named ≡ namedFor (wayOf transmit) ⌝ }
     requires { ⌜ (plan + planLength ≤ length (now state)) × (plan < 2 ^ 15) ⌝ }
     requires { ⌜ (map + recordLength ≤ length (now d)) × (map < 2 ^ 15) ⌝ }
     ensures { λ r. ⌜ r ≡ planKeptAt (wayOf transmit) plan map (now (state .entry)) (now (d .entry)) ⌝ }
@@ -162,7 +181,7 @@ pub fn is_plan_kept(state: &[u8], d: &[u8], plan: u32, map: u32, transmit: bool)
     }
     let moves = plan + MOVES_OFFSET;
     let words = map + WORDS;
-    if !are_mapped(state, d, moves, words, count, transmit) {
+    if !are_mapped(named, state, d, moves, words, count, transmit) {
         return false;
     }
     let behind = STEP * count;

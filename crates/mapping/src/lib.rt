@@ -18,5 +18,7 @@ pub use received::are_legal;
 pub use received::length_of;
 pub use received::maps;
 pub use received::store_values;
+pub use words::RECEIVED;
+pub use words::TRANSMITTED;
 pub use words::move_of;
 pub use working::is_open;

@@ -3,7 +3,7 @@
 use Prim.Native.Nat.{ℕ, _<_}
 use native.Mathlib.Omega.{arith}
 use mathlib.Core.Path.{_≡_, refl, sym, _∙_, ap, ap₂, subst}
-use mathlib.Core.Bool.{Bool, true, false, not, _&&_}
+use mathlib.Core.Bool.{true, false, not, _&&_}
 use mathlib.Core.List.{List, map}
 use borrow.Author.Tests.{ltb-true, not-true}
 use lib.Dec.{eqb, ltb}
@@ -20,14 +20,10 @@ use Rattle.rules_dictionary.proofs.Members.{all-of, in-map, identifier-in}
 use Rattle.rules.specs.Sound.{identifiersLegal}
 use Rattle.theorems.proofs.Booleans.{false-not, and-false-if, and-then-false, eqb-comm}
 use Rattle.theorems.proofs.Dictionary.{of-pdo, Fits, fits, fits-back, badAlone}
+use Rattle.mapping.proofs.Orders.{both-ways}
 use Rattle.soundness.specs.Keys.{keyIn, isLegalKey, distinct, areApart}
 use Rattle.soundness.proofs.Distinct.{all-mapped, apart-in, of-apart, by-direction}
 use Rattle.soundness.proofs.KeyMeaning.{meaning, key-means, legal-alone, alike}
-
-both-ways : (a b : Bool) → (a ≡ true → b ≡ true) → (b ≡ true → a ≡ true) → a ≡ b
-both-ways true b h i = sym (h refl)
-both-ways false true h i = i refl
-both-ways false false h i = refl
 
 abbrev pub keys : List ℕ → List ℕ
 keys d = map (keyIn d) pdos

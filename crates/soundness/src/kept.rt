@@ -2,6 +2,8 @@
 // is walked from place to place, so that no PDO's place is worked out of its number.
 use dictionary::places;
 use form::layout;
+use mapping::RECEIVED;
+use mapping::TRANSMITTED;
 use mapping::is_frame_kept;
 use mapping::is_plan_kept;
 ghost use mathlib.Core.Path.{_≡_};
@@ -10,7 +12,7 @@ ghost use Prim.Native.Nat.{_+_, _*_, _^_, _<_, _≤_};
 ghost use lib.ListN.{length};
 ghost use Rattle.rules_dictionary.specs.Table.{eachWay, dictionaryLength};
 ghost use Rattle.form.specs.Form.{planLength, stateLength, stateOf};
-ghost use Rattle.mapping.specs.Words.{wayOf};
+ghost use Rattle.mapping.specs.Words.{wayOf, namedFor};
 ghost use Rattle.mapping.specs.Kept.{recordLength};
 ghost use Rattle.soundness.specs.Kept.{plansKeptIn, plansKeptFrom, readyKept};
 
@@ -35,7 +37,8 @@ const TRANSMIT_MAPPINGS: u32 = places::TRANSMIT_MAPPING as u32;
 const READY: u32 = layout::READY as u32;
 
 // Whether the plans of the four PDOs of a direction are kept; the first one's plan and mapping record stand at those places.
-fn are_kept(state: &[u8], d: &[u8], plans: u32, maps: u32, transmit: bool) -> bool
+fn are_kept(named: &[u32], state: &[u8], d: &[u8], plans: u32, maps: u32, transmit: bool) -> bool
+    requires { ⌜ now named ≡ namedFor (wayOf transmit) ⌝ }
     requires { ⌜ (plans + planLength * eachWay ≤ length (now state)) × (plans < 2 ^ 14) ⌝ }
     requires { ⌜ (maps + recordLength * eachWay ≤ length (now d)) × (maps < 2 ^ 14) ⌝ }
     ensures { λ r. ⌜ r ≡ plansKeptFrom eachWay (wayOf transmit) plans maps (now (state .entry)) (now (d .entry)) ⌝ }
@@ -44,7 +47,7 @@ fn are_kept(state: &[u8], d: &[u8], plans: u32, maps: u32, transmit: bool) -> bo
     let mut map = maps;
     let mut left = EACH_WAY;
     while 0 < left {
-        if !is_plan_kept(state, d, plan, map, transmit) {
+        if !is_plan_kept(named, state, d, plan, map, transmit) {
             return false;
         }
         plan += PLAN_LENGTH;
@@ -59,10 +62,19 @@ pub fn are_plans_kept(state: &[u8], d: &[u8]) -> bool
     requires { ⌜ (length (now state) ≡ stateLength) × (length (now d) ≡ dictionaryLength) ⌝ }
     ensures { λ r. ⌜ r ≡ plansKeptIn (now (state .entry)) (now (d .entry)) ⌝ }
 {
-    if !are_kept(state, d, RECEIVE_PLANS, RECEIVE_MAPPINGS, false) {
+    let received = RECEIVED;
+    let transmitted = TRANSMITTED;
+    if !are_kept(&received, state, d, RECEIVE_PLANS, RECEIVE_MAPPINGS, false) {
         return false;
     }
-    are_kept(state, d, TRANSMIT_PLANS, TRANSMIT_MAPPINGS, true)
+    are_kept(
+        &transmitted,
+        state,
+        d,
+        TRANSMIT_PLANS,
+        TRANSMIT_MAPPINGS,
+        true,
+    )
 }
 
 // Whether every transmit PDO's ready frame is the one that its mapping gives; the plans are known to be the mappings'.

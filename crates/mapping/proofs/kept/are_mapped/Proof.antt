@@ -12,18 +12,18 @@ use Rattle.mapping.proofs.kept.are_mapped.Statement.{statement}
 use Rattle.mapping.proofs.kept.are_mapped.Tie as tie
 
 abbrev Inv-loop : tie.InvT-loop
-Inv-loop state d moves words count transmit at₀ place₀ left₀ used₀ at place left used =
+Inv-loop named state d moves words count transmit at₀ place₀ left₀ used₀ at place left used =
     (mappedKept (wayOf transmit) used (wordsFrom left place d) (wordsFrom left at state)
     ≡ mappedKept (wayOf transmit) 0 (wordsFrom count words d) (wordsFrom count moves state))
     × ((at + 4 * left ≡ moves + 4 * count) × ((place + 4 * left ≡ words + 4 * count) × ((left ≤ count) × (used ≤ 255 * (count - left)))))
 
 abbrev μ-loop : tie.MeasureT-loop
-μ-loop state d moves words count transmit at₀ place₀ left₀ used₀ at place left used = left
+μ-loop named state d moves words count transmit at₀ place₀ left₀ used₀ at place left used = left
 
 returns : tie.Need-returns Inv-loop μ-loop
 returns c =
     let l = c .before .before .before .before .before .loop in
-    let a = c .before .before .before .before .before .before .before .before .args in
+    let a = c .before .before .before .before .before .before .before .before .before .args in
     let h = c .before .before .before .before .loop-test .taken in
     let e = mapped-step (wayOf (a .transmit)) (a .d .now) (a .state .now) (l .place) (l .at) (l .left) h (l .used) in
     let f = sym (c .before .is-mapped .ensures) ∙ not-true _ (c .if1 .taken) in
@@ -32,7 +32,7 @@ returns c =
 loop-again : tie.Need-loop-again Inv-loop μ-loop
 loop-again c =
     let l = c .before .before .before .before .before .before .loop in
-    let a = c .before .before .before .before .before .before .before .before .before .args in
+    let a = c .before .before .before .before .before .before .before .before .before .before .args in
     let h = c .before .before .before .before .before .loop-test .taken in
     let e = mapped-step (wayOf (a .transmit)) (a .d .now) (a .state .now) (l .place) (l .at) (l .left) h (l .used) in
     let f = sym (c .before .before .is-mapped .ensures) ∙ not-false _ (c .before .if1 .left) in
@@ -42,7 +42,7 @@ loop-again c =
 returns-2 : tie.Need-returns-2 Inv-loop μ-loop
 returns-2 c =
     let l = c .before .loop in
-    let a = c .before .before .before .before .args in
+    let a = c .before .before .before .before .before .args in
     let z : l .left ≡ 0 = omega arith in
     sym (mapped-end (wayOf (a .transmit)) (l .used) (l .place) (l .at) (a .d .now) (a .state .now)) ∙ rw z at (l .inv .0)
 

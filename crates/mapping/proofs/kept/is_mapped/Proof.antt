@@ -1,21 +1,33 @@
--- `mapping::kept::is_mapped` meets its contract. Assumes nothing.
-use mathlib.Core.Path.{sym, _∙_, ap}
-use lib.Dec.{eqb}
-use Rattle.mapping.specs.Words.{wayOf}
-use Rattle.mapping.proofs.Keeping.{nothing-kept, something-kept}
+-- `mapping::kept::is_mapped` meets its contract: what stands at the word's slot tells. Assumes nothing.
+use native.Mathlib.Omega.{arith}
 use borrow.Author.Needs.{needs}
+use Rattle.mapping.specs.Words.{wayOf}
+use Rattle.mapping.proofs.Slotting.{slot-below, slots-length, told}
 use Rattle.mapping.proofs.kept.is_mapped.Statement.{statement}
 use Rattle.mapping.proofs.kept.is_mapped.Tie as tie
 
+mul-at : tie.Need-mul-at
+mul-at c = omega (arith, slot-below (c .before .before .args .word), c .slot-of .ensures)
+
+shared-slice-read-result : tie.Need-shared-slice-read-result
+shared-slice-read-result c =
+    let s = c .before .before .before in
+    rw (s .pre, slots-length) (omega (arith, slot-below (s .args .word), c .before .slot-of .ensures))
+
+add-result : tie.Need-add-result
+add-result c = omega (arith, slot-below (c .before .before .before .args .word), c .before .slot-of .ensures)
+
+shared-slice-read-result-2 : tie.Need-shared-slice-read-result-2
+shared-slice-read-result-2 c =
+    let s = c .before .before .before .before in
+    rw (s .pre, slots-length) (omega (arith, slot-below (s .args .word), c .before .before .slot-of .ensures))
+
 returns : tie.Need-returns
 returns c =
-    let a = c .before .args in
-    sym (nothing-kept (wayOf (a .transmit)) (a .word) (a .kept) (c .if1 .taken))
-
-returns-2 : tie.Need-returns-2
-returns-2 c =
-    let a = c .before .before .args in
-    ap (eqb (a .kept)) (c .kept-word .ensures) ∙ something-kept (wayOf (a .transmit)) (a .word) (a .kept) (c .before .if1 .left)
+    let s = c .before .before .before .before in
+    rw (s .pre, c .before .before .slot-of .ensures) (told (wayOf (s .args .transmit)) (s .args .word) (s .args .kept) (omega arith))
 
 pub is-mapped-spec : {M : Type 1} → statement M
-is-mapped-spec = tie.close (tie.spec returns (λ c κs. search needs) returns-2)
+is-mapped-spec =
+    tie.close (tie.spec (λ c κs. search needs) mul-at (λ c. search needs) (λ c. search needs) shared-slice-read-result add-result
+    (λ c. search needs) (λ c. search needs) shared-slice-read-result-2 returns)
