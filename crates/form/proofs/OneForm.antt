@@ -21,7 +21,8 @@ use Rattle.form.specs.Form.{moveAt, dataAt, wordLength, paceAt, paceLeng
 use Rattle.form.specs.Form.{heartbeatOffset, nodeAt, velocityOffset}
 use Rattle.form.specs.Form.{accelerationOffset, decelerationOffset, setPointLength, setPointAt, storeAt}
 use Rattle.form.specs.Form.{driveAt, resting, moveLength, planLength, planAt, form, stateOf, isForm}
-use Rattle.form.specs.Form.{dataLength, nodePlace, storePlace, readyPlace, heldPlace, plansPlace, planPlace, planIn, readyIn, heldIn, stateLength}
+use Rattle.form.specs.Form.{dataLength, nodePlace, storePlace, readyPlace, heldPlace, plansPlace, planPlace, stateLength}
+use Rattle.form.specs.Form.{planIn, readyIn, heldIn}
 use Rattle.form.specs.Own.{isOwn}
 use Rattle.form.specs.Typed.{Many, none, more, AnyPace, DataTyped, SetPointTyped, StoreTyped, MoveTyped, PlanTyped, Typed}
 use Rattle.form.proofs.Rows.{each-at}

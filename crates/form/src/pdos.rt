@@ -20,7 +20,8 @@ ghost use lib.ListN.{length};
 ghost use lib.Seq.{sets};
 ghost use Rattle.rules_dictionary.specs.Table.{eachWay, mostMoves};
 ghost use Rattle.form.specs.Form.{each, dataLength, dataAt, moveLength, moveAt, planLength, planAt, paceLength, paceAt};
-ghost use Rattle.form.specs.Form.{stateLength, stateOf, readyIn, heldIn, pacesPlace, plansPlace, joined, dataForm, paceForm, moveForm, planForm};
+ghost use Rattle.form.specs.Form.{stateLength, stateOf, readyIn, heldIn, pacesPlace, plansPlace};
+ghost use Rattle.form.specs.Form.{joined, dataForm, paceForm, moveForm, planForm};
 ghost use Rattle.form.specs.Typed.{Many, AnyPace, DataTyped, MoveTyped, PlanTyped};
 ghost use Rattle.form.specs.Own.{pacesOwn};
 

@@ -24,7 +24,8 @@ use Rattle.form.proofs.Tested.{or-zero}
 use Rattle.mapping.specs.Moves.{joinedMoves, readyBy, MovesFit}
 use Rattle.mapping.proofs.Joining.{same-value}
 use Rattle.mapping.proofs.Assembly.{joined-room}
-use Rattle.mapping.proofs.Steps.{leftAt, bytesLeft, sized-part, Reached, none-reached, none-joined, further, move-fits, joined-step, value-sized, longer}
+use Rattle.mapping.proofs.Steps.{leftAt, bytesLeft, sized-part, Reached, none-reached, none-joined, further, move-fits}
+use Rattle.mapping.proofs.Steps.{joined-step, value-sized, longer}
 
 -- ---- zeros, read from both ends
 

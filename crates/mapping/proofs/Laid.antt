@@ -135,7 +135,8 @@ over : (d zs xs : List ℕ) (i : ℕ) → length xs ≤ length zs → sets (sets
 over d zs [] i h = refl
 over d [] (x ∷ xs) i h = absurd (omega arith)
 over d (z ∷ zs) (x ∷ xs) i h =
-    ap (λ (l : List ℕ). sets l (suc i) xs) (set-before (set d i z) zs (suc i) i x (omega arith) ∙ ap (λ (l : List ℕ). sets l (suc i) zs) (set-set d i z x))
+    ap (λ (l : List ℕ). sets l (suc i) xs) (set-before (set d i z) zs (suc i) i x (omega arith)
+    ∙ ap (λ (l : List ℕ). sets l (suc i) zs) (set-set d i z x))
     ∙ over (set d i x) zs xs (suc i) (omega arith)
 
 filled-up : (n : ℕ) (xs : List ℕ) → length xs ≤ n → xs ++ drop (length xs) (padded 0 n []) ≡ padded 0 n xs

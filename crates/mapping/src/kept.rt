@@ -27,8 +27,8 @@ ghost use Rattle.mapping.specs.Slots.{wordsFrom};
 ghost use Rattle.mapping.specs.Moves.{MovesFit};
 ghost use Rattle.mapping.specs.Kept.{mapsKept, sparesKept, mappedKept, spareKept, endsEmpty, recordLength, planKeptAt, frameKeptAt};
 
-// Places and counts are words of the controller here. The bytes of a mapping word, and of half of one.
-const STEP: u32 = WORD_LENGTH as u32;
+// Places and counts are words of the controller in this crate's loops. The bytes of a mapping word, and of half of one.
+pub const STEP: u32 = WORD_LENGTH as u32;
 
 const HALF_STEP: u32 = STEP / 2;
 
@@ -41,11 +41,11 @@ const MOST_MOVES: u32 = MOST_WORDS as u32;
 const HALF: u32 = MOST_MOVES / 2;
 
 // How far a plan's moves stand behind its count, a mapping record's words behind its count, and a frame's bytes behind its length.
-const MOVES_OFFSET: u32 = layout::MOVES_OFFSET as u32;
+pub const MOVES_OFFSET: u32 = layout::MOVES_OFFSET as u32;
 
 const WORDS: u32 = places::WORDS as u32;
 
-const DATA_OFFSET: u32 = layout::DATA_OFFSET as u32;
+pub const DATA_OFFSET: u32 = layout::DATA_OFFSET as u32;
 
 // Whether a mapping word within the count names an object, and the word of its move is kept. The objects of the direction are lent; which
 // direction it is matters to the contract alone.

@@ -1,5 +1,9 @@
 // The ready frame of a transmit PDO, worked where it stands in the state's bytes.
 use crate::frames::same_data;
+use crate::kept::DATA_OFFSET;
+use crate::kept::MOVES_OFFSET;
+use crate::kept::STEP;
+use crate::received::plan_place;
 use crate::words::place_of;
 use crate::words::size_of;
 use dictionary::places::EACH_WAY;
@@ -23,19 +27,12 @@ ghost use Rattle.mapping.specs.Moves.{joinedMoves, readyBy, MovesFit};
 ghost use Rattle.mapping.specs.Received.{movesOf};
 ghost use Rattle.mapping.specs.Afresh.{GivesPlans, whichChange};
 
-// Places and counts are words of the controller here. The bytes of a word, and how far a plan's moves stand behind its count and a frame's
-// bytes behind its length.
-const STEP: u32 = layout::WORD_LENGTH as u32;
-
-const MOVES_OFFSET: u32 = layout::MOVES_OFFSET as u32;
-
-const DATA_OFFSET: u32 = layout::DATA_OFFSET as u32;
-
 // The values that the plan at a place maps into the bytes from a place before it on, one behind another. Where they end.
 fn lay_values(state: &mut [u8], d: &[u8], first: u32, plan: u32) -> u32
     requires { ⌜ (first + mostData ≤ plan) × ((plan + planLength ≤ length (now state)) × (plan < 2 ^ 15)) ⌝ }
     requires { ⌜ (length (now d) ≡ dictionaryLength) × MovesFit (planAt plan (now state) .moves) (planAt plan (now state) .count) ⌝ }
-    ensures { λ r. ⌜ now (state .exit) ≡ sets (now (state .entry)) first (joinedMoves (now (d .entry)) (movesOf (planAt plan (now (state .entry))))) ⌝ }
+    ensures { λ r. ⌜ now (state .exit) ≡
+        sets (now (state .entry)) first (joinedMoves (now (d .entry)) (movesOf (planAt plan (now (state .entry))))) ⌝ }
     ensures { λ r. ⌜ r ≡ first + length (joinedMoves (now (d .entry)) (movesOf (planAt plan (now (state .entry))))) ⌝ }
 {
     let count = state[plan as usize] as u32;
@@ -45,7 +42,12 @@ fn lay_values(state: &mut [u8], d: &[u8], first: u32, plan: u32) -> u32
     while k < count {
         let word = read4(state, spot as usize);
         let size = size_of(word);
-        write(state, at as usize, size, read(d, place_of(word) as usize, size));
+        write(
+            state,
+            at as usize,
+            size,
+            read(d, place_of(word) as usize, size),
+        );
         at += size as u32;
         spot += STEP;
         k += 1;
@@ -74,7 +76,7 @@ fn renew(state: &mut [u8], d: &[u8], t: usize) -> bool
         (readying t (readyBy (now (d .entry)) (planIn (now (state .entry)) (eachWay + t))) (stateOf (now (state .entry)))) ⌝ }
     ensures { λ r. ⌜ r ≡ not (sameData (readyIn (now (state .entry)) t) (readyBy (now (d .entry)) (planIn (now (state .entry)) (eachWay + t)))) ⌝ }
 {
-    let plan = (layout::PLANS + layout::PLAN_LENGTH * (EACH_WAY + t)) as u32;
+    let plan = plan_place(EACH_WAY + t);
     let frame = (layout::READY + layout::FRAME_LENGTH * t) as u32;
     let before = read_frame(state, frame as usize);
     lay(state, d, frame, plan);

@@ -2,6 +2,8 @@
 // are, whether they may be received, and where they go. Proved against specs/Received.antt; proofs/Unpacked.antt ties that to the rows of the
 // rules.
 
+use crate::kept::MOVES_OFFSET;
+use crate::kept::STEP;
 use crate::words::place_of;
 use crate::words::size_of;
 use dictionary::choices::is_mode;
@@ -19,13 +21,8 @@ ghost use Rattle.rules_dictionary.specs.Table.{eachWay, dictionaryLength};
 ghost use Rattle.form.specs.Form.{planIn, planPlace};
 ghost use Rattle.mapping.specs.Received.{PlanFits, movesOf, sizes, isLegal, movesLegal, storedMoves, hasPlace};
 
-// Places and counts are words of the controller here. The bytes of a move's word, and how far a plan's moves stand behind its count.
-const STEP: u32 = layout::MOVE_LENGTH as u32;
-
-const MOVES_OFFSET: u32 = layout::MOVES_OFFSET as u32;
-
 // Where the plan of PDO p stands.
-fn plan_place(p: usize) -> u32
+pub fn plan_place(p: usize) -> u32
     requires { ⌜ p < 2 * eachWay ⌝ }
     ensures { λ r. ⌜ r ≡ planPlace p ⌝ }
 {

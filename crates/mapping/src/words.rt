@@ -4,7 +4,7 @@ use rules_dictionary::Move;
 ghost use mathlib.Core.Path.{_≡_};
 ghost use Rattle.rules_dictionary.specs.Table.{receive, transmit};
 ghost use Rattle.form.specs.Form.{moveOf};
-ghost use Rattle.mapping.specs.Words.{wordMove, keptWord, slotOf, wayOf};
+ghost use Rattle.mapping.specs.Words.{wordMove, keptWord, slotOf, namedFor, wayOf};
 
 // A move's word: its place in the low half, above it its size.
 const HALF: u32 = 0x1_0000;
@@ -29,7 +29,7 @@ pub const SLOT_LENGTH: u32 = 2;
 const NAMED_LENGTH: usize = (SLOTS * SLOT_LENGTH) as usize;
 
 // The objects that may be received, each at the slot of its mapping word. A free slot holds zeros; zero is a word of slot 0, which is not free.
-pub const RECEIVED: [u32; NAMED_LENGTH] = [
+const RECEIVED: [u32; NAMED_LENGTH] = [
     0x607A_00_20,
     FOUR_BYTES + places::TARGET_POSITION as u32,
     0x6084_00_20,
@@ -49,7 +49,7 @@ pub const RECEIVED: [u32; NAMED_LENGTH] = [
 ];
 
 // The objects that may be transmitted, likewise.
-pub const TRANSMITTED: [u32; NAMED_LENGTH] = [
+const TRANSMITTED: [u32; NAMED_LENGTH] = [
     0x6061_00_08,
     ONE_BYTE + places::MODE_DISPLAY as u32,
     0x603F_00_10,
@@ -67,6 +67,19 @@ pub const TRANSMITTED: [u32; NAMED_LENGTH] = [
     0x6064_00_20,
     FOUR_BYTES + places::POSITION as u32,
 ];
+
+// The slots of each direction. Whoever looks at many words has them made once, and lends them on.
+pub fn receive_slots() -> [u32; NAMED_LENGTH]
+    ensures { λ r. ⌜ r ≡ namedFor receive ⌝ }
+{
+    RECEIVED
+}
+
+pub fn transmit_slots() -> [u32; NAMED_LENGTH]
+    ensures { λ r. ⌜ r ≡ namedFor transmit ⌝ }
+{
+    TRANSMITTED
+}
 
 // The slot of a mapping word among those of its PDO's direction.
 pub fn slot_of(word: u32) -> u32

@@ -2,10 +2,10 @@
 // is walked from place to place, so that no PDO's place is worked out of its number.
 use dictionary::places;
 use form::layout;
-use mapping::RECEIVED;
-use mapping::TRANSMITTED;
 use mapping::is_frame_kept;
 use mapping::is_plan_kept;
+use mapping::receive_slots;
+use mapping::transmit_slots;
 ghost use mathlib.Core.Path.{_≡_};
 ghost use mathlib.Core.Bool.{true};
 ghost use Prim.Native.Nat.{_+_, _*_, _^_, _<_, _≤_};
@@ -62,8 +62,8 @@ pub fn are_plans_kept(state: &[u8], d: &[u8]) -> bool
     requires { ⌜ (length (now state) ≡ stateLength) × (length (now d) ≡ dictionaryLength) ⌝ }
     ensures { λ r. ⌜ r ≡ plansKeptIn (now (state .entry)) (now (d .entry)) ⌝ }
 {
-    let received = RECEIVED;
-    let transmitted = TRANSMITTED;
+    let received = receive_slots();
+    let transmitted = transmit_slots();
     if !are_kept(&received, state, d, RECEIVE_PLANS, RECEIVE_MAPPINGS, false) {
         return false;
     }

@@ -55,8 +55,8 @@ pub ready-default : (bs : List ℕ) {t : ℕ} → t < eachWay → readyIn bs t �
 unfolding stateOf
 ready-default bs {t} h = any-default (stateOf bs .axis .ready) t (record { length = 0; bytes = [] }) noData (omega arith)
 
-pub ready-data : (bs : List ℕ) {nmt : NmtState} {paces : List Pace} {d : List ℕ} → MaySend nmt paces (stateOf bs .axis .ready) d → {t : ℕ} → t < eachWay →
-    IsData (readyIn bs t)
+pub ready-data : (bs : List ℕ) {nmt : NmtState} {paces : List Pace} {d : List ℕ} → MaySend nmt paces (stateOf bs .axis .ready) d →
+    {t : ℕ} → t < eachWay → IsData (readyIn bs t)
 ready-data bs may {t} h = rw (ready-default bs h) (may .shape t h)
 
 module _ (was : Bool) (occasion : Occasion) (nmt : NmtState) (changed : List Bool) (paces : List Pace) (d : List ℕ) (ready : List PdoData) where

@@ -38,7 +38,8 @@ layable c =
 cast-read4 : tie.Need-cast-read4 Inv-loop μ-loop
 cast-read4 c =
     let l = c .before .before in
-    omega (arith, l .loop .inv .reached .stands, l .loop .inv .reached .few, l .loop .inv .reached .within, l .before .before .before .before .pre .0 .1 .1)
+    let r = l .loop .inv .reached in
+    omega (arith, r .stands, r .few, r .within, l .before .before .before .before .pre .0 .1 .1)
 
 read4-requires : tie.Need-read4-requires Inv-loop μ-loop
 read4-requires c κs =
@@ -65,7 +66,8 @@ write-requires c κs =
     let word = size .before in
     let inside = word .before .before in
     let l = inside .before in
-    let r = laid-room (layable l) (l .loop .inv) (inside .loop-test .taken) (word .read4 .ensures) (place .place-of .ensures) (size .size-of .ensures) in
+    let t = inside .loop-test .taken in
+    let r = laid-room (layable l) (l .loop .inv) t (word .read4 .ensures) (place .place-of .ensures) (size .size-of .ensures) in
     (r .0, r .1 .1)
 
 add-at : tie.Need-add-at Inv-loop μ-loop
@@ -75,7 +77,8 @@ add-at c =
     let word = size .before in
     let inside = word .before .before in
     let l = inside .before in
-    let r = laid-within (layable l) (l .loop .inv) (inside .loop-test .taken) (word .read4 .ensures) (place .place-of .ensures) (size .size-of .ensures) in
+    let t = inside .loop-test .taken in
+    let r = laid-within (layable l) (l .loop .inv) t (word .read4 .ensures) (place .place-of .ensures) (size .size-of .ensures) in
     omega (arith, r, l .before .before .before .before .pre .0)
 
 loop-again : tie.Need-loop-again Inv-loop μ-loop

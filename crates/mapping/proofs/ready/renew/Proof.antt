@@ -12,34 +12,39 @@ use Rattle.mapping.proofs.ready.renew.Tie as tie
 
 lay-requires : tie.Need-lay-requires
 lay-requires c κs =
-    let s = c .before .before .before .before .before in
+    let place = c .before .before .before in
+    let s = place .before .before .before in
+    let e = place .plan-place .ensures in
     let i = s .pre .0 .1 .1 in
-    let long = held-length (s .pre .0 .0) in
-    (
-      (omega arith, (omega (arith, long), omega arith)),
-      (s .pre .0 .1 .0, rw (← plan-stands (s .args .state .now) (eachWay + s .args .t) (omega arith)) (s .pre .1)),
+    let long = held-length (s .pre .0 .0) in (
+      (omega (arith, e), (omega (arith, e, long), omega (arith, e))),
+      (s .pre .0 .1 .0, rw (e, ← plan-stands (s .args .state .now) (eachWay + s .args .t) (omega arith)) (s .pre .1)),
     )
+
+read-frame-requires : tie.Need-read-frame-requires
+read-frame-requires c κs = let s = c .before .before .before .before in omega (arith, held-length (s .pre .0 .0), s .pre .0 .1 .1)
+
+read-frame-requires-2 : tie.Need-read-frame-requires-2
+read-frame-requires-2 c κs =
+    let lay = c .before .before .before in
+    let s = lay .before .before .before .before .before .before .before in
+    omega (arith, lay .lay .kept, held-length (s .pre .0 .0), s .pre .0 .1 .1)
 
 returns : tie.Need-returns
 returns c =
     let after = c .before in
     let lay = after .before .before .before .before in
     let before = lay .before .before in
-    let s = before .before .before .before .before in
+    let place = before .before .before in
+    let s = place .before .before .before in
     let a = s .args in
     let i = s .pre .0 .1 .1 in
-    let laid = lay .lay .ensures in
+    let laid = rw (place .plan-place .ensures) at (lay .lay .ensures) in
     let was = before .read-frame .ensures ∙ sym (ready-stands (a .state .now) (a .t) i) in
     let is = after .read-frame2 .ensures ∙ read-back (a .state .now) (a .d .now) (a .t) i (s .pre .0 .0) laid in
     (ready-laid (a .state .now) (a .d .now) (a .t) i (s .pre .0 .0) laid, rw (c .same-data .ensures, was, is))
 
-read-frame-requires-2 : tie.Need-read-frame-requires-2
-read-frame-requires-2 c κs =
-    let lay = c .before .before .before in
-    omega (arith, lay .lay .kept, held-length (lay .before .before .before .before .before .before .pre .0 .0))
-
 pub renew-spec : {M : Type 1} → statement M
 renew-spec =
-    tie.close (tie.spec (λ c. search needs) (λ c. search needs) (λ c. search needs) (λ c. search needs) (λ c. search needs) (λ c. search needs)
-    (λ c. search needs) (λ c. search needs) (λ c κs. omega (arith, held-length (c .before .before .before .pre .0 .0))) lay-requires
-    (λ c. search needs) read-frame-requires-2 (λ c κs. search needs) (λ c. search needs) returns)
+    tie.close (tie.spec (λ c. search needs) (λ c κs. search needs) (λ c. search needs) (λ c. search needs) (λ c. search needs) (λ c. search needs)
+    read-frame-requires lay-requires (λ c. search needs) read-frame-requires-2 (λ c κs. search needs) (λ c. search needs) returns)

@@ -26,5 +26,5 @@ returns-2 c =
 
 pub transmit-spec : {M : Type 1} → statement M
 transmit-spec =
-    tie.close (tie.spec returns (λ c. search needs) (λ c κs. search needs) (λ c κs. search needs) (λ c. search needs) send-requires (λ c. search needs)
-    returns-2)
+    tie.close (tie.spec returns (λ c. search needs) (λ c κs. search needs) (λ c κs. search needs) (λ c. search needs) send-requires
+    (λ c. search needs) returns-2)

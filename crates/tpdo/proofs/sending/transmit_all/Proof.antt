@@ -96,7 +96,8 @@ loop-again c =
     one-more (a .was) (a .occasion) Operational (a .t2) (a .t3) (a .d .now) ready (l .loop .inv) t (start .pre .1 .1) (start .pre .1 .0)
     (told .pace .result) is _ (ready-default (a .state .now) t)
     (sent .transmit .result) (sent .transmit .ensures .0) _
-    (lent-back (l .loop .output) _ _ (l .loop .sent) (length (l .loop .output) - frameSize * l .loop .sent) (omega arith) (sent .transmit .ensures .1))
+    (lent-back (l .loop .output) _ _ (l .loop .sent) (length (l .loop .output) - frameSize * l .loop .sent) (omega arith)
+    (sent .transmit .ensures .1))
 
 -- where the two ways meet
 over : (c : tie.Joined1 Inv-loop μ-loop) →
