@@ -7,3 +7,4 @@ pub mod Members
 pub mod LookUp
 pub mod Plans
 pub mod Edges
+pub mod Printed
