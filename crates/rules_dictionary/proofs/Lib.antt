@@ -8,3 +8,4 @@ pub mod LookUp
 pub mod Plans
 pub mod Edges
 pub mod Printed
+pub mod Verdicts
