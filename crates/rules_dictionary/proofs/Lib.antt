@@ -9,3 +9,4 @@ pub mod Plans
 pub mod Edges
 pub mod Printed
 pub mod Verdicts
+pub mod Moves

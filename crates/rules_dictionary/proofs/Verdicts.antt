@@ -37,7 +37,7 @@ abbrev answers : List ℕ → Row → List ℕ → List ℕ
 answers d x vs = map (λ v. code (valueVerdict d x v)) vs
 
 -- the same so many times
-abbrev times {ℓ} : {A : Type ℓ} → ℕ → A → List A
+abbrev pub times {ℓ} : {A : Type ℓ} → ℕ → A → List A
 times zero x = []
 times (suc n) x = x ∷ times n x
 
