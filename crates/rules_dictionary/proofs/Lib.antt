@@ -10,3 +10,4 @@ pub mod Edges
 pub mod Printed
 pub mod Verdicts
 pub mod Moves
+pub mod Readings
