@@ -7,7 +7,8 @@ use mathlib.Core.Bool.{Bool, true, false, not, _&&_, _||_}
 use mathlib.Core.List.{List, [], _∷_, _++_, map}
 use lib.Dec.{eqb}
 use Rattle.rules_dictionary.specs.Numbers.{all}
-use Rattle.rules_dictionary.specs.Table.{Row, u32, from, upTo, ranging, table, Found, found, noObject as missing, noSubindex as missingSub, lookup}
+use Rattle.rules_dictionary.specs.Table.{Row, u32, from, upTo, ranging, table, Found}
+use Rattle.rules_dictionary.specs.Table.{found, noObject as missing, noSubindex as missingSub, lookup}
 use Rattle.rules_dictionary.specs.Table.{errorRegister, heartbeatTime, errorCode, controlWord, statusWord, mode, modeDisplay, position, key}
 use Rattle.rules_dictionary.specs.Table.{positionWindow, velocity, velocityWindow, velocityThreshold, targetPosition, minimumPosition}
 use Rattle.rules_dictionary.specs.Table.{maximumPosition, profileVelocity, profileAcceleration, profileDeceleration, targetVelocity, pdos}
