@@ -7,7 +7,7 @@ pub mod Members
 pub mod LookUp
 pub mod Plans
 pub mod Edges
-pub mod Printed
 pub mod Verdicts
 pub mod Moves
 pub mod Readings
+pub mod Printed

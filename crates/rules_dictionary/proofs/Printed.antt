@@ -8,11 +8,14 @@ use mathlib.Core.List.{List, [], _∷_, _++_, map}
 use lib.ListN.{length}
 use Rattle.rules_dictionary.specs.declared.Access.{Access}
 use Rattle.rules_dictionary.specs.declared.Access.the-variants.{Constant, NodeWritten, Writable}
+use Rattle.rules_dictionary.specs.declared.Role.{Role}
+use Rattle.rules_dictionary.specs.declared.Role.the-variants.{Plain, ModeOfOperation, PdoIdentifier, PdoType, MappingCount, MappingEntry}
 use Rattle.rules_dictionary.specs.Numbers.{filter}
 use Rattle.rules_dictionary.specs.Table.{ValueType, u8, u16, u32, i8, i32, size, Mappable, unmappable, toReceive, toTransmit, Row, key, table}
 use Rattle.rules_dictionary.specs.Table.{placeOf, isReset}
 use Rattle.rules_dictionary.specs.Values.{defaultOf}
 use Rattle.rules_dictionary.proofs.Edges.{open-edges}
+use Rattle.rules_dictionary.proofs.Verdicts.{times}
 
 -- what the paper says of a row; the place follows from the sizes of the rows before it, the defaults are those of nodes 5 and 127
 record Entry : Type 0 where
@@ -228,6 +231,20 @@ as-printed = refl
 -- "u8", "u16", "u32", "i8", "i32": the bytes of each
 bytes-of-types : map size (u8 ∷ u16 ∷ u32 ∷ i8 ∷ i32 ∷ []) ≡ 1 ∷ 2 ∷ 4 ∷ 1 ∷ 4 ∷ []
 bytes-of-types = refl
+
+-- which rows have a rule of their own: of each PDO the identifier, the type, :0 and the eight entries; and 6060h, "Mode must be 0, 1 or 3"
+abbrev ofCommunication : ℕ → List Role
+ofCommunication p = Plain ∷ PdoIdentifier p ∷ PdoType p ∷ []
+
+abbrev ofMapping : ℕ → List Role
+ofMapping p = MappingCount p ∷ times 8 (MappingEntry p)
+
+roles : map (λ x. x .role) table
+    ≡ times 7 Plain ++ ofCommunication 0 ++ ofCommunication 1 ++ ofCommunication 2 ++ ofCommunication 3 ++ ofMapping 0 ++ ofMapping 1
+    ++ ofMapping 2 ++ ofMapping 3 ++ ofCommunication 4 ++ ofCommunication 5 ++ ofCommunication 6 ++ ofCommunication 7 ++ ofMapping 4
+    ++ ofMapping 5 ++ ofMapping 6 ++ ofMapping 7 ++ times 3 Plain ++ ModeOfOperation ∷ times 15 Plain
+unfolding open-edges
+roles = refl
 
 -- "82h objects 1000h-1FFFh to default except that 1001h stays": what stays, index and subindex as one number; the other 102 go back
 stays-at-82h : map key (filter (λ x. not (isReset x)) table)
