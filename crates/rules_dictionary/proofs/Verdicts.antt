@@ -125,6 +125,13 @@ below-before-above : answers fresh (ranging (record { least = 5; greatest = 3 })
 unfolding open-edges
 below-before-above = refl
 
+-- ".. mapping faults" behind them all: counts from 5 over one mapped object, and entries up to 5
+range-before-mapping : answers fresh (ranging (from 5 u32) (mapCount 0)) (1 ∷ 2 ∷ 5 ∷ [])
+    ++ answers fresh (ranging (upTo 5) (mapEntry 0 1)) (0 ∷ 5 ∷ 6 ∷ [])
+    ≡ 0x06090032 ∷ 0x06090032 ∷ 0x06040041 ∷ 0 ∷ 0x06020000 ∷ 0x06090031 ∷ []
+unfolding open-edges
+range-before-mapping = refl
+
 -- ---- "Mode must be 0, 1 or 3", "Types 0..240, 254, 255", "06090030h"
 
 modes-taken : answers fresh mode (0 ∷ 1 ∷ 2 ∷ 3 ∷ 4 ∷ 6 ∷ 7 ∷ 8 ∷ 127 ∷ 128 ∷ 255 ∷ 256 ∷ [])
