@@ -8,6 +8,8 @@ pub mod LookUp
 pub mod Plans
 pub mod Edges
 pub mod Verdicts
+pub mod Identifiers
+pub mod Mappings
 pub mod Moves
 pub mod Readings
 pub mod Printed

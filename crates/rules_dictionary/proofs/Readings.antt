@@ -14,8 +14,7 @@ use Rattle.rules_dictionary.specs.Table.{isConstant, isWritable, u8, row
 use Rattle.rules_dictionary.specs.Table.{receive, transmit, communicationIndex, mappingIndex, mapSlots, wordIndex, wordSubindex, wordLength}
 use Rattle.rules_dictionary.specs.Table.{mappingWord, maximumPosition, controlWord, mode, targetPosition, errorRegister, isReset, key}
 use Rattle.rules_dictionary.specs.Table.{communicationPlace, mappingPlace, wordsPlace, communicationLength}
-use Rattle.rules_dictionary.specs.Table.{mappingLength, recordPlace, identifier}
-use Rattle.rules_dictionary.specs.Table.{transmissionType, placeOf, rowAt}
+use Rattle.rules_dictionary.specs.Table.{mappingLength, recordPlace, identifier, transmissionType, placeOf, rowAt}
 use Rattle.rules_dictionary.specs.Values.{read, store, stored, write, unpacked}
 use Rattle.rules_dictionary.specs.Legal.{modeNumber, modes, isMode, isSynchronous, isCyclic, isEventDriven, isType, isValid, frameIdentifier}
 use Rattle.rules_dictionary.specs.Legal.{reservedBits, transmits, identifiers, mapWords}

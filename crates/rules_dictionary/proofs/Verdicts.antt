@@ -1,7 +1,7 @@
--- Document 01, 'SDO', as numbers: each abort code, and the code that each value, identifier and mapping word gets; 0 where it is taken.
+-- Document 01, 'SDO', as numbers: each abort code, and the code that each value gets; 0 where it is taken.
 -- The numbers are written from the paper: a changed code, bound, comparison or order makes one of them fall.
 -- Assumes nothing.
-use Prim.Native.Nat.{ℕ, zero, suc, _+_, _-_, _^_}
+use Prim.Native.Nat.{ℕ, zero, suc, _+_, _-_}
 use mathlib.Core.Path.{_≡_, refl}
 use mathlib.Core.Bool.{Bool, true, false, not, _&&_, _||_}
 use mathlib.Core.List.{List, [], _∷_, _++_, map}
@@ -12,11 +12,10 @@ use Rattle.rules_dictionary.specs.Table.{found, noObject as missing, noS
 use Rattle.rules_dictionary.specs.Table.{errorRegister, heartbeatTime, errorCode, controlWord, statusWord, mode, modeDisplay, position, key}
 use Rattle.rules_dictionary.specs.Table.{positionWindow, velocity, velocityWindow, velocityThreshold, targetPosition, minimumPosition}
 use Rattle.rules_dictionary.specs.Table.{maximumPosition, profileVelocity, profileAcceleration, profileDeceleration, targetVelocity, pdos}
-use Rattle.rules_dictionary.specs.Table.{identifier, transmissionType, mapCount, mapEntry}
-use Rattle.rules_dictionary.specs.Values.{store}
+use Rattle.rules_dictionary.specs.Table.{transmissionType, mapCount, mapEntry}
 use Rattle.rules_dictionary.specs.Aborts.{abortCode, unknownCommand, noObject, noSubindex, noWriting, tooLong, tooShort, wrongTime}
 use Rattle.rules_dictionary.specs.Aborts.{belowRange, aboveRange, badValue, notMappable, overLength, Verdict, good, bad, isGood, test, firstOf}
-use Rattle.rules_dictionary.specs.Legal.{isBelow, isAbove, valueVerdict, countVerdict}
+use Rattle.rules_dictionary.specs.Legal.{isBelow, isAbove, valueVerdict}
 use Rattle.rules_dictionary.proofs.Edges.{fresh, open-edges}
 
 -- "05040001h"; "no object 06020000h; no subindex 06090011h; download to c or o 06010002h; longer 06070012h, shorter 06070013h; wrong time
@@ -29,12 +28,12 @@ abort-codes : map abortCode
 abort-codes = refl
 
 -- the code of a verdict, 0 for good
-abbrev code : Verdict → ℕ
+abbrev pub code : Verdict → ℕ
 code good = 0
 code (bad a) = abortCode a
 
 -- the codes that values for a row get
-abbrev answers : List ℕ → Row → List ℕ → List ℕ
+abbrev pub answers : List ℕ → Row → List ℕ → List ℕ
 answers d x vs = map (λ v. code (valueVerdict d x v)) vs
 
 -- the same so many times
@@ -143,163 +142,3 @@ types-taken : map (λ p. answers fresh (transmissionType p) (0 ∷ 1 ∷ 239 ∷
     ≡ times 8 (0 ∷ 0 ∷ 0 ∷ 0 ∷ 0x06090030 ∷ 0x06090030 ∷ 0 ∷ 0 ∷ 0x06090031 ∷ [])
 unfolding open-edges
 types-taken = refl
-
--- ---- PDO identifiers
-
--- what a PDO may be told that is invalid: 80000000h in a receive PDO, C0000000h in a transmit PDO
-abbrev told : ℕ → ℕ → List ℕ → List ℕ
-told off p vs = answers (store (identifier p) off fresh) (identifier p) vs
-
--- "a valid one lies in 181h..57Fh"
-receive-ends : map (λ p. told 0x80000000 p (0 ∷ 0x7F ∷ 0x180 ∷ 0x181 ∷ 0x57F ∷ 0x580 ∷ 0x7FF ∷ [])) (0 ∷ 1 ∷ 2 ∷ 3 ∷ [])
-    ≡ times 4 (0x06090030 ∷ 0x06090030 ∷ 0x06090030 ∷ 0 ∷ 0 ∷ 0x06090030 ∷ 0x06090030 ∷ [])
-unfolding open-edges
-receive-ends = refl
-
-transmit-ends : map (λ p. told 0xC0000000 p (0x40000000 ∷ 0x40000180 ∷ 0x40000181 ∷ 0x4000057F ∷ 0x40000580 ∷ 0x400007FF ∷ [])) (4 ∷ 5 ∷ 6 ∷ 7 ∷ [])
-    ≡ times 4 (0x06090030 ∷ 0x06090030 ∷ 0 ∷ 0 ∷ 0x06090030 ∷ 0x06090030 ∷ [])
-unfolding open-edges
-transmit-ends = refl
-
--- "bit 30 is 1 for transmit, 0 for receive", valid or not
-bit-30 : map (λ p. told 0xC0000000 p (0x181 ∷ 0x40000181 ∷ 0x80000181 ∷ 0xC0000181 ∷ [])) pdos
-    ≡ times 4 (0 ∷ 0x06090030 ∷ 0 ∷ 0x06090030 ∷ []) ++ times 4 (0x06090030 ∷ 0 ∷ 0x06090030 ∷ 0 ∷ [])
-unfolding open-edges
-bit-30 = refl
-
--- "29-11 zero", of an invalid word and of a valid one
-abbrev reserved : List ℕ
-reserved =
-    11 ∷ 12 ∷ 13 ∷ 14 ∷ 15 ∷ 16 ∷ 17 ∷ 18 ∷ 19 ∷ 20 ∷ 21 ∷ 22 ∷ 23 ∷ 24 ∷ 25 ∷ 26 ∷ 27 ∷ 28 ∷ 29 ∷ []
-
-bits-29-11 : map (λ word. told 0x80000000 0 (map (λ k. word + 2 ^ k) reserved)) (0x80000000 ∷ 0x80000205 ∷ 0x205 ∷ [])
-    ≡ times 3 (times 19 0x06090030)
-unfolding open-edges
-bits-29-11 = refl
-
-transmit-29-11 : map (λ word. told 0xC0000000 4 (map (λ k. word + 2 ^ k) reserved)) (0xC0000000 ∷ 0x40000185 ∷ []) ≡ times 2 (times 19 0x06090030)
-unfolding open-edges
-transmit-29-11 = refl
-
--- "bit 31 invalid": its eleven bits are free, also another's
-bits-10-0 : answers fresh (identifier 0) (0x80000000 ∷ 0x80000180 ∷ 0x80000305 ∷ 0x80000185 ∷ 0x80000400 ∷ 0x80000580 ∷ 0x800007FF ∷ [])
-    ≡ times 7 0
-unfolding open-edges
-bits-10-0 = refl
-
-transmit-10-0 : answers fresh (identifier 7) (0xC0000000 ∷ 0xC0000205 ∷ 0xC0000185 ∷ 0xC00007FF ∷ []) ≡ times 4 0
-unfolding open-edges
-transmit-10-0 = refl
-
--- ".. and differs from every other valid PDO": an invalid PDO asked for each of the eight default identifiers takes its own alone
-shared : map (λ p. told 0x80000000 p (0x205 ∷ 0x305 ∷ 0x405 ∷ 0x505 ∷ 0x185 ∷ 0x285 ∷ 0x385 ∷ 0x485 ∷ [])) (0 ∷ 1 ∷ 2 ∷ 3 ∷ [])
-    ≡ (0 ∷ times 7 0x06090030) ∷ (0x06090030 ∷ 0 ∷ times 6 0x06090030) ∷ (times 2 0x06090030 ++ 0 ∷ times 5 0x06090030)
-    ∷ (times 3 0x06090030 ++ 0 ∷ times 4 0x06090030) ∷ []
-unfolding open-edges
-shared = refl
-
-transmit-shared : map
-    (λ p. told 0xC0000000 p
-    (0x40000205 ∷ 0x40000305 ∷ 0x40000405 ∷ 0x40000505 ∷ 0x40000185 ∷ 0x40000285 ∷ 0x40000385 ∷ 0x40000485 ∷ [])) (4 ∷ 5 ∷ 6 ∷ 7 ∷ [])
-    ≡ (times 4 0x06090030 ++ 0 ∷ times 3 0x06090030) ∷ (times 5 0x06090030 ++ 0 ∷ times 2 0x06090030) ∷ (times 6 0x06090030 ++ 0 ∷ 0x06090030 ∷ [])
-    ∷ (times 7 0x06090030 ++ 0 ∷ []) ∷ []
-unfolding open-edges
-transmit-shared = refl
-
--- .. every other valid one: the identifier of an invalid PDO is free
-freed : answers (store (identifier 1) 0x80000305 (store (identifier 0) 0x80000205 fresh)) (identifier 0) (0x305 ∷ 0x405 ∷ []) ≡ 0 ∷ 0x06090030 ∷ []
-unfolding open-edges
-freed = refl
-
--- "valid to a different valid word is bad": not the same word, not to an invalid one
-kept : map (λ p. answers fresh (identifier p) (0x205 ∷ 0x206 ∷ 0x80000205 ∷ 0x80000206 ∷ [])) (0 ∷ [])
-    ++ map (λ p. answers fresh (identifier p) (0x40000485 ∷ 0x40000486 ∷ 0xC0000485 ∷ 0xC0000486 ∷ [])) (7 ∷ [])
-    ≡ times 2 (0 ∷ 0x06090030 ∷ 0 ∷ 0 ∷ [])
-unfolding open-edges
-kept = refl
-
--- ---- mapping entries
-
--- the codes that mapping words get in the first entry of each of the eight PDOs
-abbrev mappedTo : List ℕ → List (List ℕ)
-mappedTo ws = map (λ p. answers fresh (mapEntry p 1) ws) pdos
-
--- "R": 6040, 6060, 607A, 6081, 6083, 6084, 60FF in a receive PDO, "wrong direction .. 06040041h" in a transmit PDO
-to-receive : mappedTo (0x60400010 ∷ 0x60600008 ∷ 0x607A0020 ∷ 0x60810020 ∷ 0x60830020 ∷ 0x60840020 ∷ 0x60FF0020 ∷ [])
-    ≡ times 4 (times 7 0) ++ times 4 (times 7 0x06040041)
-unfolding open-edges
-to-receive = refl
-
--- "T": 1001, 603F, 6041, 6061, 6064, 606C the other way
-to-transmit : mappedTo (0x10010008 ∷ 0x603F0010 ∷ 0x60410010 ∷ 0x60610008 ∷ 0x60640020 ∷ 0x606C0020 ∷ [])
-    ≡ times 4 (times 6 0x06040041) ++ times 4 (times 6 0)
-unfolding open-edges
-to-transmit = refl
-
--- neither R nor T: 06040041h both ways
-to-neither : mappedTo
-    (0x10000020 ∷ 0x10050020 ∷ 0x10140020 ∷ 0x10170010 ∷ 0x10180008 ∷ 0x10180120 ∷ 0x14000008 ∷ 0x14000120 ∷ 0x14000208 ∷ 0x16000008
-    ∷ 0x16000120 ∷ 0x60670020 ∷ 0x606D0010 ∷ 0x606F0010 ∷ 0x607D0008 ∷ 0x607D0120 ∷ 0x607D0220 ∷ 0x65020020 ∷ [])
-    ≡ times 8 (times 18 0x06040041)
-unfolding open-edges
-to-neither = refl
-
--- "wrong .. length 06040041h": of 6040h 16 bits alone, of 6060h 8, of 607Ah 32
-lengths : answers fresh (mapEntry 0 1)
-    (0x60400000 ∷ 0x60400001 ∷ 0x60400008 ∷ 0x6040000F ∷ 0x60400010 ∷ 0x60400011 ∷ 0x60400020 ∷ 0x60400090 ∷ 0x60600007 ∷ 0x60600009 ∷ 0x60600088
-    ∷ 0x607A0010 ∷ 0x607A001F ∷ 0x607A0021 ∷ 0x607A0040 ∷ [])
-    ≡ times 4 0x06040041 ++ 0 ∷ times 10 0x06040041
-unfolding open-edges
-lengths = refl
-
--- "A mapping entry is 0 or index, subindex, bit length. A missing target gives 06020000h or 06090011h": every bit of index and subindex counts
-missing-targets : answers fresh (mapEntry 0 1)
-    (0 ∷ 1 ∷ 0x00010008 ∷ 0x00070020 ∷ 0x60020010 ∷ 0xE0400010 ∷ 0x70400010 ∷ 0x60400110 ∷ 0x60401010 ∷ 0x60408010 ∷ 0x6040FF10 ∷ [])
-    ≡ 0 ∷ times 6 0x06020000 ++ times 4 0x06090011
-unfolding open-edges
-missing-targets = refl
-
--- the object before the subindex before direction and length
-targets-in-order : answers fresh (mapEntry 0 1) (0x60420108 ∷ 0x60400108 ∷ 0x60410110 ∷ 0x60410008 ∷ [])
-    ≡ 0x06020000 ∷ 0x06090011 ∷ 0x06090011 ∷ 0x06040041 ∷ []
-unfolding open-edges
-targets-in-order = refl
-
--- all eight entries of a PDO alike
-every-entry : map (λ k. answers fresh (mapEntry 3 k) (0x60400010 ∷ 0x60410010 ∷ [])) (1 ∷ 2 ∷ 3 ∷ 4 ∷ 5 ∷ 6 ∷ 7 ∷ 8 ∷ [])
-    ≡ times 8 (0 ∷ 0x06040041 ∷ [])
-unfolding open-edges
-every-entry = refl
-
--- ---- counts of mapped objects
-
--- ":0 has the range 0..8; then a zero among the first n gives 06040041h": the default maps have one object, or two
-counts-taken : map (λ p. answers fresh (mapCount p) (0 ∷ 1 ∷ 2 ∷ 3 ∷ 8 ∷ 9 ∷ 255 ∷ [])) pdos
-    ≡ (0 ∷ 0 ∷ times 3 0x06040041 ++ times 2 0x06090031) ∷ times 3 (0 ∷ 0 ∷ 0 ∷ times 2 0x06040041 ++ times 2 0x06090031)
-    ++ (0 ∷ 0 ∷ times 3 0x06040041 ++ times 2 0x06090031) ∷ times 3 (0 ∷ 0 ∷ 0 ∷ times 2 0x06040041 ++ times 2 0x06090031)
-unfolding open-edges
-counts-taken = refl
-
--- the codes that counts get over these mapping words
-abbrev counted : List ℕ → List ℕ → List ℕ
-counted ws ns = map (λ n. code (countVerdict ws n)) ns
-
--- "over 64 bits 06040042h": 64 are not over, 65 are; the words behind the first n do not count
-bits-64 : counted (0x60640020 ∷ 0x606C0020 ∷ 0x60410001 ∷ []) (0 ∷ 1 ∷ 2 ∷ 3 ∷ []) ≡ 0 ∷ 0 ∷ 0 ∷ 0x06040042 ∷ []
-unfolding open-edges
-bits-64 = refl
-
-eight-bytes : counted (times 8 0x60610008) (0 ∷ 7 ∷ 8 ∷ []) ≡ 0 ∷ 0 ∷ 0 ∷ []
-unfolding open-edges
-eight-bytes = refl
-
--- a zero in front, in the middle, at the end of the first n, and behind them
-zero-among : counted (0 ∷ 0x60610008 ∷ []) (0 ∷ 1 ∷ 2 ∷ []) ++ counted (0x60610008 ∷ 0 ∷ 0x60610008 ∷ []) (1 ∷ 2 ∷ 3 ∷ [])
-    ≡ 0 ∷ 0x06040041 ∷ 0x06040041 ∷ 0 ∷ 0x06040041 ∷ 0x06040041 ∷ []
-unfolding open-edges
-zero-among = refl
-
--- the zero before the bits
-zero-before-bits : counted (0x60640020 ∷ 0x606C0020 ∷ 0x60640020 ∷ 0 ∷ []) (2 ∷ 3 ∷ 4 ∷ []) ≡ 0 ∷ 0x06040042 ∷ 0x06040041 ∷ []
-unfolding open-edges
-zero-before-bits = refl
