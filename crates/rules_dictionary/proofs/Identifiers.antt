@@ -3,9 +3,11 @@
 -- Assumes nothing.
 use Prim.Native.Nat.{ℕ, _+_, _^_}
 use mathlib.Core.Path.{_≡_, refl}
+use mathlib.Core.Bool.{true, false}
 use mathlib.Core.List.{List, [], _∷_, _++_, map}
 use Rattle.rules_dictionary.specs.Table.{pdos, identifier}
 use Rattle.rules_dictionary.specs.Values.{store}
+use Rattle.rules_dictionary.specs.Legal.{badIdentifier}
 use Rattle.rules_dictionary.proofs.Edges.{fresh, open-edges}
 use Rattle.rules_dictionary.proofs.Verdicts.{answers, times}
 
@@ -80,3 +82,8 @@ kept : map (λ p. answers fresh (identifier p) (0x205 ∷ 0x206 ∷ 0x80000205 �
     ≡ times 2 (0 ∷ 0x06090030 ∷ 0 ∷ 0 ∷ [])
 unfolding open-edges
 kept = refl
+
+-- .. the whole words are compared: the same eleven bits with another bit above them are a different word
+whole-words : badIdentifier (0x20000205 ∷ 0x305 ∷ []) 0 0x205 ∷ badIdentifier (0x205 ∷ 0x305 ∷ []) 0 0x205 ∷ [] ≡ true ∷ false ∷ []
+unfolding open-edges
+whole-words = refl
