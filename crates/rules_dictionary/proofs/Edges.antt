@@ -20,10 +20,10 @@ use Rattle.rules_dictionary.specs.Legal.{valueVerdict, mapWords, open-le
 use Rattle.rules_dictionary.specs.Plans.{plansOf, planFor, readyOf, pdoData, open-plans}
 
 -- node 5 after power-up, before 6041h is made
-fresh : List ℕ
+pub fresh : List ℕ
 fresh = packedDefaults 5 table
 
-unfoldable open-edges : Unit {0}
+unfoldable pub open-edges : Unit {0}
 unfolding fresh packedDefaults open-numbers open-table open-values open-aborts open-legal open-plans
 open-edges = tt
 

@@ -7,3 +7,9 @@ pub mod Members
 pub mod LookUp
 pub mod Plans
 pub mod Edges
+pub mod Verdicts
+pub mod Identifiers
+pub mod Mappings
+pub mod Moves
+pub mod Readings
+pub mod Printed
