@@ -1,2 +1,4 @@
+pub mod Node5
 pub mod Edges
+pub mod EdgesSdo
 pub mod Tempting
