@@ -1,4 +1,5 @@
 pub mod Node5
 pub mod Edges
 pub mod EdgesSdo
+pub mod EdgesNmt
 pub mod Tempting
