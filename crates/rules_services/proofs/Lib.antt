@@ -2,4 +2,5 @@ pub mod Node5
 pub mod Edges
 pub mod EdgesSdo
 pub mod EdgesNmt
+pub mod EdgesEvents
 pub mod Tempting
