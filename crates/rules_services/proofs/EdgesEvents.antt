@@ -4,10 +4,8 @@ use Prim.Native.Nat.{ℕ}
 use mathlib.Core.Path.{_≡_, refl}
 use mathlib.Core.Bool.{Bool, true, false}
 use mathlib.Core.List.{List, [], _∷_, map}
-use Rattle.state.specs.declared.NmtState.{NmtState}
 use Rattle.state.specs.declared.NmtState.the-variants.{PreOperational, Operational, Stopped}
-use Rattle.state.specs.declared.State.{State}
-use Rattle.state.specs.declared.Occasion.the-variants.{Plain, Ticked}
+use Rattle.state.specs.declared.Occasion.the-variants.{Ticked}
 use Rattle.rules_dictionary.specs.declared.Mode.the-variants.{ProfilePosition}
 use Rattle.drive.specs.declared.Drive.{Drive}
 use Rattle.drive.specs.declared.DriveState.{DriveState}
@@ -18,12 +16,11 @@ use Rattle.drive.specs.declared.Store.{Store}
 use Rattle.drive.specs.declared.Store.the-variants.{Empty, Rested, Moving, Queued}
 use Rattle.rules_dictionary.specs.Table.{errorRegister, errorCode, position, velocity, heartbeatTime}
 use Rattle.rules_dictionary.specs.Values.{store}
-use Rattle.rules_services.specs.declared.Told.{Told}
 use Rattle.rules_services.specs.declared.Told.the-variants.{Happened, Bad}
 use Rattle.rules_services.specs.declared.Event.{Event}
 use Rattle.rules_services.specs.declared.Event.the-variants.{Started, QuickStopDone, Fault, ReactionDone, Feedback, SetPointReached, Tick}
 use Rattle.rules_services.specs.declared.Event.the-variants.{CauseGone, Voltage}
-use Rattle.rules_services.specs.Effects.{Effect, Frame, frame, becomes, withDrive, withHeartbeat, withVoltage}
+use Rattle.rules_services.specs.Effects.{frame, becomes, withDrive, withHeartbeat, withVoltage}
 use Rattle.rules_services.specs.Events.{eventOf, isInPlace, happens}
 use Rattle.rules_services.proofs.Node5.{fresh, node, operational, after, eight, sent8, open-edges}
 
@@ -112,7 +109,8 @@ driven v cause = record { state = v; mode = ProfilePosition; store = Empty; take
 
 -- "8 cause gone (only with a cause)": in both fault states; in neither without
 cause-bound : map (λ v. isInPlace CauseGone (withDrive v operational))
-    (driven FaultReactionActive true ∷ driven InFault true ∷ driven FaultReactionActive false ∷ driven InFault false ∷ driven SwitchOnDisabled false ∷ [])
+    (driven FaultReactionActive true ∷ driven InFault true ∷ driven FaultReactionActive false ∷ driven InFault false
+    ∷ driven SwitchOnDisabled false ∷ [])
     ≡ true ∷ true ∷ false ∷ false ∷ false ∷ []
 unfolding open-edges
 cause-bound = refl
@@ -173,7 +171,8 @@ feedback-told = (refl, refl, refl)
 -- event 7: a heartbeat at the 1017h-th tick, and the occasion of a tick; of 0 nothing is counted
 ticks : (happens Tick (withHeartbeat 1 operational) (store heartbeatTime 2 fresh)
     ≡ record { state = operational; writes = []; sent = frame 0x705 (0x05 ∷ []) ∷ []; occasion = Ticked })
-    × (happens Tick operational (store heartbeatTime 2 fresh) ≡ record { state = withHeartbeat 1 operational; writes = []; sent = []; occasion = Ticked })
+    × (happens Tick operational (store heartbeatTime 2 fresh)
+    ≡ record { state = withHeartbeat 1 operational; writes = []; sent = []; occasion = Ticked })
     × (happens Tick operational fresh ≡ record { state = operational; writes = []; sent = []; occasion = Ticked })
 unfolding open-edges
 ticks = (refl, refl, refl)
@@ -206,15 +205,19 @@ fault-while-moving : happens (Fault 0x2310 0x02) (withDrive (moving (Moving (poi
 unfolding open-edges
 fault-while-moving = refl
 
+-- with 1001h 83h
+troubled : List ℕ
+troubled = store errorRegister 0x83 fresh
+
 -- a second fault, with the first present: "603Fh is the code, 1001h gains the register and bit 0", emergency with what 1001h has gained
-second-fault : (map (after (store errorRegister 0x83 fresh) (happens (Fault 0x8611 0x20) (withDrive (driven InFault true) operational) (store errorRegister 0x83 fresh)))
-    (errorCode ∷ errorRegister ∷ []) ≡ 0x8611 ∷ 0xA3 ∷ [])
-    × (happens (Fault 0x8611 0x20) (withDrive (driven InFault true) operational) (store errorRegister 0x83 fresh) .sent
+second-fault : (map (after troubled (happens (Fault 0x8611 0x20) (withDrive (driven InFault true) operational) troubled)) (errorCode ∷ errorRegister ∷ [])
+    ≡ 0x8611 ∷ 0xA3 ∷ [])
+    × (happens (Fault 0x8611 0x20) (withDrive (driven InFault true) operational) troubled .sent
     ≡ sent8 0x085 0x11 0x86 0xA3 0x00 0x00 0x00 0x00 0x00)
     × (happens (Fault 0x8611 0x20) (withDrive (driven InFault true) operational) fresh .state ≡ withDrive (driven InFault true) operational)
     × (happens (Fault 0x8611 0x20) (withDrive (driven FaultReactionActive false) operational) fresh .state
     ≡ withDrive (driven FaultReactionActive true) operational)
-unfolding open-edges
+unfolding troubled open-edges
 second-fault = (refl, refl, refl, refl)
 
 -- "none while Stopped", and in Pre-operational one; 603Fh and 1001h are written all the same; register 0 gains bit 0, FFh stays

@@ -17,7 +17,8 @@ use Rattle.drive.specs.declared.DriveState.{DriveState}
 use Rattle.drive.specs.declared.DriveState.the-variants.{NotReady, SwitchOnDisabled, ReadyToSwitchOn, SwitchedOn, OperationEnabled, QuickStopActive}
 use Rattle.drive.specs.declared.DriveState.the-variants.{FaultReactionActive, Fault}
 use Rattle.drive.specs.declared.Store.the-variants.{Empty, Moving}
-use Rattle.rules_dictionary.specs.Table.{errorRegister, errorCode, controlWord, mode, heartbeatTime, targetPosition, mapCount, identifier, transmissionType}
+use Rattle.rules_dictionary.specs.Table.{errorRegister, errorCode, controlWord, mode, heartbeatTime, targetPosition}
+use Rattle.rules_dictionary.specs.Table.{mapCount, identifier, transmissionType}
 use Rattle.rules_dictionary.specs.Values.{write, store, stored}
 use Rattle.rules_services.specs.Effects.{Effect, Frame, frame, becomes}
 use Rattle.rules_services.specs.Nmt.{nmt, tick, powerUp, nmtIdentifier, nmtLength}
