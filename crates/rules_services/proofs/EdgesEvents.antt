@@ -5,6 +5,7 @@ use mathlib.Core.Path.{_≡_, refl}
 use mathlib.Core.Bool.{Bool, true, false}
 use mathlib.Core.List.{List, [], _∷_, map}
 use Rattle.state.specs.declared.NmtState.the-variants.{PreOperational, Operational, Stopped}
+use Rattle.state.specs.declared.State.{State}
 use Rattle.state.specs.declared.Occasion.the-variants.{Ticked}
 use Rattle.rules_dictionary.specs.declared.Mode.the-variants.{ProfilePosition}
 use Rattle.drive.specs.declared.Drive.{Drive}
@@ -205,16 +206,17 @@ fault-while-moving : happens (Fault 0x2310 0x02) (withDrive (moving (Moving (poi
 unfolding open-edges
 fault-while-moving = refl
 
--- with 1001h 83h
+-- in Fault with its cause, 1001h 83h
+abbrev inFault : State
+inFault = withDrive (driven InFault true) operational
+
 troubled : List ℕ
 troubled = store errorRegister 0x83 fresh
 
 -- a second fault, with the first present: "603Fh is the code, 1001h gains the register and bit 0", emergency with what 1001h has gained
-second-fault : (map (after troubled (happens (Fault 0x8611 0x20) (withDrive (driven InFault true) operational) troubled)) (errorCode ∷ errorRegister ∷ [])
-    ≡ 0x8611 ∷ 0xA3 ∷ [])
-    × (happens (Fault 0x8611 0x20) (withDrive (driven InFault true) operational) troubled .sent
-    ≡ sent8 0x085 0x11 0x86 0xA3 0x00 0x00 0x00 0x00 0x00)
-    × (happens (Fault 0x8611 0x20) (withDrive (driven InFault true) operational) fresh .state ≡ withDrive (driven InFault true) operational)
+second-fault : (map (after troubled (happens (Fault 0x8611 0x20) inFault troubled)) (errorCode ∷ errorRegister ∷ []) ≡ 0x8611 ∷ 0xA3 ∷ [])
+    × (happens (Fault 0x8611 0x20) inFault troubled .sent ≡ sent8 0x085 0x11 0x86 0xA3 0x00 0x00 0x00 0x00 0x00)
+    × (happens (Fault 0x8611 0x20) inFault fresh .state ≡ inFault)
     × (happens (Fault 0x8611 0x20) (withDrive (driven FaultReactionActive false) operational) fresh .state
     ≡ withDrive (driven FaultReactionActive true) operational)
 unfolding troubled open-edges
