@@ -20,8 +20,10 @@ use Rattle.rules_dictionary.specs.Table.{errorRegister, errorCode, controlWord,
 use Rattle.rules_dictionary.specs.Table.{transmissionType, mapCount, mapEntry, identifier}
 use Rattle.rules_dictionary.specs.Values.{write, store, stored}
 use Rattle.rules_services.specs.Effects.{Frame, frame, becomes, sends, on, andThen, withDrive, withHeld}
+use Rattle.rules_services.specs.Emergency.{emergency}
 use Rattle.rules_services.specs.Sdo.{sdo}
-use Rattle.rules_services.specs.PdoTraffic.{received, receivedBy, sync, syncBase, works, paced, paceOf, transmitted}
+use Rattle.rules_services.specs.Nmt.{freshState}
+use Rattle.rules_services.specs.PdoTraffic.{received, receivedBy, listens, sync, syncBase, works, paced, paceOf, transmitted}
 use Rattle.rules_services.proofs.Node5.{fresh, node, preOperational, operational, stopped, after, eight, open-edges}
 
 -- ---- emergencies: "EMCY on 80h+N: code, 1001h just after its cause, five zeros"
@@ -32,6 +34,12 @@ troubled = store errorRegister 0x81 fresh
 
 abbrev emcy : ℕ → ℕ → ℕ → Frame
 emcy low high register = frame 0x085 (eight low high register 0x00 0x00 0x00 0x00 0x00)
+
+-- of nodes 1 and 127, in Pre-operational; code low byte first, eight bytes
+emergencies-of-others : (emergency 0x1234 (freshState 1) troubled ≡ frame 0x081 (eight 0x34 0x12 0x81 0x00 0x00 0x00 0x00 0x00) ∷ [])
+    × (emergency 0x8240 (freshState 127) fresh ≡ frame 0x0FF (eight 0x40 0x82 0x00 0x00 0x00 0x00 0x00 0x00) ∷ [])
+unfolding troubled open-edges
+emergencies-of-others = (refl, refl)
 
 -- receive 3, 6040h and 607Ah, is of 6 bytes
 data8 : List ℕ
@@ -292,6 +300,13 @@ not-served : (map (λ s. on-identifier s fresh 0x205 (0x06 ∷ [])) (preOperatio
     × (on-identifier operational (store (mapCount 0) 0 fresh) 0x205 (0x06 ∷ 0x00 ∷ []) ≡ ([], 0 ∷ 0 ∷ 0 ∷ 0 ∷ []))
 unfolding on-identifier open-edges
 not-served = (refl, refl, refl)
+
+-- "a valid one lies in 181h..57Fh": receive 1 at either end; a PDO's identifier is the eleven bits of its word
+identifier-ends : (on-identifier operational (store (identifier 0) 0x181 fresh) 0x181 (0x06 ∷ 0x00 ∷ []) ≡ ([], 6 ∷ 0 ∷ 0 ∷ 0 ∷ []))
+    × (on-identifier operational (store (identifier 0) 0x57F fresh) 0x57F (0x06 ∷ 0x00 ∷ []) ≡ ([], 6 ∷ 0 ∷ 0 ∷ 0 ∷ []))
+    × (listens 0x185 Operational fresh 4 ≡ true)
+unfolding on-identifier open-edges
+identifier-ends = (refl, refl, refl)
 
 -- receive and transmit, with one and with two mapped
 working : (map (λ m. works m fresh 4) (PreOperational ∷ Operational ∷ Stopped ∷ []) ≡ false ∷ true ∷ false ∷ [])

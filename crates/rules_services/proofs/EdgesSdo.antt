@@ -9,11 +9,20 @@ use Rattle.rules_dictionary.specs.Table.{transmissionType, mapCount, mapEntry, 
 use Rattle.rules_dictionary.specs.Values.{write, store, stored}
 use Rattle.rules_services.specs.Effects.{Frame, becomes, withHeartbeat}
 use Rattle.rules_services.specs.Sdo.{sdo, requestBase, replyBase, requestLength}
+use Rattle.rules_services.specs.Nmt.{freshState}
 use Rattle.rules_services.proofs.Node5.{fresh, preOperational, operational, eight, sent8, after, open-edges}
 
 -- "600h+N, length 8"; "Replies on 580h+N"
 served-on : (requestBase ≡ 0x600) × (replyBase ≡ 0x580) × (requestLength ≡ 8)
 served-on = (refl, refl, refl)
+
+-- "Replies on 580h+N", of nodes 1 and 127: a reply, an abort and an upload
+replies-of-others : (sdo (eight 0x2B 0x40 0x60 0x00 0x06 0x00 0x00 0x00) (freshState 1) fresh .sent
+    ≡ sent8 0x581 0x60 0x40 0x60 0x00 0x00 0x00 0x00 0x00)
+    × (sdo (eight 0x00 0x40 0x60 0x00 0x06 0x00 0x00 0x00) (freshState 127) fresh .sent ≡ sent8 0x5FF 0x80 0x40 0x60 0x00 0x01 0x00 0x04 0x05)
+    × (sdo (eight 0x40 0x40 0x60 0x00 0x00 0x00 0x00 0x00) (freshState 127) fresh .sent ≡ sent8 0x5FF 0x4B 0x40 0x60 0x00 0x00 0x00 0x00 0x00)
+unfolding open-edges
+replies-of-others = (refl, refl, refl)
 
 -- ---- uploads
 
