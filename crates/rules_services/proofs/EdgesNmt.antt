@@ -229,6 +229,14 @@ other-commands : map (λ c. nmt (c ∷ 0x00 ∷ []) (working Operational 3 movin
 unfolding open-edges
 other-commands = refl
 
+-- nor from Pre-operational or Stopped
+other-commands-elsewhere : (map (λ c. ledTo PreOperational (c ∷ 0x05 ∷ [])) (0x00 ∷ 0x03 ∷ 0x04 ∷ 0x7F ∷ 0x83 ∷ 0xFF ∷ [])
+    ≡ PreOperational ∷ PreOperational ∷ PreOperational ∷ PreOperational ∷ PreOperational ∷ PreOperational ∷ [])
+    × (map (λ c. ledTo Stopped (c ∷ 0x05 ∷ [])) (0x00 ∷ 0x03 ∷ 0x04 ∷ 0x7F ∷ 0x83 ∷ 0xFF ∷ [])
+    ≡ Stopped ∷ Stopped ∷ Stopped ∷ Stopped ∷ Stopped ∷ Stopped ∷ [])
+unfolding ledTo open-edges
+other-commands-elsewhere = (refl, refl)
+
 -- ---- the heartbeat
 
 -- a tick with 1017h at that period, after that many ticks: what is counted, what is sent

@@ -175,6 +175,13 @@ each-type : map (λ t. received 0 (0x06 ∷ 0x00 ∷ []) operational (typed t) .
 unfolding typed open-edges
 each-type = refl
 
+-- each by its own type: receive 2 of type 1 is held, receive 1 of type 255 applied
+own-type : (received 1 (0x06 ∷ 0x00 ∷ 0x01 ∷ []) operational (store (transmissionType 1) 1 fresh) .state
+    ≡ withHeld (none ∷ held3 0x06 1 ∷ none ∷ none ∷ []) operational)
+    × (received 0 (0x06 ∷ 0x00 ∷ []) operational (store (transmissionType 1) 1 fresh) .state ≡ node Operational ReadyToSwitchOn)
+unfolding open-edges
+own-type = (refl, refl)
+
 -- "the latest kept", each for its own PDO; one that is too long is held without what is over
 each-held : (received 1 (0x07 ∷ 0x00 ∷ 0x03 ∷ []) (withHeld (held2 0x06 ∷ held3 0x0F 1 ∷ none ∷ held6 0x0F 9 ∷ []) operational) (typed 1)
     ≡ becomes (withHeld (held2 0x06 ∷ held3 0x07 3 ∷ none ∷ held6 0x0F 9 ∷ []) operational))
