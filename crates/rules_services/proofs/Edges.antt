@@ -14,49 +14,23 @@ use Rattle.drive.specs.declared.DriveState.the-variants.{Fault as InFault}
 use Rattle.state.specs.declared.State.{State}
 use Rattle.state.specs.declared.Pace.{Pace}
 use Rattle.state.specs.declared.Occasion.the-variants.{Plain, Synced, Ticked}
-use Rattle.rules_dictionary.specs.Numbers.{bytes, value, part, open-numbers}
-use Rattle.rules_dictionary.specs.Table.{table, errorRegister, errorCode, controlWord, heartbeatTime, targetPosition, position, velocity}
-use Rattle.rules_dictionary.specs.Table.{transmissionType, mapEntry, mapCount, mappingWord, identifier, open-table}
-use Rattle.rules_dictionary.specs.Values.{write, store, stored, read, open-values, packedDefaults}
+use Rattle.rules_dictionary.specs.Numbers.{bytes, value, part}
+use Rattle.rules_dictionary.specs.Table.{errorRegister, errorCode, controlWord, heartbeatTime, targetPosition, position, velocity}
+use Rattle.rules_dictionary.specs.Table.{transmissionType, mapEntry, mapCount, mappingWord, identifier}
+use Rattle.rules_dictionary.specs.Values.{write, store, stored, read}
 use Rattle.rules_dictionary.specs.Aborts.{abortCode, unknownCommand, noObject, noSubindex, noWriting, tooLong, tooShort, wrongTime, belowRange}
-use Rattle.rules_dictionary.specs.Aborts.{aboveRange, badValue, open-aborts}
-use Rattle.rules_dictionary.specs.Legal.{open-legal}
-use Rattle.rules_dictionary.specs.Plans.{open-plans}
-use Rattle.drive.specs.DriveStates.{open-drive-states}
-use Rattle.drive.specs.SetPoints.{withState, withCause, open-set-points}
-use Rattle.drive.specs.StatusWord.{open-status-word}
-use Rattle.rules_services.specs.Effects.{Effect, Frame, frame, becomes, withNmt, withDrive, withHeartbeat, withHeld, open-effects}
-use Rattle.rules_services.specs.Emergency.{emergency, open-emergency}
-use Rattle.rules_services.specs.Written.{open-written}
-use Rattle.rules_services.specs.Sdo.{sdo, open-sdo}
-use Rattle.rules_services.specs.PdoTraffic.{received, sync, paced, paceOf, works, noData, open-pdo-traffic}
-use Rattle.rules_services.specs.Nmt.{freshState, nmt, tick, open-nmt}
+use Rattle.rules_dictionary.specs.Aborts.{aboveRange, badValue}
+use Rattle.drive.specs.SetPoints.{withCause}
+use Rattle.rules_services.specs.Effects.{Effect, Frame, frame, becomes, withDrive, withHeartbeat, withHeld}
+use Rattle.rules_services.specs.Emergency.{emergency}
+use Rattle.rules_services.specs.Sdo.{sdo}
+use Rattle.rules_services.specs.PdoTraffic.{received, sync, paced, paceOf, works, noData}
+use Rattle.rules_services.specs.Nmt.{nmt, tick}
 use Rattle.rules_services.specs.declared.Told.the-variants.{Happened, Bad}
 use Rattle.rules_services.specs.declared.Event.the-variants.{Fault, Voltage, Started, QuickStopDone, ReactionDone, SetPointReached, CauseGone}
 use Rattle.rules_services.specs.declared.Event.the-variants.{Feedback, Tick}
-use Rattle.rules_services.specs.Events.{eventOf, isInPlace, happens, open-events}
-
--- ---- node 5
-
-fresh : List ℕ
-fresh = packedDefaults 5 table
-
-node : NmtState → DriveState → State
-node m v = withNmt m (withDrive (withState v (freshState 5 .axis .drive)) (freshState 5))
-
-preOperational : State
-preOperational = node PreOperational SwitchOnDisabled
-
-operational : State
-operational = node Operational SwitchOnDisabled
-
-stopped : State
-stopped = node Stopped SwitchOnDisabled
-
-unfoldable open-edges : Unit {0}
-unfolding fresh node preOperational operational stopped packedDefaults open-numbers open-table open-values open-aborts open-legal open-plans
-    open-drive-states open-set-points open-status-word open-effects open-emergency open-written open-sdo open-pdo-traffic open-nmt open-events
-open-edges = tt
+use Rattle.rules_services.specs.Events.{eventOf, isInPlace, happens}
+use Rattle.rules_services.proofs.Node5.{fresh, node, preOperational, operational, stopped, open-edges}
 
 -- ---- SDO
 
