@@ -62,21 +62,21 @@ resets-told = (refl, refl, refl)
 -- ---- a drive that positions, and a dictionary for it
 
 -- limits -1000 and 1500, target 200, position 50, window 10, 6081h 7, 6083h 8, 6084h 9
-bench : List Write → List ℕ
+pub bench : List Write → List ℕ
 bench ws =
     stored (write minimumPosition 0xFFFFFC18 ∷ write maximumPosition 1500 ∷ write targetPosition 200 ∷ write position 50 ∷ write positionWindow 10
     ∷ write profileVelocity 7 ∷ write profileAcceleration 8 ∷ write profileDeceleration 9 ∷ ws) (replicate dictionaryLength 0)
 
-point : ℕ → SetPoint
+pub point : ℕ → SetPoint
 point t = record { target = t; velocity = 7; acceleration = 8; deceleration = 9 }
 
-other : ℕ → SetPoint
+pub other : ℕ → SetPoint
 other t = record { target = t; velocity = 1; acceleration = 2; deceleration = 3 }
 
-drive : Store → Bool → Bool → Drive
+pub drive : Store → Bool → Bool → Drive
 drive st taken limit = record { state = OperationEnabled; mode = ProfilePosition; store = st; taken = taken; limit = limit; cause = false }
 
-unfoldable open-edges : Unit {0}
+unfoldable pub open-edges : Unit {0}
 unfolding bench point other drive open-numbers open-table open-values open-drive-states open-set-points open-status-word
 open-edges = tt
 

@@ -1,5 +1,8 @@
 pub mod Every
 pub mod Edges
+pub mod EdgesOfStates
+pub mod EdgesOfTargets
+pub mod EdgesOfWord
 pub mod Tempting
 pub mod Raised
 pub mod Ways
