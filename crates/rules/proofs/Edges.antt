@@ -104,17 +104,17 @@ entering = refl
 
 -- ---- soundness: node 5 after power-up is sound; each line breaks one clause
 
-good : End
+pub good : End
 good = ended nothing (packedDefaults 5 table) (becomes (freshState 5))
 
-unfoldable open-edges : Unit {0}
+unfoldable pub open-edges : Unit {0}
 unfolding good packedDefaults open-rules
 open-edges = tt
 
-state : State
+unfoldable pub state : State
 state = good .state
 
-dictionary : List ℕ
+unfoldable pub dictionary : List ℕ
 dictionary = good .dictionary
 
 with : (State → State) → Bool

@@ -1,6 +1,9 @@
 pub mod Tempting
 pub mod Examples
 pub mod Edges
+pub mod EdgesOfSound
+pub mod EdgesOfWaiting
+pub mod EdgesOfCalls
 pub mod PowerUp
 pub mod AtEnd
 pub mod Encoded
