@@ -53,6 +53,11 @@ sound-by-clauses s d = simp (and-assoc)
 but : ℕ → List Bool
 but k = replicate k true ++ false ∷ replicate (13 - k) true
 
+-- one clause of the fourteen that does not hold is enough
+one-is-enough : map (λ k. every true (but k)) (0 ∷ 1 ∷ 2 ∷ 3 ∷ 4 ∷ 5 ∷ 6 ∷ 7 ∷ 8 ∷ 9 ∷ 10 ∷ 11 ∷ 12 ∷ 13 ∷ []) ≡ replicate 14 false
+unfolding every but
+one-is-enough = refl
+
 -- ---- node 5, with that drive and those values, its 6041h, plans and ready frames as the rules make them
 
 made : Drive → List Write → End
@@ -84,8 +89,10 @@ open-said = tt
 node-id-alone : (said resting (write emergencyIdentifier 0x80 ∷ []) (withId 0) ≡ but 0)
     × (said resting (write emergencyIdentifier 0x100 ∷ []) (withId 128) ≡ but 0)
     × (map isNodeId (0 ∷ 1 ∷ 127 ∷ 128 ∷ []) ≡ false ∷ true ∷ true ∷ false ∷ [])
+    × (let e = made resting (write emergencyIdentifier 0x80 ∷ []) in sound (withId 0 (e .state)) (e .dictionary) ≡ false)
+    × (let e = made resting (write emergencyIdentifier 0x100 ∷ []) in sound (withId 128 (e .state)) (e .dictionary) ≡ false)
 unfolding open-said
-node-id-alone = (refl, refl, refl)
+node-id-alone = (refl, refl, refl, refl, refl)
 
 -- "constants as listed, values in range, mappings and PDO identifiers legal": 6502h 7, 6083h 0, a transmit object in 1600h:8, 1400h:1 305h
 dictionary-alone : (said resting (write supportedModes 7 ∷ []) same ≡ but 1) × (said resting (write profileAcceleration 0 ∷ []) same ≡ but 2)

@@ -157,9 +157,11 @@ cause-gone = (refl, refl)
 voltage-told : (happens (Voltage true) (withHeartbeat 3 (node Stopped OperationEnabled)) fresh
     ≡ becomes (withVoltage true (withHeartbeat 3 (node Stopped OperationEnabled))))
     × (happens (Voltage true) (withHeartbeat 3 operational) fresh .state .node ≡ record { id = 5; nmt = Operational; voltage = true; heartbeat = 3 })
+    × (happens (Voltage true) (withHeartbeat 3 (node Stopped NotReady)) fresh .state .node
+    ≡ record { id = 5; nmt = Stopped; voltage = true; heartbeat = 3 })
     × (happens (Voltage false) (withVoltage true operational) fresh ≡ becomes operational)
 unfolding open-edges
-voltage-told = (refl, refl, refl)
+voltage-told = (refl, refl, refl, refl)
 
 -- event 5: position in 6064h, velocity in 606Ch, in every NMT state, and nothing sent
 feedback-told : (map (after fresh (happens (Feedback 0xFFFFFFFE 0x00011170) (node Stopped NotReady) fresh)) (position ∷ velocity ∷ [])
