@@ -3,7 +3,7 @@
 -- Assumes nothing.
 use Prim.Native.Nat.{ℕ}
 use mathlib.Core.Path.{_≡_, refl}
-use mathlib.Core.Bool.{Bool, true, false}
+use mathlib.Core.Bool.{true, false}
 use mathlib.Core.List.{List, [], _∷_, _++_, map}
 use lib.ListN.{replicate}
 use Rattle.rules_dictionary.specs.declared.Move.{Move}
@@ -14,9 +14,9 @@ use Rattle.state.specs.declared.Refusal.{Refusal}
 use Rattle.state.specs.declared.Refusal.the-variants.{Accepted, DictionaryLength, OutputLength, NodeId, NotSound, BadFrame, BadEvent, OutOfPlace}
 use Rattle.rules_services.specs.Effects.{frame, becomes}
 use Rattle.rules.specs.Outcome.{encoded, sentInto, sameMove, samePlan, sameData}
-use Rattle.rules.specs.Calls.{Call, powerUpCall, frameCall, eventCall, Outcome, framed, answer, refusalNumber}
+use Rattle.rules.specs.Calls.{Call, powerUpCall, frameCall, eventCall, framed, answer, refusalNumber}
 use Rattle.rules.specs.Scripts.{line, fromNothing, nothing, open-rules}
-use Rattle.rules.specs.Examples.{example1, request, reply, emergency, nmt, write1, write2, control, fourPdos, open-examples}
+use Rattle.rules.specs.Examples.{example1, request, reply, nmt, write1, fourPdos, open-examples}
 use Rattle.rules.proofs.Edges.{state, dictionary, open-edges}
 
 -- ---- the numbers

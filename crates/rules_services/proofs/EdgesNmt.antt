@@ -20,7 +20,7 @@ use Rattle.drive.specs.declared.Store.the-variants.{Empty, Moving}
 use Rattle.rules_dictionary.specs.Table.{errorRegister, errorCode, controlWord, mode, heartbeatTime, targetPosition}
 use Rattle.rules_dictionary.specs.Table.{mapCount, identifier, transmissionType}
 use Rattle.rules_dictionary.specs.Values.{write, store, stored}
-use Rattle.rules_services.specs.Effects.{Effect, Frame, frame, becomes}
+use Rattle.rules_services.specs.Effects.{Frame, frame, becomes}
 use Rattle.rules_services.specs.Nmt.{nmt, tick, powerUp, nmtIdentifier, nmtLength}
 use Rattle.rules_services.proofs.Node5.{fresh, node, after, open-edges}
 
