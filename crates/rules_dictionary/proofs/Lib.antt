@@ -7,9 +7,9 @@ pub mod Members
 pub mod LookUp
 pub mod Plans
 pub mod Edges
-pub mod Verdicts
-pub mod Identifiers
-pub mod Mappings
-pub mod Moves
-pub mod Readings
-pub mod Printed
+pub mod EdgesOfVerdicts
+pub mod EdgesOfIdentifiers
+pub mod EdgesOfMappings
+pub mod EdgesOfPlans
+pub mod EdgesOfReadings
+pub mod EdgesOfRows

@@ -1,7 +1,7 @@
 pub mod Node5
 pub mod Edges
-pub mod EdgesSdo
-pub mod EdgesPdo
-pub mod EdgesNmt
-pub mod EdgesEvents
+pub mod EdgesOfSdo
+pub mod EdgesOfPdos
+pub mod EdgesOfNmt
+pub mod EdgesOfEvents
 pub mod Tempting

@@ -10,7 +10,7 @@ use Rattle.rules_dictionary.specs.declared.PdoData.{PdoData}
 use Rattle.rules_dictionary.specs.Table.{errorRegister, errorCode, statusWord, modeDisplay, position, velocity, identifier, mapCount, mapEntry}
 use Rattle.rules_dictionary.specs.Values.{stored, write, Write}
 use Rattle.rules_dictionary.specs.Plans.{plansOf, planFor, readyOf, pdoData}
-use Rattle.rules_dictionary.proofs.Verdicts.{times}
+use Rattle.rules_dictionary.proofs.EdgesOfVerdicts.{times}
 use Rattle.rules_dictionary.proofs.Edges.{fresh, open-edges}
 
 -- a plan as its count and its moves, a frame as its length and its bytes

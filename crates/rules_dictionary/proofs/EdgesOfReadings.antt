@@ -19,7 +19,7 @@ use Rattle.rules_dictionary.specs.Values.{read, store, stored, write, un
 use Rattle.rules_dictionary.specs.Legal.{modeNumber, modes, isMode, isSynchronous, isCyclic, isEventDriven, isType, isValid, frameIdentifier}
 use Rattle.rules_dictionary.specs.Legal.{reservedBits, transmits, identifiers, mapWords}
 use Rattle.rules_dictionary.proofs.Edges.{fresh, open-edges}
-use Rattle.rules_dictionary.proofs.Verdicts.{times}
+use Rattle.rules_dictionary.proofs.EdgesOfVerdicts.{times}
 
 -- ---- numbers
 

@@ -15,7 +15,7 @@ use Rattle.rules_dictionary.specs.Table.{ValueType, u8, u16, u32, i8, i3
 use Rattle.rules_dictionary.specs.Table.{placeOf, isReset}
 use Rattle.rules_dictionary.specs.Values.{defaultOf}
 use Rattle.rules_dictionary.proofs.Edges.{open-edges}
-use Rattle.rules_dictionary.proofs.Verdicts.{times}
+use Rattle.rules_dictionary.proofs.EdgesOfVerdicts.{times}
 
 -- what the paper says of a row; the place follows from the sizes of the rows before it, the defaults are those of nodes 5 and 127
 record Entry : Type 0 where

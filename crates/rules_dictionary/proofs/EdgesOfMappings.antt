@@ -6,7 +6,7 @@ use mathlib.Core.List.{List, [], _∷_, _++_, map}
 use Rattle.rules_dictionary.specs.Table.{pdos, mapCount, mapEntry}
 use Rattle.rules_dictionary.specs.Legal.{countVerdict}
 use Rattle.rules_dictionary.proofs.Edges.{fresh, open-edges}
-use Rattle.rules_dictionary.proofs.Verdicts.{code, answers, times}
+use Rattle.rules_dictionary.proofs.EdgesOfVerdicts.{code, answers, times}
 
 -- ---- mapping entries
 

@@ -9,7 +9,7 @@ use Rattle.rules_dictionary.specs.Table.{pdos, identifier}
 use Rattle.rules_dictionary.specs.Values.{store}
 use Rattle.rules_dictionary.specs.Legal.{badIdentifier}
 use Rattle.rules_dictionary.proofs.Edges.{fresh, open-edges}
-use Rattle.rules_dictionary.proofs.Verdicts.{answers, times}
+use Rattle.rules_dictionary.proofs.EdgesOfVerdicts.{answers, times}
 
 -- the codes that identifier words get in a PDO whose own word is the one in front, an invalid one
 abbrev told : ℕ → ℕ → List ℕ → List ℕ
