@@ -89,7 +89,8 @@ commandOf c =
     cond (eqb c 0x01) start
     (cond (eqb c 0x02) stop (cond (eqb c 0x80) enterPreOperational (cond (eqb c 0x81) resetNode (cond (eqb c 0x82) resetCommunication unknown))))
 
--- "Leaving Operational clears held frames, counts and due marks."
+-- "Leaving Operational clears held frames, counts and due marks." The call's end would clear counts and due marks too (`Outcome.paceFor`: a PDO
+-- that does not work keeps none); they are cleared here as well, so that the state which leaves Operational is sound by itself.
 unfoldable pub left : State → State
 left s = withHeld noneHeld (withPaces allIdle s)
 
