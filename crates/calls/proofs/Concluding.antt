@@ -9,7 +9,7 @@ use borrow.Author.Tests.{eqb-true}
 use lib.Dec.{eqb}
 use lib.ListN.{length, getD, length-append}
 use Rattle.rules_dictionary.specs.Numbers.{areBytes}
-use Rattle.rules_dictionary.specs.Table.{Row, eachWay}
+use Rattle.rules_dictionary.specs.Table.{eachWay}
 use Rattle.rules_dictionary.specs.Values.{stored}
 use Rattle.rules_dictionary.specs.Plans.{plansOf, readyOf}
 use Rattle.rules_dictionary.specs.Members.{In}
@@ -99,8 +99,8 @@ transmitter t h =
 few-spoken : (n : ℕ) (e : Effect) → SpeaksAs n e → length (e .sent) ≤ mostBefore
 few-spoken n e w = subst (λ (l : List Frame). length l ≤ mostBefore) (sym (w .1 .whole)) (rw (length-append, length-append) (w .1 .few))
 
-module _ {s : State} {d o : List ℕ} {e : Effect} {r : Done} {bs′ d′ o′ : List ℕ} {xs : List Row} (h : Stands s d o) (b : areBytes d ≡ true)
-    (serves : Serves Unit s d xs e) (left : Leaves s e d o r bs′ d′ o′) (rest : Rests s e r) where
+module _ {s : State} {d o : List ℕ} {e : Effect} {r : Done} {bs′ d′ o′ : List ℕ} (h : Stands s d o) (b : areBytes d ≡ true)
+    (serves : Serves Unit s d e) (left : Leaves s e d o r bs′ d′ o′) (rest : Rests s e r) where
   law : Lawful s d
   law = sound-lawful s d (h .long) (h .sound)
 

@@ -106,11 +106,11 @@ applied-applies ws s d may =
     }
 
 -- held frames released, one after another
-releases-apply : {xs : List Row} {s : State} {d : List ℕ} {e : Effect} → Releases xs s d e → Applies s e
+releases-apply : {s : State} {d : List ℕ} {e : Effect} → Releases s d e → Applies s e
 unfolding andThen
 releases-apply Releases.none = record { nmt = refl; paces = refl; rows = λ w i. absurd (none-in i); quiet = inr (λ w i. absurd (none-in i)) }
 releases-apply (Releases.skips rest) = let b = releases-apply rest in record { nmt = b .nmt; paces = b .paces; rows = b .rows; quiet = b .quiet }
-releases-apply {s = s} {d = d} (Releases.next h ws {e} cleared may inside rest) =
+releases-apply {s = s} {d = d} (Releases.next h ws {e} cleared may rest) =
     let a = applied-applies ws (withHeld h s) d may in
     let b = releases-apply rest in
     let first = applied ws (withHeld h s) d .writes in
@@ -139,12 +139,12 @@ power-up-regular n s = outside s _ (λ w i. defaults-within n table w (rw append
 
 -- ---- THE LAW
 
-pub regular : {K : Type 0} {s : State} {d : List ℕ} {xs : List Row} {e : Effect} → Serves K s d xs e → K → Lawful s d → Regular s e
+pub regular : {K : Type 0} {s : State} {d : List ℕ} {e : Effect} → Serves K s d e → K → Lawful s d → Regular s e
 unfolding commanded powerUp freshState voltageDisabled left faulted
 regular {s = s} Serves.nothing k law = unwritten s _ refl (λ on. refl)
 regular {s = s} (Serves.replies c v rq small octet) k law = unwritten s _ refl (λ on. refl)
 regular {s = s} (Serves.alarms l code) k law = unwritten s _ refl (λ on. refl)
-regular {s = s} {d = d} (Serves.applies ws before may inside) k law =
+regular {s = s} {d = d} (Serves.applies ws before may) k law =
     let r = applies-regular (applied-applies ws s d (may k law)) in
     record { rows = r .rows; paces = r .paces; idle = r .idle }
 regular {s = s} (Serves.holds bs l i on synchronous long legal) k law = unwritten s _ refl (λ on. refl)
@@ -154,15 +154,15 @@ regular (Serves.releases r) k law =
 regular {s = s} (Serves.starts h idle) k law = unwritten s _ refl (λ on. refl)
 regular {s = s} Serves.leaves k law = unwritten s _ refl (λ on. absurd (false≢true on))
 regular {s = s} Serves.stops k law = unwritten s _ refl (λ on. absurd (false≢true on))
-regular {s = s} (Serves.resets inside) k law =
+regular {s = s} Serves.resets k law =
     outside s _ (λ w i. filtered isReset table (defaults-within (s .node .id) (filter isReset table) w (rw append-nil at i)) .0) refl
-regular {s = s} (Serves.begins inside) k law = power-up-regular (s .node .id) s
+regular {s = s} Serves.begins k law = power-up-regular (s .node .id) s
 regular {s = s} (Serves.moves q h) k law = unwritten s _ refl (λ on. refl)
 regular {s = s} (Serves.reaches h) k law = unwritten s _ refl (λ on. refl)
 regular {s = s} Serves.recovers k law = unwritten s _ refl (λ on. refl)
-regular {s = s} (Serves.faults code register fits inside) k law =
+regular {s = s} (Serves.faults code register fits) k law =
     record { rows = two-rows (code-row .inside) register-in; paces = λ on. refl; idle = λ h. absurd (false≢true h) }
-regular {s = s} (Serves.feeds at speed fits inside) k law =
+regular {s = s} (Serves.feeds at speed fits) k law =
     record { rows = two-rows (position-row .inside) (velocity-row .inside); paces = λ on. refl; idle = λ h. absurd (false≢true h) }
 regular {s = s} (Serves.powers v) k law = unwritten s _ refl (λ on. refl)
 regular {s = s} Serves.rests k law = unwritten s _ refl (λ on. refl)

@@ -24,6 +24,7 @@ use Rattle.rules_services.specs.Emergency.{emergency}
 use Rattle.drive.specs.SetPoints.{controlWritten}
 use Rattle.state.specs.NmtStates.{isStopped}
 use Rattle.rules.specs.Outcome.{frameSize, sentInto}
+use Rattle.theorems.proofs.Booleans.{same-test}
 use Rattle.form.specs.Form.{stateOf}
 use Rattle.form.specs.Holding.{Holds, Puts}
 use Rattle.form.proofs.Holding.{held-state}
@@ -103,12 +104,6 @@ module _ (rq bs d : List ℕ) {e : Entry} (st : Stands (sdo.askedIndex rq) (sdo.
 -- a test by place is the test by index and subindex
 isAt : Row → Row → Bool
 isAt y x = Bool·beq (wrote y (write x 0 ∷ [])) (eqb (placeOf x) (placeOf y))
-
-same-test : (a b : Bool) → Bool·beq a b ≡ true → a ≡ b
-same-test true true h = refl
-same-test true false h = sym h
-same-test false true h = h
-same-test false false h = refl
 
 wrote-at : (y : Row) → all (isAt y) table ≡ true → {x : Row} → In x table → (v : ℕ) → wrote y (write x v ∷ []) ≡ eqb (placeOf x) (placeOf y)
 unfolding isAt

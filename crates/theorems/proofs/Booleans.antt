@@ -3,7 +3,7 @@
 use Prim.Native.Nat.{ℕ}
 use mathlib.Core.Path.{_≡_, refl, sym, _∙_}
 use mathlib.Core.Logic.{_⊎_, inl, inr}
-use mathlib.Core.Bool.{Bool, true, false, cond, not, _&&_, _||_, and-assoc, false≢true, true≢false}
+use mathlib.Core.Bool.{Bool, true, false, cond, not, _&&_, _||_, Bool·beq, and-assoc, false≢true, true≢false}
 use mathlib.Core.List.{List, [], _∷_, _++_}
 use lib.Dec.{eqb}
 use borrow.Author.Tests.{eqb-true, eq-eqb, ne-eqb}
@@ -32,6 +32,24 @@ by-match P false h k = k refl
 pub whichever {ℓ κ} : {A : Type ℓ} (P : A → Type κ) (b : Bool) {x y : A} → P x → P y → P (cond b x y)
 whichever P true h k = h
 whichever P false h k = k
+
+-- two that one test decides: each way together
+pub both-by-test {ℓ κ μ} : {A : Type ℓ} {B : Type κ} (P : A → B → Type μ) (b : Bool) {x y : A} {u v : B} → (b ≡ true → P x u) →
+    (b ≡ false → P y v) → P (cond b x y) (cond b u v)
+both-by-test P true h k = h refl
+both-by-test P false h k = k refl
+
+pub both-by-match {ℓ κ μ} : {A : Type ℓ} {B : Type κ} (P : A → B → Type μ) (b : Bool) {x y : A} {u v : B} → (b ≡ true → P x u) →
+    (b ≡ false → P y v) → P (elim b [ true ↦ x | false ↦ y ]) (elim b [ true ↦ u | false ↦ v ])
+both-by-match P true h k = h refl
+both-by-match P false h k = k refl
+
+-- two tests that were tested to be alike
+pub same-test : (a b : Bool) → Bool·beq a b ≡ true → a ≡ b
+same-test true true h = refl
+same-test true false h = sym h
+same-test false true h = h
+same-test false false h = refl
 
 pub or-false-left : (a b : Bool) → (a || b) ≡ false → a ≡ false
 or-false-left true b h = absurd (true≢false h)

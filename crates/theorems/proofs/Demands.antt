@@ -229,7 +229,7 @@ module _ (n : ℕ) (d : List ℕ) (ok : DictionaryOk n d) (m : NmtState) where
   fit {p} i = fits (λ q. read d (identifier q)) (read d (identifier p)) i (ok .named p i)
 
   -- two that listen on one identifier are one
-  one-listener : (p q i : ℕ) → In p pdos → In q pdos → listens i m d p ≡ true → listens i m d q ≡ true → q ≡ p
+  pub one-listener : (p q i : ℕ) → In p pdos → In q pdos → listens i m d p ≡ true → listens i m d q ≡ true → q ≡ p
   one-listener p q i j k h g =
       let a = hears m d p i h in
       let b = hears m d q i g in

@@ -10,9 +10,10 @@ pub mod SdoKept
 pub mod PdoKept
 pub mod Services
 pub mod Runs
-pub mod Changes
 pub mod Demands
 pub mod Sent
 pub mod Taken
+pub mod Listed
+pub mod Changes
 pub mod ShutOut
 pub mod Telling

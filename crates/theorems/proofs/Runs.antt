@@ -1,7 +1,7 @@
 -- Every call keeps what holds between calls, and so do runs.
 -- Assumes nothing.
 use Rattle.rules_dictionary.specs.Numbers.{areBytes, isByte, value, part}
-use Rattle.rules_dictionary.specs.Table.{Row, dictionaryLength, statusWord, modeDisplay, position, velocity, eachWay}
+use Rattle.rules_dictionary.specs.Table.{dictionaryLength, statusWord, modeDisplay, position, velocity, eachWay}
 use Rattle.rules_dictionary.specs.{Legal.modeNumber, TheNode.isNodeId, Values.store, Values.stored, Plans.plansOf, Plans.readyOf}
 use Rattle.theorems.proofs.Words.{ℕ, zero, suc, _^_, _<_, _≤_, arith, _≡_, refl, sym, _∙_, ap, subst, inl, inr, Bool, true, false, not, In}
 use Rattle.theorems.proofs.Words.{PreOperational, here, there, isStopped, _+_, whichever, _&&_, _||_, or-true, List, [], _∷_, append-nil}
@@ -25,8 +25,7 @@ use Rattle.rules.specs.Outcome.{ended, settled, mostData, statusOf, transmitter
 use Rattle.rules.specs.Sound.{sound, heartbeatSound, statusAsMade, modeAsMade, plansFresh, readyFresh, waitingSound, paceSound}
 use Rattle.rules.specs.Calls.{Call, powerUpCall, frameCall, eventCall, Decision, refuses as refusedBy, does as performs, eventDecision, decision}
 use Rattle.rules.specs.Calls.{decided, refused, accepted, answered, answer, Outcome, refusalNumber, outputLength, lastFrameIdentifier}
-use Rattle.theorems.specs.Promises.{Step, Stand, left, after, octets, allOctets, Run, reached, SoundAt, SoundAlways, NeverUnsound, byEvent}
-use Rattle.theorems.specs.Promises.{byTold, byFrame, mayChange}
+use Rattle.theorems.specs.Promises.{Step, Stand, left, after, octets, allOctets, Run, reached, SoundAt, SoundAlways, NeverUnsound}
 
 -- ---- what holds between calls
 
@@ -93,34 +92,33 @@ ended-holds s d e l b law =
 
 -- ---- every service leaves a lawful state
 
-releases-lawful : {xs : List Row} {s : State} {d : List ℕ} {e : Effect} → Releases xs s d e → Lawful s d → LawfulAfter d e
+releases-lawful : {s : State} {d : List ℕ} {e : Effect} → Releases s d e → Lawful s d → LawfulAfter d e
 unfolding andThen stored
 releases-lawful Releases.none law = law
 releases-lawful (Releases.skips rest) law = releases-lawful rest law
-releases-lawful {s = s} {d = d} (Releases.next h ws {e} cleared may inside rest) law =
+releases-lawful {s = s} {d = d} (Releases.next h ws {e} cleared may rest) law =
     rw (stored-append (applied ws (withHeld h s) d .writes) (e .writes) d) (releases-lawful rest (applied-lawful (withHeld h s) d ws cleared may))
 
-pub lawful : {K : Type 0} {s : State} {d : List ℕ} {xs : List Row} {e : Effect} → Serves K s d xs e → K → areBytes d ≡ true → Lawful s d →
-    LawfulAfter d e
+pub lawful : {K : Type 0} {s : State} {d : List ℕ} {e : Effect} → Serves K s d e → K → areBytes d ≡ true → Lawful s d → LawfulAfter d e
 unfolding stored heartbeatSound commanded
 lawful Serves.nothing k b law = law
 lawful (Serves.replies c v rq small octet) k b law = law
 lawful (Serves.alarms l code) k b law = law
-lawful {s = s} {d = d} (Serves.applies ws before may inside) k b law = applied-lawful s d ws law (may k law)
+lawful {s = s} {d = d} (Serves.applies ws before may) k b law = applied-lawful s d ws law (may k law)
 lawful {s = s} {d = d} (Serves.holds bs l i on synchronous long legal) k b law =
     held-lawful s d _ law i (new-held (s .node .id) d bs (s .node .nmt) (law .dictionary) i on synchronous long legal)
 lawful (Serves.releases r) k b law = releases-lawful r law
 lawful {s = s} {d = d} (Serves.starts h idle) k b law = start-lawful s d (law .long) h idle
 lawful {s = s} {d = d} Serves.leaves k b law = left-lawful s d PreOperational law
 lawful {s = s} {d = d} Serves.stops k b law = left-lawful (voltageDisabled s) d Stopped (disabled-lawful s d law)
-lawful {s = s} {d = d} (Serves.resets inside) k b law = rw append-nil (reset-lawful s d law)
-lawful {s = s} {d = d} (Serves.begins inside) k b law = fresh-lawful (s .node .id) d (law .id) (law .long)
+lawful {s = s} {d = d} Serves.resets k b law = rw append-nil (reset-lawful s d law)
+lawful {s = s} {d = d} Serves.begins k b law = fresh-lawful (s .node .id) d (law .id) (law .long)
 lawful {s = s} {d = d} (Serves.moves q h) k b law = enters-lawful s d law q (h k)
 lawful {s = s} {d = d} (Serves.reaches h) k b law =
     drive-lawful s d (withStore (reachedBy (s .axis .drive .store)) (s .axis .drive)) law refl (reached-sound (s .axis .drive) d (law .drive) (h k))
 lawful {s = s} {d = d} Serves.recovers k b law = gone-lawful s d law
-lawful {s = s} {d = d} (Serves.faults code register fits inside) k b law = fault-lawful code register s d law b (fits k .0) (fits k .1)
-lawful {s = s} {d = d} (Serves.feeds at speed fits inside) k b law =
+lawful {s = s} {d = d} (Serves.faults code register fits) k b law = fault-lawful code register s d law b (fits k .0) (fits k .1)
+lawful {s = s} {d = d} (Serves.feeds at speed fits) k b law =
     plain-lawful s (store position at d) velocity speed (plain-lawful s d position at law position-row (fits k .0)) velocity-row (fits k .1)
 lawful {s = s} {d = d} (Serves.powers v) k b law =
     node-lawful s d (s .node .nmt) v (s .node .heartbeat) (s .axis .paces) (s .axis .held) law (law .heartbeat) (law .waits)
@@ -169,29 +167,28 @@ isUnsound r = eqb (refusalNumber r) (refusalNumber NotSound)
 
 pub data Decides (s : State) (d : List ℕ) (c : Call) : Decision → Type 0 where
   refuses : (r : Refusal) → (not (isUnsound r) || not (sound s d)) ≡ true → Decides s d c (refusedBy r)
-  begins : (n : ℕ) → c ≡ powerUpCall n → isNodeId n ≡ true → length d ≡ dictionaryLength → Decides s d c (performs (powerUp n))
-  serves : {e : Effect} (xs : List Row) → mayChange c s d ≡ statusWord ∷ modeDisplay ∷ xs → Lawful s d → Serves (octets c ≡ true) s d xs e →
-      Decides s d c (performs e)
+  begins : (n : ℕ) → isNodeId n ≡ true → length d ≡ dictionaryLength → Decides s d c (performs (powerUp n))
+  serves : {e : Effect} → Lawful s d → Serves (octets c ≡ true) s d e → Decides s d c (performs e)
 
 module _ (s : State) (d : List ℕ) where
-  told-decides : (k : ℕ) (xs : List ℕ) (t : Told) → mayChange (eventCall k xs) s d ≡ statusWord ∷ modeDisplay ∷ byTold t →
-      (areBytes xs ≡ true → ToldFits t) → Lawful s d → Decides s d (eventCall k xs) (eventDecision t s d)
+  told-decides : (k : ℕ) (xs : List ℕ) (t : Told) → (areBytes xs ≡ true → ToldFits t) → Lawful s d →
+      Decides s d (eventCall k xs) (eventDecision t s d)
   unfolding eventDecision
-  told-decides k xs Bad q fits law = refuses BadEvent refl
-  told-decides k xs (Happened e) q fits law =
-      by-match (Decides s d (eventCall k xs)) (isInPlace e s) (λ h. serves (byEvent e) q law (event-serves (areBytes xs ≡ true) s d e (λ b. h) fits))
+  told-decides k xs Bad fits law = refuses BadEvent refl
+  told-decides k xs (Happened e) fits law =
+      by-match (Decides s d (eventCall k xs)) (isInPlace e s) (λ h. serves law (event-serves (areBytes xs ≡ true) s d e (λ b. h) fits))
       (λ h. refuses OutOfPlace refl)
 
   decision-decides : (c : Call) → length d ≡ dictionaryLength → Decides s d c (decision c s d)
-  unfolding decision mayChange
-  decision-decides (powerUpCall n) l = by-match (Decides s d (powerUpCall n)) (isNodeId n) (λ h. begins n refl h l) (λ h. refuses NodeId refl)
+  unfolding decision
+  decision-decides (powerUpCall n) l = by-match (Decides s d (powerUpCall n)) (isNodeId n) (λ h. begins n h l) (λ h. refuses NodeId refl)
   decision-decides (frameCall i bs) l =
       by-match (Decides s d (frameCall i bs)) (sound s d)
       (λ h. by-match (Decides s d (frameCall i bs)) (leb i lastFrameIdentifier && leb (length bs) mostData)
-      (λ fine. serves (byFrame i bs s d) refl (sound-lawful s d l h) (framed-serves (areBytes bs ≡ true) s d i bs (λ b. b) (sound-lawful s d l h) h))
+      (λ fine. serves (sound-lawful s d l h) (framed-serves (areBytes bs ≡ true) s d i bs (λ b. b) (sound-lawful s d l h) h))
       (λ bad. refuses BadFrame refl)) (λ h. refuses NotSound (false-not (sound s d) h))
   decision-decides (eventCall k xs) l =
-      by-match (Decides s d (eventCall k xs)) (sound s d) (λ h. told-decides k xs (eventOf k xs) refl (arguments-fit k xs) (sound-lawful s d l h))
+      by-match (Decides s d (eventCall k xs)) (sound s d) (λ h. told-decides k xs (eventOf k xs) (arguments-fit k xs) (sound-lawful s d l h))
       (λ h. refuses NotSound (false-not (sound s d) h))
 
   pub decides : (c : Call) (o : List ℕ) → Decides s d c (decided c s d o)
@@ -210,9 +207,9 @@ answered-holds : {c : Call} {x : Decision} (a : Stand) (o : List ℕ) → Decide
     Holds (standing (answered x (a .state) (a .dictionary) o))
 unfolding answered refused accepted
 answered-holds a o (refuses r q) k h = h
-answered-holds a o (begins n q legal long) k h =
+answered-holds a o (begins n legal long) k h =
     ended-holds (a .state) (a .dictionary) (powerUp n) long (h .at .bytes) (fresh-lawful n (a .dictionary) legal long)
-answered-holds a o (serves {e} xs q law v) k h = ended-holds (a .state) (a .dictionary) e (law .long) (h .at .bytes) (lawful v k (h .at .bytes) law)
+answered-holds a o (serves {e} law v) k h = ended-holds (a .state) (a .dictionary) e (law .long) (h .at .bytes) (lawful v k (h .at .bytes) law)
 
 -- THE STEP
 pub step-holds : (k : Step) (a : Stand) → octets (k .call) ≡ true → Holds a → Holds (left k a)
@@ -259,5 +256,5 @@ never-unsound r k =
     sure s d (refuses x q) h e =
         clash (isUnsound x) (ap isUnsound e)
         (not-true (isUnsound x) (elim (or-either (not (isUnsound x)) _ q) [ inl k ↦ k | inr k ↦ clash (sound s d) h (not-true _ k) ]))
-    sure s d (begins n q legal long) h e = clash (isUnsound Accepted) (ap isUnsound e) refl
-    sure s d (serves xs q law v) h e = clash (isUnsound Accepted) (ap isUnsound e) refl
+    sure s d (begins n legal long) h e = clash (isUnsound Accepted) (ap isUnsound e) refl
+    sure s d (serves law v) h e = clash (isUnsound Accepted) (ap isUnsound e) refl

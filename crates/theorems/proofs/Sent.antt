@@ -162,7 +162,7 @@ unfolding resets next
 reset-leaves cause s c h =
     not-true _ (implied (resets cause s c) _ (on-ways (λ b s c. not (resets b s c) || not (isFault (next b s c))) refl cause s c) h)
 
-control-state : (d : List ℕ) (old : ℕ) (v : Drive) →
+pub control-state : (d : List ℕ) (old : ℕ) (v : Drive) →
     controlWritten d old v .drive .state ≡ next (v .cause) (v .state) (command old (read d controlWord))
 unfolding controlWritten enters
 control-state d old v =
@@ -182,14 +182,19 @@ calm-silent : (s t : State) → t .node .id ≡ s .node .id → (isFault (s .axi
 calm-silent s t i h = record { alarms = none-on (emergencyBase + s .node .id) 1; id = i; quiet = λ q. (refl, h q); once = inl refl }
 
 -- the state that the control word finds
-found-by : (ws : List Write) (s : State) (d : List ℕ) →
-    let t = modeActed ws (countRestarted ws s) d in (t .node .id ≡ s .node .id) × (t .axis .drive .state ≡ s .axis .drive .state)
+pub found-by : (ws : List Write) (s : State) (d : List ℕ) →
+    let t = modeActed ws (countRestarted ws s) d in
+    (t .node .id ≡ s .node .id) × (t .axis .drive .state ≡ s .axis .drive .state) × (t .axis .drive .cause ≡ s .axis .drive .cause)
+    × (t .axis .held ≡ s .axis .held)
 unfolding modeActed countRestarted modeWritten
 found-by ws s d =
-    let F : State → Type 0 = λ t. (t .node .id ≡ s .node .id) × (t .axis .drive .state ≡ s .axis .drive .state) in
+    let F : State → Type 0 = λ t.
+    (t .node .id ≡ s .node .id) × (t .axis .drive .state ≡ s .axis .drive .state) × (t .axis .drive .cause ≡ s .axis .drive .cause)
+    × (t .axis .held ≡ s .axis .held) in
     let t = countRestarted ws s in
-    let beat : F t = whichever F (wrote heartbeatTime ws) (refl, refl) (refl, refl) in
-    whichever F (wrote mode ws) (beat .0, emptied-same (withMode (modeOf (read d mode)) (t .axis .drive)) .state ∙ beat .1) beat
+    let beat : F t = whichever F (wrote heartbeatTime ws) (refl, refl, refl, refl) (refl, refl, refl, refl) in
+    let k = emptied-same (withMode (modeOf (read d mode)) (t .axis .drive)) in
+    whichever F (wrote mode ws) (beat .0, k .state ∙ beat .1, k .cause ∙ beat .2, beat .3) beat
 
 applied-calm : (ws : List Write) (s : State) (d : List ℕ) → areBytes d ≡ true → length d ≡ dictionaryLength →
     Calm s (applied ws s d .sent) (applied ws s d .state)
@@ -229,12 +234,12 @@ calm-then s t u fs gs a b =
       once = elim (a .once) [ inl q ↦ elim (b .once) [ inl r ↦ inl (ap₂ _++_ q r) | inr r ↦ inr r ] | inr q ↦ inr (b .quiet q .1) ];
     }
 
-releases-calm : {xs : List Row} {s : State} {d : List ℕ} {e : Effect} → Releases xs s d e → areBytes d ≡ true → length d ≡ dictionaryLength →
+releases-calm : {s : State} {d : List ℕ} {e : Effect} → Releases s d e → areBytes d ≡ true → length d ≡ dictionaryLength →
     Calm s (e .sent) (e .state)
 unfolding andThen
 releases-calm {s = s} Releases.none b l = calm-silent s s refl (λ h. h)
 releases-calm (Releases.skips rest) b l = releases-calm rest b l
-releases-calm {s = s} {d = d} (Releases.next h ws {e} cleared may inside rest) b l =
+releases-calm {s = s} {d = d} (Releases.next h ws {e} cleared may rest) b l =
     let a = applied ws (withHeld h s) d in
     let c = applied-calm ws (withHeld h s) d b l in
     calm-then s (a .state) (e .state) (a .sent) (e .sent) (record { alarms = c .alarms; id = c .id; quiet = c .quiet; once = c .once })
@@ -259,7 +264,7 @@ module _ {K : Type 0} {s : State} {d : List ℕ} (k : K) (b : areBytes d ≡ tru
       alarmed-spoken (s .node .id) (longer w s d ++ gs)
       (both-on i 1 1 (longer w s d) gs (whichever (On i 1) w (emergency-on _ s d b l) (none-on i 1)) a)
 
-  pub speaks : {xs : List Row} {e : Effect} → Serves K s d xs e → SpeaksAs (s .node .id) e
+  pub speaks : {e : Effect} → Serves K s d e → SpeaksAs (s .node .id) e
   unfolding commanded powerUp freshState voltageDisabled left faulted
   speaks Serves.nothing = (refl, silent (s .node .id))
   speaks (Serves.replies c v rq small octet) = (
@@ -268,7 +273,7 @@ module _ {K : Type 0} {s : State} {d : List ℕ} (k : K) (b : areBytes d ≡ tru
         (none-on (emergencyBase + s .node .id) 1),
   )
   speaks (Serves.alarms w code) = (refl, behind (Before.warned w) (emergency code s d ++ []) (rw append-nil (emergency-on code s d b l)))
-  speaks (Serves.applies ws before may inside) =
+  speaks (Serves.applies ws before may) =
       let c = applied-calm ws s d b l in
       (c .id, behind before (applied ws s d .sent) (c .alarms))
   speaks (Serves.holds bs w i on synchronous long legal) = (refl, behind (Before.warned w) [] (none-on (emergencyBase + s .node .id) 1))
@@ -278,16 +283,16 @@ module _ {K : Type 0} {s : State} {d : List ℕ} (k : K) (b : areBytes d ≡ tru
   speaks (Serves.starts h idle) = (refl, silent (s .node .id))
   speaks Serves.leaves = (refl, silent (s .node .id))
   speaks Serves.stops = (refl, silent (s .node .id))
-  speaks (Serves.resets inside) = (refl, beat-spoken (s .node .id) 0 (omega arith))
-  speaks (Serves.begins inside) = (refl, beat-spoken (s .node .id) 0 (omega arith))
+  speaks Serves.resets = (refl, beat-spoken (s .node .id) 0 (omega arith))
+  speaks Serves.begins = (refl, beat-spoken (s .node .id) 0 (omega arith))
   speaks (Serves.moves q h) = (refl, silent (s .node .id))
   speaks (Serves.reaches h) = (refl, silent (s .node .id))
   speaks Serves.recovers = (refl, silent (s .node .id))
-  speaks (Serves.faults code register fits inside) =
+  speaks (Serves.faults code register fits) =
       let i = emergencyBase + s .node .id in
       let alarm = emergency-on code _ (stored _ d) (stored-bytes _ d b) (length-stored _ d ∙ l) in
       (refl, alarmed-spoken (s .node .id) _ (rw append-nil (both-on i 1 1 [] _ (none-on i 1) alarm)))
-  speaks (Serves.feeds at speed fits inside) = (refl, silent (s .node .id))
+  speaks (Serves.feeds at speed fits) = (refl, silent (s .node .id))
   speaks (Serves.powers v) = (refl, silent (s .node .id))
   speaks Serves.rests = (refl, silent (s .node .id))
   speaks (Serves.counts e) = (refl, silent (s .node .id))
@@ -302,8 +307,8 @@ Said (performs e) = Spoken (e .state .node .id) (e .sent)
 said : {c : Call} {x : Decision} {s : State} {d : List ℕ} → Decides s d c x → octets c ≡ true → areBytes d ≡ true → Said x
 unfolding powerUp freshState
 said (Decides.refuses r q) o b = tt
-said (Decides.begins n q legal long) o b = beat-spoken n 0 (omega arith)
-said (Decides.serves {e} xs q law v) o b =
+said (Decides.begins n legal long) o b = beat-spoken n 0 (omega arith)
+said (Decides.serves {e} law v) o b =
     let w = speaks o b (law .long) v in
     subst (λ (k : ℕ). Spoken k (e .sent)) (sym (w .0)) (w .1)
 

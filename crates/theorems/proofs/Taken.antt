@@ -186,11 +186,11 @@ values-later ws s d l fit h = applied-later ws s d l fit (and-left (keeps ws) _ 
 
 -- ---- every service
 
-releases-later : {xs : List Row} {s : State} {d : List ℕ} {e : Effect} → Releases xs s d e → Held d e → LaterBy s e
+releases-later : {s : State} {d : List ℕ} {e : Effect} → Releases s d e → Held d e → LaterBy s e
 unfolding andThen
 releases-later Releases.none h = later-self
 releases-later (Releases.skips rest) h = releases-later rest h
-releases-later {s = s} {d = d} (Releases.next q ws {e} cleared may inside rest) h =
+releases-later {s = s} {d = d} (Releases.next q ws {e} cleared may rest) h =
     let a = applied ws (withHeld q s) d in
     let k = simp and-eq-true-iff at (rw (all-both keepsOne (a .writes) (e .writes)) at (h .1)) in
     later-trans
@@ -202,24 +202,24 @@ releases-later {s = s} {d = d} (Releases.next q ws {e} cleared may inside rest) 
       k .1,
     ))
 
-later : {K : Type 0} {s : State} {d : List ℕ} {xs : List Row} {e : Effect} → Serves K s d xs e → K → Lawful s d → Held d e → LaterBy s e
+later : {K : Type 0} {s : State} {d : List ℕ} {e : Effect} → Serves K s d e → K → Lawful s d → Held d e → LaterBy s e
 unfolding commanded powerUp freshState voltageDisabled left faulted
 later Serves.nothing k law h = later-self
 later (Serves.replies c v rq small octet) k law h = later-self
 later (Serves.alarms l code) k law h = later-self
-later {s = s} {d = d} (Serves.applies ws before may inside) k law h = values-later ws s d (law .long) (may k law .fit) h
+later {s = s} {d = d} (Serves.applies ws before may) k law h = values-later ws s d (law .long) (may k law .fit) h
 later (Serves.holds bs l i on synchronous long legal) k law h = later-self
 later (Serves.releases r) k law h = releases-later r h
 later (Serves.starts q idle) k law h = later-self
 later Serves.leaves k law h = later-self
 later {s = s} Serves.stops k law h = later-enters _ (s .axis .drive)
-later {s = s} (Serves.resets inside) k law h = later-enters _ (s .axis .drive)
-later (Serves.begins inside) k law h = later-empty _
+later {s = s} Serves.resets k law h = later-enters _ (s .axis .drive)
+later Serves.begins k law h = later-empty _
 later {s = s} (Serves.moves q placed) k law h = later-enters q (s .axis .drive)
 later (Serves.reaches placed) k law h = later-reached _
 later Serves.recovers k law h = later-self
-later {s = s} (Serves.faults code register fits inside) k law h = later-enters _ (s .axis .drive)
-later (Serves.feeds at speed fits inside) k law h = later-self
+later {s = s} (Serves.faults code register fits) k law h = later-enters _ (s .axis .drive)
+later (Serves.feeds at speed fits) k law h = later-self
 later (Serves.powers v) k law h = later-self
 later Serves.rests k law h = later-self
 later (Serves.counts e) k law h = later-self
@@ -237,8 +237,8 @@ answered-later : {c : Call} {x : Decision} {s : State} {d : List ℕ} (o : List 
     keeps (writesOf x) ≡ true → Later (s .axis .drive .store) (answered x s d o .state .axis .drive .store)
 unfolding answered refused accepted ended powerUp freshState
 answered-later o (Decides.refuses r q) b held h = later-self
-answered-later {d = d} o (Decides.begins n q legal long) b held h = rw (finally-store d (powerUp n)) (later-empty _)
-answered-later {d = d} o (Decides.serves {e} xs q law v) b held h = rw (finally-store d e) (later v b law (held, h))
+answered-later {d = d} o (Decides.begins n legal long) b held h = rw (finally-store d (powerUp n)) (later-empty _)
+answered-later {d = d} o (Decides.serves {e} law v) b held h = rw (finally-store d e) (later v b law (held, h))
 
 after-later : (ks : List Step) (a : Stand) → allOctets ks → HoldsBitFour ks a →
     Later (a .state .axis .drive .store) (after ks a .state .axis .drive .store)

@@ -1,15 +1,16 @@
 -- For each promise a telling run of node 5, computed: the promise's premises are met there, and what it promises is seen. Each is a run on which
 -- a wrong rule of docs/PROMISES.md shows.
 -- Assumes nothing.
-use Rattle.theorems.proofs.Words.{ℕ, zero, suc, _+_, _*_, _≡_, refl, Bool, true, not, _&&_, _||_, List, [], _∷_, _++_, map, eqb, ltb, length}
+use Rattle.theorems.proofs.Words.{ℕ, zero, suc, _+_, _*_, _≡_, refl, Bool, true, not, _&&_, List, [], _∷_, _++_, map, eqb, ltb, length}
 use Rattle.theorems.proofs.Words.{getD, PdoData}
 use Rattle.rules_dictionary.specs.Plans.{mapped, plansOf, joined, pdoData}
-use Rattle.rules_dictionary.specs.{Numbers.all, Numbers.any, Numbers.areBytes, Table.statusWord, Table.eachWay, Table.dictionaryLength, Values.read}
+use Rattle.rules_dictionary.specs.{Numbers.all, Numbers.areBytes, Table.Row, Table.statusWord, Table.eachWay}
+use Rattle.rules_dictionary.specs.Values.{write, read, stored}
 use Rattle.rules_services.specs.{Effects.frame, PdoTraffic.listens, PdoTraffic.mappedLength, PdoTraffic.noData}
 use Rattle.rules.specs.Outcome.{statusOf, sameBy, samePlan, sameData, encoded, frameSize}
 use Rattle.rules.specs.Calls.{Call, powerUpCall, frameCall, eventCall, Outcome, refusalNumber}
 use Rattle.rules.specs.{Sound.sound, Scripts.blank, Scripts.nothing, Scripts.zeros, Scripts.open-rules, Examples.request, Examples.nmt}
-use Rattle.theorems.specs.Promises.{Step, Stand, does, after, mayChange, covers, points, open-promises}
+use Rattle.theorems.specs.Promises.{Step, Stand, does, left, after, mayChange, points, open-promises}
 
 -- ---- the calls of the runs
 
@@ -69,26 +70,98 @@ fresh-when-started : isFresh (ran (started ∷ [])) ≡ true
 unfolding open-rules open-promises
 fresh-when-started = refl
 
--- ---- ChangesNoOther: a fault reset, byte for byte
+-- ---- ChangesNoOther: the list, by indices, and the bytes of all other rows
 abbrev upTo : ℕ → List ℕ
 upTo zero = []
 upTo (suc n) = n ∷ upTo n
 
+-- with zeros in those rows
+abbrev blanked : List Row → List ℕ → List ℕ
+blanked xs d = stored (map (λ x. write x 0) xs) d
+
 abbrev keepsOthers : Call → Stand → Bool
 keepsOthers c a =
-    let rows = mayChange c (a .state) (a .dictionary) in
-    let d = does (step c) a .dictionary in
-    all (λ i. any (covers i) rows || eqb (getD d i 0) (getD (a .dictionary) i 0)) (upTo dictionaryLength)
+    let xs = mayChange c (a .state) (a .dictionary) in sameBy eqb (blanked xs (does (step c) a .dictionary)) (blanked xs (a .dictionary))
 
+-- the list of the call is 6041h, 6061h and those indices, and the bytes of all other rows stay
+abbrev lists : Call → List ℕ → Stand → Bool
+lists c xs a = sameBy eqb (map (λ x. x .index) (mayChange c (a .state) (a .dictionary))) (0x6041 ∷ 0x6061 ∷ xs) && keepsOthers c a
+
+-- tests of one stand, worked out once; and of the one that a further call leaves
+abbrev passes : List (Stand → Bool) → Stand → Bool
+passes ts a = all (λ t. t a) ts
+
+abbrev then : Call → List (Stand → Bool) → Stand → Bool
+then c ts a = passes ts (left (step c) a)
+
+abbrev syncOf : List ℕ → Call
+syncOf bs = frameCall 0x080 bs
+
+-- in Pre-operational: 6040h outside Fault, a request of seven bytes, and a mode that 6060h does not take, by SDO; 82h for another node, and of
+-- three bytes; SYNC; a fault, feedback, voltage on. And while Stopped, 6040h by SDO
+idle-keeps-others :
+    passes
+    (lists (control 0x80) (0x6040 ∷ [])
+    ∷ lists (request (0x2B ∷ 0x40 ∷ 0x60 ∷ 0x00 ∷ 0x06 ∷ 0x00 ∷ 0x00 ∷ [])) []
+    ∷ lists (write1 0x60 0x60 0x00 0x07) []
+    ∷ lists (frameCall 0x000 (0x82 ∷ 0x06 ∷ [])) []
+    ∷ lists (frameCall 0x000 (0x82 ∷ 0x05 ∷ 0x00 ∷ [])) []
+    ∷ lists (syncOf []) []
+    ∷ lists (eventCall 3 (0x10 ∷ 0x23 ∷ 0x02 ∷ [])) (0x603F ∷ 0x1001 ∷ [])
+    ∷ lists (eventCall 5 (0x01 ∷ 0x02 ∷ 0x03 ∷ 0x04 ∷ 0x05 ∷ 0x06 ∷ 0x07 ∷ 0x08 ∷ [])) (0x6064 ∷ 0x606C ∷ [])
+    ∷ lists (eventCall 9 (0x01 ∷ [])) []
+    ∷ then (nmt 0x02) (lists (control 0x06) [] ∷ [])
+    ∷ [])
+    (ran (started ∷ []))
+    ≡ true
+unfolding open-rules open-promises
+idle-keeps-others = refl
+
+-- receive PDO of that number, from 0, to be held for SYNC
+abbrev heldForSync : ℕ → Call
+heldForSync p = write1 p 0x14 0x02 0x01
+
+abbrev shutdown : Call
+shutdown = frameCall 0x205 (0x06 ∷ 0x00 ∷ [])
+
+-- in Operational, with receive PDO 1 to be held: receive PDO 2, too short, and with a mode that 6060h does not take; receive PDO 1; SYNC with
+-- nothing held. With a frame held, SYNC, and of one byte
+operational-keeps-others :
+    passes
+    (lists (frameCall 0x305 (0x06 ∷ 0x00 ∷ 0x01 ∷ [])) (0x6040 ∷ 0x6060 ∷ [])
+    ∷ lists (frameCall 0x305 (0x06 ∷ 0x00 ∷ [])) []
+    ∷ lists (frameCall 0x305 (0x06 ∷ 0x00 ∷ 0x07 ∷ [])) []
+    ∷ lists shutdown []
+    ∷ lists (syncOf []) []
+    ∷ then shutdown (lists (syncOf []) (0x6040 ∷ []) ∷ lists (syncOf (0x00 ∷ [])) [] ∷ [])
+    ∷ [])
+    (ran (heldForSync 0 ∷ operational ∷ []))
+    ≡ true
+unfolding open-rules open-promises
+operational-keeps-others = refl
+
+-- in Fault, 6040h with bit 7: with the cause present; with the cause gone, where the fault is reset; and where bit 7 was 1 before. Then SYNC with
+-- two frames held, of which the first clears bit 7 and the second sets it again
 reset-keeps-others :
-    keepsOthers (control 0x80) (ran (started ∷ eventCall 3 (0x10 ∷ 0x23 ∷ 0x02 ∷ []) ∷ eventCall 4 [] ∷ eventCall 8 [] ∷ [])) ≡ true
+    passes
+    (lists (control 0x80) (0x6040 ∷ [])
+    ∷ then (eventCall 8 []) (lists (control 0x80) (0x6040 ∷ 0x1001 ∷ []) ∷ [])
+    ∷ then (control 0x80)
+    (then (eventCall 8 [])
+    (lists (control 0x80) (0x6040 ∷ [])
+    ∷ then shutdown (then (frameCall 0x305 (0x80 ∷ 0x00 ∷ 0x01 ∷ [])) (lists (syncOf []) (0x6040 ∷ 0x6040 ∷ 0x6060 ∷ 0x1001 ∷ []) ∷ []) ∷ [])
+    ∷ [])
+    ∷ [])
+    ∷ [])
+    (ran (heldForSync 0 ∷ heldForSync 1 ∷ operational ∷ started ∷ eventCall 3 (0x10 ∷ 0x23 ∷ 0x02 ∷ []) ∷ eventCall 4 [] ∷ []))
+    ≡ true
 unfolding open-rules open-promises
 reset-keeps-others = refl
 
--- voltage on, which writes no row: 6041h alone follows
-voltage-keeps-others : keepsOthers (eventCall 9 (0x01 ∷ [])) (ran (started ∷ [])) ≡ true
+-- power-up as node 0, which is refused
+refused-lists-nothing : mayChange (powerUpCall 0) nothing zeros ≡ []
 unfolding open-rules open-promises
-voltage-keeps-others = refl
+refused-lists-nothing = refl
 
 -- ---- ReadyFrameStays: feedback, and transmit PDO 1 that maps 6041h alone
 abbrev readyAt : ℕ → Stand → PdoData

@@ -44,4 +44,4 @@ pub use Rattle.rules_dictionary.proofs.{Padded.length-padded, Padded.take-padde
 pub use Rattle.drive.proofs.Every.{on-states, on-ways}
 pub use Rattle.theorems.proofs.Booleans.{either, and-then-false, or-false-left, or-false-right, any-false-in, by-match, false-not, clash}
 pub use Rattle.theorems.proofs.Booleans.{by-test, whichever, or-both-false, and-false-if, any-false-of, eqb-comm, implied, implies}
-pub use Rattle.theorems.proofs.Booleans.{or-either, all-both}
+pub use Rattle.theorems.proofs.Booleans.{or-either, all-both, both-by-test, both-by-match, same-test}

@@ -30,7 +30,7 @@ spared x ws d i rows other =
     ap value (field-stored x ws d (all-of (λ w. apart (w .row) x) ws
     (λ w j. elim (same-or-apart (rows w j) i) [ inl e ↦ absurd (other w j e) | inr a ↦ a ])))
 
-not-wrote : (x : Row) (ws : List Write) (d : List ℕ) → In x table → InTable ws → wrote x ws ≡ false → read (stored ws d) x ≡ read d x
+pub not-wrote : (x : Row) (ws : List Write) (d : List ℕ) → In x table → InTable ws → wrote x ws ≡ false → read (stored ws d) x ≡ read d x
 not-wrote x ws d i rows h = spared x ws d i rows (λ w j e. clash (same x (w .row)) (rw e (same-self x)) (any-false-in (λ w. same x (w .row)) j h))
 
 -- rows of no PDO leave the rows of the PDOs

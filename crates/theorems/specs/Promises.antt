@@ -18,21 +18,25 @@ use Rattle.rules_dictionary.specs.TheNode.{isNodeId}
 use Rattle.rules_dictionary.specs.Table.{Row, table, sizeOf, same, dictionaryLength, placeOf, isReset, Found, found, noObject, noSubindex, lookup}
 use Rattle.rules_dictionary.specs.Table.{statusWord, mode, modeDisplay, controlWord, errorCode, errorRegister, position, velocity, identifier}
 use Rattle.rules_dictionary.specs.Table.{mappingRows, eachWay, pdos, receivePdos, transmitPdos}
-use Rattle.rules_dictionary.specs.Values.{Write, read, field, unpacked}
-use Rattle.rules_dictionary.specs.Aborts.{Abort, bad}
+use Rattle.rules_dictionary.specs.Values.{Write, write, read, field, stored, unpacked}
+use Rattle.rules_dictionary.specs.Aborts.{Abort, bad, isGood}
+use Rattle.rules_dictionary.specs.Legal.{isSynchronous}
 use Rattle.rules_dictionary.specs.Plans.{mapped, planFor, readyFor, plansOf, readyOf, joined, pdoData}
 use Rattle.rules_dictionary.specs.Members.{In}
+use Rattle.rules_dictionary.specs.declared.PdoData.{PdoData}
+use Rattle.drive.specs.DriveStates.{isFault, faultResetBit}
 use Rattle.drive.specs.SetPoints.{newSetPointBit, controlWritten}
 use Rattle.drive.specs.declared.Drive.{Drive}
 use Rattle.rules_services.specs.Effects.{Frame, frame}
-use Rattle.state.specs.NmtStates.{isStopped}
+use Rattle.state.specs.NmtStates.{isStopped, isOperational}
 use Rattle.rules_services.specs.Emergency.{emergency, emergencyBase, pdoTooShort}
 use Rattle.rules_services.specs.declared.SdoCommand.{SdoCommand as Command}
 use Rattle.rules_services.specs.declared.SdoCommand.the-variants.{Download as download, Upload as upload}
 use Rattle.rules_services.specs.declared.SdoCommand.the-variants.{ClientAbort as clientAbort, Unknown as unknown}
-use Rattle.rules_services.specs.Sdo.{commandOf, commandByte, askedIndex, askedSubindex, downloadVerdict, requestBase, replyBase}
-use Rattle.rules_services.specs.PdoTraffic.{listens, mappedLength, areLegal, transmitted, noData, syncBase}
-use Rattle.rules_services.specs.Nmt.{nmtIdentifier, heartbeatBase, commandOf as nmtCommandOf}
+use Rattle.rules_services.specs.Sdo.{commandOf, commandByte, askedIndex, askedSubindex, askedValue, downloadVerdict, requestBase, requestLength}
+use Rattle.rules_services.specs.Sdo.{replyBase}
+use Rattle.rules_services.specs.PdoTraffic.{listens, typeOf, mappedLength, areLegal, transmitted, noData, isHeld, syncBase}
+use Rattle.rules_services.specs.Nmt.{nmtIdentifier, nmtLength, everyNode, heartbeatBase, commandOf as nmtCommandOf}
 use Rattle.rules_services.specs.Nmt.{NmtCommand, start, stop, enterPreOperational, resetNode, resetCommunication, unknown as unknownNmt}
 use Rattle.rules_services.specs.declared.Told.{Told}
 use Rattle.rules_services.specs.declared.Told.the-variants.{Happened as event, Bad as badEvent}
@@ -222,32 +226,106 @@ NothingStale = (r : Run) → FreshAt (reached r)
 
 -- ---- demand 3, "A call changes no objects but those it writes and those document 01 lists as following from them"
 
--- "an SDO .. write its objects"
-abbrev pub bySdo : Command → Found → List Row
-bySdo download (found x) = x ∷ []
-bySdo download noObject = []
-bySdo download noSubindex = []
-bySdo upload f = []
-bySdo clientAbort f = []
-bySdo unknown f = []
+-- the byte of that number is one of the row's
+abbrev pub covers : ℕ → Row → Bool
+covers i x = leb (placeOf x) i && ltb i (placeOf x + sizeOf x)
 
--- ".. or PDO write its objects": what those receive PDOs map
-unfoldable pub byPdos : List ℕ → List ℕ → List Row
-byPdos d [] = []
-byPdos d (p ∷ ps) = mapped d p ++ byPdos d ps
+-- the writes of a call
+abbrev pub writesOf : Decision → List Write
+writesOf (refuses x) = []
+writesOf (performs e) = e .writes
 
--- "1001h from a fault reset", which only a write of 6040h can bring
-abbrev pub orReset : List Row → List Row
-orReset xs = cond (any (same controlWord) xs) (errorRegister ∷ xs) xs
+abbrev pub rowsOf : List Write → List Row
+rowsOf ws = map (λ w. w .row) ws
+
+-- "6041h and 6061h from any call"
+abbrev pub andSettled : List Row → List Row
+andSettled xs = statusWord ∷ modeDisplay ∷ xs
+
+-- byte for byte, of every state and dictionary: a byte of no row that the call writes, and not of 6041h or 6061h, stays
+abbrev pub ChangesOnlyItsWrites : Type 0
+ChangesOnlyItsWrites = (k : Step) (a : Stand) (i : ℕ) →
+    any (covers i) (andSettled (rowsOf (writesOf (decided (k .call) (a .state) (a .dictionary) (k .output))))) ≡ false →
+    getD (does k a .dictionary) i 0 ≡ getD (a .dictionary) i 0
+
+-- which rows these are, as document 01 lists them. "What a call writes: an SDO or PDO write its objects; event 5 6064h and 606Ch; 82h the
+-- objects it resets; 81h and power-up all, mappings included. What follows from it: 6041h and 6061h from any call; 603Fh and 1001h from event
+-- 3; 1001h from a fault reset."
+
+-- the frames that a call applies, each as the values that it brings
+
+-- an SDO write: a download of an object that is there, which no abort answers
+abbrev pub toFound : List ℕ → State → List ℕ → Found → List (List Write)
+toFound rq s d (found x) = cond (isGood (downloadVerdict rq (s .node .nmt) d x)) ((write x (askedValue rq x) ∷ []) ∷ []) []
+toFound rq s d noObject = []
+toFound rq s d noSubindex = []
+
+abbrev pub bySdo : Command → List ℕ → State → List ℕ → List (List Write)
+bySdo download rq s d = toFound rq s d (lookup (askedIndex rq) (askedSubindex rq))
+bySdo upload rq s d = []
+bySdo clientAbort rq s d = []
+bySdo unknown rq s d = []
+
+-- a PDO write: by a receive PDO that works on the identifier, of a frame that is not too short and has no value that SDO would refuse; "Types
+-- 254, 255 apply at once"
+abbrev pub appliesAtOnce : ℕ → List ℕ → State → List ℕ → ℕ → Bool
+appliesAtOnce i bs s d p =
+    listens i (s .node .nmt) d p
+    && not (ltb (length bs) (mappedLength (mapped d p)))
+    && areLegal d (unpacked (mapped d p) bs)
+    && not (isSynchronous (typeOf d p))
+
+unfoldable pub byPdo : ℕ → List ℕ → State → List ℕ → List (List Write)
+byPdo i bs s d = map (λ p. unpacked (mapped d p) bs) (filter (appliesAtOnce i bs s d) receivePdos)
+
+-- SYNC: "It applies held frames 1 to 4"
+abbrev pub heldFor : State → ℕ → PdoData
+heldFor s p = getD (s .axis .held) p noData
+
+unfoldable pub bySync : State → List ℕ → List (List Write)
+bySync s d = map (λ p. unpacked (mapped d p) (heldFor s p .bytes)) (filter (λ p. isHeld (heldFor s p)) receivePdos)
+
+-- SYNC of length 0 in Operational; SDO "in Pre-operational and Operational, 600h+N, length 8"
+unfoldable pub applies : ℕ → List ℕ → State → List ℕ → List (List Write)
+applies i bs s d =
+    cond (eqb i syncBase) (cond (isOperational (s .node .nmt) && eqb (length bs) 0) (bySync s d) [])
+    (cond (eqb i (requestBase + s .node .id))
+    (cond (eqb (length bs) requestLength && not (isStopped (s .node .nmt))) (bySdo (commandOf (commandByte bs)) bs s d) [])
+    (byPdo i bs s d))
+
+-- a fault that a fault reset clears: "Fault: Fault reset without cause to disabled, 1001h to 0"
+abbrev pub isClearable : Drive → Bool
+isClearable v = isFault (v .state) && not (v .cause)
+
+-- "Bit 7 set: Fault reset if it was 0 before": the one dictionary before the write, the other after it
+abbrev pub asksReset : List ℕ → List ℕ → Bool
+asksReset d d′ = bit faultResetBit (read d′ controlWord) && not (bit faultResetBit (read d controlWord))
+
+-- what frames write, applied one after another from d: each its values, and where it resets the fault, 1001h. Of 6040h mapped twice in one
+-- frame the last value counts. The flag says whether there is a fault to clear
+unfoldable pub written : Bool → List ℕ → List (List Write) → List Write
+written clearable d [] = []
+written clearable d (ws ∷ fs) =
+    let reset = clearable && asksReset d (stored ws d) in
+    let vs = ws ++ cond reset (write errorRegister 0 ∷ []) [] in
+    vs ++ written (clearable && not reset) (stored vs d) fs
 
 -- "82h the objects it resets; 81h .. all"
-abbrev pub byNmt : NmtCommand → List Row
-byNmt start = []
-byNmt stop = []
-byNmt enterPreOperational = []
-byNmt resetNode = table
-byNmt resetCommunication = filter isReset table
-byNmt unknownNmt = []
+abbrev pub byCommand : NmtCommand → List Row
+byCommand start = []
+byCommand stop = []
+byCommand enterPreOperational = []
+byCommand resetNode = table
+byCommand resetCommunication = filter isReset table
+byCommand unknownNmt = []
+
+-- NMT: "length 2, node 0 or N"
+unfoldable pub byNmt : List ℕ → State → List Row
+byNmt bs s =
+    cond (eqb (length bs) nmtLength && (eqb (getD bs 1 0) everyNode || eqb (getD bs 1 0) (s .node .id))) (byCommand (nmtCommandOf (getD bs 0 0))) []
+
+unfoldable pub byFrame : ℕ → List ℕ → State → List ℕ → List Row
+byFrame i bs s d = cond (eqb i nmtIdentifier) (byNmt bs s) (rowsOf (written (isClearable (s .axis .drive)) d (applies i bs s d)))
 
 -- "event 5 6064h and 606Ch"; "603Fh and 1001h from event 3"
 abbrev pub byEvent : Event → List Row
@@ -262,31 +340,25 @@ byEvent (feedback at speed) = position ∷ velocity ∷ []
 byEvent (voltage b) = []
 
 abbrev pub byTold : Told → List Row
-byTold (event e) = byEvent e
+byTold (event e) = andSettled (byEvent e)
 byTold badEvent = []
 
-unfoldable pub byFrame : ℕ → List ℕ → State → List ℕ → List Row
-byFrame i bs s d =
-    cond (eqb i nmtIdentifier) (byNmt (nmtCommandOf (getD bs 0 0)))
-    (cond (eqb i syncBase) (orReset (byPdos d receivePdos))
-    (cond (eqb i (requestBase + s .node .id)) (orReset (bySdo (commandOf (commandByte bs)) (lookup (askedIndex bs) (askedSubindex bs))))
-    (orReset (byPdos d (filter (listens i (s .node .nmt) d) receivePdos)))))
-
--- the rows that a call may change; "6041h and 6061h from any call"
+-- the rows that a call may change
 unfoldable pub mayChange : Call → State → List ℕ → List Row
-mayChange (powerUpCall n) s d = table
-mayChange (frameCall i bs) s d = statusWord ∷ modeDisplay ∷ byFrame i bs s d
-mayChange (eventCall k xs) s d = statusWord ∷ modeDisplay ∷ byTold (eventOf k xs)
+mayChange (powerUpCall n) s d = cond (isNodeId n) (andSettled table) []
+mayChange (frameCall i bs) s d = andSettled (byFrame i bs s d)
+mayChange (eventCall k xs) s d = byTold (eventOf k xs)
 
--- the byte of that number is one of the row's
-abbrev pub covers : ℕ → Row → Bool
-covers i x = leb (placeOf x) i && ltb i (placeOf x + sizeOf x)
-
--- byte for byte: a byte of no such row stays
+-- byte for byte, of every state and dictionary: a byte of no such row stays
 abbrev pub ChangesNoOther : Type 0
-ChangesNoOther = (r : Run) (k : Step) (i : ℕ) → octets (k .call) ≡ true →
-    any (covers i) (mayChange (k .call) (reached r .state) (reached r .dictionary)) ≡ false →
-    getD (does k (reached r) .dictionary) i 0 ≡ getD (reached r .dictionary) i 0
+ChangesNoOther = (k : Step) (a : Stand) (i : ℕ) → any (covers i) (mayChange (k .call) (a .state) (a .dictionary)) ≡ false →
+    getD (does k a .dictionary) i 0 ≡ getD (a .dictionary) i 0
+
+-- and the list says no more than that: of an accepted call its rows are those of the writes, one by one and in their order
+abbrev pub ListsWhatIsWritten : Type 0
+ListsWhatIsWritten = (k : Step) (a : Stand) → does k a .refusal ≡ Accepted →
+    mayChange (k .call) (a .state) (a .dictionary)
+    ≡ andSettled (rowsOf (writesOf (decided (k .call) (a .state) (a .dictionary) (k .output))))
 
 -- "and no ready frame but of a transmit PDO that maps a changed object or had its mapping written"
 abbrev pub ReadyFrameStays : Type 0
@@ -335,11 +407,6 @@ points (Rested t) = []
 points (Moving a) = a ∷ []
 points (Queued a b) = a ∷ b ∷ []
 
--- the writes of a call
-abbrev pub writesOf : Decision → List Write
-writesOf (refuses x) = []
-writesOf (performs e) = e .writes
-
 -- the call writes no 6040h with bit 4 zero
 abbrev pub keepsBitFour : Step → Stand → Bool
 keepsBitFour k a =
@@ -363,5 +430,5 @@ OneEdgeTakesOne = (d : List ℕ) (old : ℕ) (v : Drive) →
 
 -- opens every definition of this module, where a proof computes
 unfoldable pub open-promises : Unit {0}
-unfolding after byPdos byFrame mayChange
+unfolding after byPdo bySync applies written byNmt byFrame mayChange
 open-promises = tt
