@@ -91,8 +91,12 @@ pub record Run : Type 0 where
   pub steps : List Step
   pub given : allOctets steps
 
+-- where it stands after its power-up, and after all its calls
+abbrev pub begun : Run → Stand
+begun r = left (record { call = powerUpCall (r .node); output = r .output }) (r .found)
+
 abbrev pub reached : Run → Stand
-reached r = after (r .steps) (left (record { call = powerUpCall (r .node); output = r .output }) (r .found))
+reached r = after (r .steps) (begun r)
 
 -- ---- demand 1, "A refused call sends nothing and changes nothing.": of every state, dictionary and output, sound or not
 
@@ -327,7 +331,8 @@ SameStatusWord = (r : Run) (o : List ℕ) → outputLength ≤ length o → isSt
     ≡ sentInto o (frame (replyBase + reached r .state .node .id)
     (0x4B ∷ 0x41 ∷ 0x60 ∷ 0x00 ∷ (field (reached r .dictionary) statusWord ++ (0x00 ∷ 0x00 ∷ []))) ∷ []))
 
--- "set-points taken twice because somebody looked at the level of a bit and missed its edge"
+-- "set-points taken twice because somebody looked at the level of a bit and missed its edge": by counting, so that one which is taken again
+-- with the same numbers counts too
 
 abbrev pub points : Store → List SetPoint
 points Empty = []
@@ -335,33 +340,97 @@ points (Rested t) = []
 points (Moving a) = a ∷ []
 points (Queued a b) = a ∷ b ∷ []
 
+-- the set-points that are held where a run stands
+abbrev pub heldAt : Stand → List SetPoint
+heldAt a = points (a .state .axis .drive .store)
+
+abbrev pub decidedAt : Step → Stand → Decision
+decidedAt k a = decided (k .call) (a .state) (a .dictionary) (k .output)
+
 -- the writes of a call
 abbrev pub writesOf : Decision → List Write
 writesOf (refuses x) = []
 writesOf (performs e) = e .writes
 
+-- 6040h behind a write, where that word stood before it
+abbrev pub wordBehind : ℕ → Write → ℕ
+wordBehind word w = cond (same controlWord (w .row)) (w .value) word
+
+-- 1 where bit 4 rose
+abbrev pub rise : ℕ → ℕ → ℕ
+rise old word = cond (not (bit newSetPointBit old) && bit newSetPointBit word) 1 0
+
+-- how often bit 4 of 6040h rises along those writes, in order, where that word stood before them
+unfoldable pub edges : ℕ → List Write → ℕ
+edges word [] = 0
+edges word (w ∷ ws) = rise word (wordBehind word w) + edges (wordBehind word w) ws
+
+-- .. and along the writes of those calls: 6040h written twice by one call counts along both
+unfoldable pub edgesIn : List Step → Stand → ℕ
+edgesIn [] a = 0
+edgesIn (k ∷ ks) a = edges (read (a .dictionary) controlWord) (writesOf (decidedAt k a)) + edgesIn ks (left k a)
+
+-- event 6
+abbrev pub isReached : Told → Bool
+isReached badEvent = false
+isReached (event started) = false
+isReached (event quickStopDone) = false
+isReached (event reactionDone) = false
+isReached (event setPointReached) = true
+isReached (event tick) = false
+isReached (event causeGone) = false
+isReached (event (fault code register)) = false
+isReached (event (feedback at speed)) = false
+isReached (event (voltage b)) = false
+
+abbrev pub tellsReached : Call → Bool
+tellsReached (powerUpCall n) = false
+tellsReached (frameCall i bs) = false
+tellsReached (eventCall k xs) = isReached (eventOf k xs)
+
+abbrev pub isAccepted : Decision → Bool
+isAccepted (refuses x) = false
+isAccepted (performs e) = true
+
+-- how many of those calls are an accepted event 6
+unfoldable pub reachedIn : List Step → Stand → ℕ
+reachedIn [] a = 0
+reachedIn (k ∷ ks) a = cond (isAccepted (decidedAt k a) && tellsReached (k .call)) 1 0 + reachedIn ks (left k a)
+
+-- from the set-points held before to those held now: some were taken behind them, one at the most for each edge, and of all these the first
+-- ones are gone, one at the least for each that was reached
+pub record Passed (edges reached : ℕ) (before now : List SetPoint) : Type 0 where
+  pub taken : List SetPoint
+  pub gone : ℕ
+  pub rest : now ≡ drop gone (before ++ taken)
+  pub few : length taken ≤ edges
+  pub counted : reached ≤ gone
+  pub inside : gone ≤ length (before ++ taken)
+
+abbrev pub OneEdgeTakesOne : Type 0
+OneEdgeTakesOne = (r : Run) (ks : List Step) → allOctets ks →
+    Passed (edgesIn ks (reached r)) (reachedIn ks (reached r)) (heldAt (reached r)) (heldAt (after ks (reached r)))
+
+-- so that since power-up the set-points reached and those held are never more than the edges
+abbrev pub NeverMoreThanEdges : Type 0
+NeverMoreThanEdges = (r : Run) → reachedIn (r .steps) (begun r) + length (heldAt (reached r)) ≤ edgesIn (r .steps) (begun r)
+
 -- the call writes no 6040h with bit 4 zero
 abbrev pub keepsBitFour : Step → Stand → Bool
-keepsBitFour k a =
-    all (λ w. not (same controlWord (w .row)) || bit newSetPointBit (w .value)) (writesOf (decided (k .call) (a .state) (a .dictionary) (k .output)))
+keepsBitFour k a = all (λ w. not (same controlWord (w .row)) || bit newSetPointBit (w .value)) (writesOf (decidedAt k a))
 
 -- bit 4 of 6040h is 1 before each of these calls, and none of them writes it zero
 unfoldable pub HoldsBitFour : List Step → Stand → Type 0
 HoldsBitFour [] a = Unit
 HoldsBitFour (k ∷ ks) a = (bit newSetPointBit (read (a .dictionary) controlWord) ≡ true) × (keepsBitFour k a ≡ true) × HoldsBitFour ks (left k a)
 
--- while bit 4 stays 1, over any calls, no set-point is taken: those in the store are the last ones of those before
+-- while bit 4 stays 1, over any calls, no set-point is taken, not even with the same numbers: those held are the last ones of those before, and
+-- every one that was reached is gone
 abbrev pub HeldBitTakesNothing : Type 0
 HeldBitTakesNothing = (r : Run) (ks : List Step) → allOctets ks → HoldsBitFour ks (reached r) →
-    (n : ℕ) × (points (after ks (reached r) .state .axis .drive .store) ≡ drop n (points (reached r .state .axis .drive .store)))
-
--- and one control word takes at most one, where bit 4 rose
-abbrev pub OneEdgeTakesOne : Type 0
-OneEdgeTakesOne = (d : List ℕ) (old : ℕ) (v : Drive) →
-    (n : ℕ) × (xs : List SetPoint) × (points (controlWritten d old v .drive .store) ≡ drop n (points (v .store)) ++ xs) × (length xs ≤ 1)
-    × ((xs ≡ []) ⊎ ((bit newSetPointBit old ≡ false) × (bit newSetPointBit (read d controlWord) ≡ true)))
+    (n : ℕ) × (heldAt (after ks (reached r)) ≡ drop n (heldAt (reached r))) × (reachedIn ks (reached r) ≤ n) × (n ≤ length (heldAt (reached r)))
 
 -- opens every definition of this module, where a proof computes
 unfoldable pub open-promises : Unit {0}
-unfolding after byPdos byFrame mayChange
+unfolding after allOctets byPdos byFrame mayChange laid edges edgesIn reachedIn HoldsBitFour
 open-promises = tt
