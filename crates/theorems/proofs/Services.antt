@@ -127,7 +127,8 @@ pub data Serves (K : Type 0) (s : State) (d : List ℕ) (xs : List Row) : Effect
   nothing : Serves K s d xs (becomes s)
   -- SDO and PDO
   replies : (c v : ℕ) (rq : List ℕ) → c < 256 → (K → areBytes rq ≡ true) → Serves K s d xs (sends (reply c rq s (bytes dataSize v)) (becomes s))
-  alarms : (b : Bool) (code : ℕ) → Serves K s d xs (sends (longer b s d) (sends (emergency code s d) (becomes s)))
+  -- behind 8220h stands no emergency but 8200h
+  alarms : (b : Bool) (code : ℕ) → Serves K s d xs (sends (longer b s d) (sends (emergency (cond b valueRefused code) s d) (becomes s)))
   applies : {fs : List Frame} (ws : List Write) → Before K s d fs → (K → Lawful s d → MayApply s d ws) →
       Within (applied ws s d) xs → Serves K s d xs (sends fs (applied ws s d))
   holds : {p : ℕ} (bs : List ℕ) (b : Bool) → In p receivePdos → works (s .node .nmt) d p ≡ true → isSynchronous (typeOf d p) ≡ true →
@@ -234,6 +235,10 @@ module _ (K : Type 0) (s : State) (d : List ℕ) where
     asked-serves Unknown = aborts [] unknownCommand
 
   -- PDO
+  refused-serves : (b : Bool) (xs : List Row) → Serves K s d xs (sends (longer b s d) (sends (emergency valueRefused s d) (becomes s)))
+  refused-serves true xs = alarms true valueRefused
+  refused-serves false xs = alarms false valueRefused
+
   received-serves : (p : ℕ) (bs : List ℕ) (ys : List Row) → In p receivePdos → works (s .node .nmt) d p ≡ true → Among (mapped d p) ys →
       Serves K s d (orReset ys) (received p bs s d)
   unfolding received heldOrApplied
@@ -250,7 +255,7 @@ module _ (K : Type 0) (s : State) (d : List ℕ) where
       (λ q law. values-may s d (take k bs) i
       (ap (areLegal d) (unpacked-same (mapped d p) (take k bs) bs (take-take k k bs (omega arith))) ∙ legal) law)
       (applied-within front s d ys (λ w j. rows (w .row) (unpacked-rows (mapped d p) (take k bs) j)))))
-      (λ e. alarms long valueRefused))
+      (λ e. refused-serves long (orReset ys)))
 
   pub received-by-serves : (ps qs : List ℕ) (i : ℕ) (bs : List ℕ) → ((p : ℕ) → In p ps → In p receivePdos) →
       ((p : ℕ) → In p ps → listens i (s .node .nmt) d p ≡ true → In p qs) → Serves K s d (orReset (byPdos d qs)) (receivedBy ps i bs s d)

@@ -13,7 +13,7 @@ use Rattle.drive.specs.declared.Store.{Store}
 use Rattle.drive.specs.declared.Store.the-variants.{Empty, Rested, Moving, Queued}
 use Rattle.state.specs.declared.State.{State}
 use Rattle.state.specs.declared.Refusal.the-variants.{Accepted, DictionaryLength, NotSound}
-use Rattle.rules_dictionary.specs.Numbers.{all, any, areBytes, filter, bit}
+use Rattle.rules_dictionary.specs.Numbers.{all, any, areBytes, filter, bit, value, part}
 use Rattle.rules_dictionary.specs.TheNode.{isNodeId}
 use Rattle.rules_dictionary.specs.Table.{Row, table, sizeOf, same, dictionaryLength, placeOf, isReset, Found, found, noObject, noSubindex, lookup}
 use Rattle.rules_dictionary.specs.Table.{statusWord, mode, modeDisplay, controlWord, errorCode, errorRegister, position, velocity, identifier}
@@ -26,7 +26,7 @@ use Rattle.drive.specs.SetPoints.{newSetPointBit, controlWritten}
 use Rattle.drive.specs.declared.Drive.{Drive}
 use Rattle.rules_services.specs.Effects.{Frame, frame}
 use Rattle.state.specs.NmtStates.{isStopped}
-use Rattle.rules_services.specs.Emergency.{emergency, emergencyBase, pdoTooShort}
+use Rattle.rules_services.specs.Emergency.{emergency, emergencyBase, faultGone, valueRefused, pdoTooShort, pdoTooLong}
 use Rattle.rules_services.specs.declared.SdoCommand.{SdoCommand as Command}
 use Rattle.rules_services.specs.declared.SdoCommand.the-variants.{Download as download, Upload as upload}
 use Rattle.rules_services.specs.declared.SdoCommand.the-variants.{ClientAbort as clientAbort, Unknown as unknown}
@@ -41,7 +41,7 @@ use Rattle.rules_services.specs.declared.Event.{Event}
 use Rattle.rules_services.specs.declared.Event.the-variants.{Started as started, QuickStopDone as quickStopDone, ReactionDone as reactionDone}
 use Rattle.rules_services.specs.declared.Event.the-variants.{SetPointReached as setPointReached, Tick as tick, CauseGone as causeGone, Fault as fault}
 use Rattle.rules_services.specs.declared.Event.the-variants.{Feedback as feedback, Voltage as voltage}
-use Rattle.rules.specs.Outcome.{statusOf, encoded, sentInto, frameSize, transmitters}
+use Rattle.rules.specs.Outcome.{statusOf, encoded, sentInto, mostData, frameSize, transmitters}
 use Rattle.rules.specs.Sound.{sound}
 use Rattle.rules.specs.Calls.{Call, powerUpCall, frameCall, eventCall, Decision, refuses, does as performs, decided, Outcome, answer, outputLength}
 use Rattle.rules.specs.Scripts.{Answers, givenBy}
@@ -124,6 +124,17 @@ DroppedFrameChangesNothing = (r : Run) (p i : ℕ) (bs o : List ℕ) → areByte
 abbrev pub isOn : ℕ → Frame → Bool
 isOn i f = eqb (f .identifier) i
 
+-- the code of an emergency
+abbrev pub codeOf : Frame → ℕ
+codeOf f = value (part 0 2 (f .content))
+
+-- "emergencies in order of cause": there are two only where a process frame is too long, and its value is refused or it resets a fault
+abbrev pub inOrderOfCause : List ℕ → Bool
+inOrderOfCause [] = true
+inOrderOfCause (a ∷ []) = true
+inOrderOfCause (a ∷ b ∷ []) = eqb a pdoTooLong && (eqb b valueRefused || eqb b faultGone)
+inOrderOfCause (a ∷ b ∷ c ∷ cs) = false
+
 -- a list of frames in the paper's order; `sending` says which transmit PDOs are sent
 pub record Ordered (a : Stand) (sent : List Frame) : Type 0 where
   pub replies : List Frame
@@ -135,6 +146,9 @@ pub record Ordered (a : Stand) (sent : List Frame) : Type 0 where
   pub onReply : all (isOn (replyBase + a .state .node .id)) replies ≡ true
   pub onEmergency : all (isOn (emergencyBase + a .state .node .id)) emergencies ≡ true
   pub onBeat : all (isOn (heartbeatBase + a .state .node .id)) beats ≡ true
+  pub caused : inOrderOfCause (map codeOf emergencies) ≡ true
+  pub oneReply : length replies ≤ 1
+  pub oneBeat : length beats ≤ 1
   pub few : length replies + (length emergencies + length beats) ≤ 2
 
 unfoldable pub laid : List Frame → List ℕ
@@ -146,6 +160,7 @@ pub record FramesOf (u : Outcome) (o : List ℕ) : Type 0 where
   pub sent : List Frame
   pub counted : u .frames ≡ length sent
   pub most : length sent ≤ 6
+  pub short : (f : Frame) → In f sent → length (f .content) ≤ mostData
   pub inOrder : Ordered (record { state = u .state; dictionary = u .dictionary }) sent
   pub output : u .output ≡ laid sent ++ drop (frameSize * length sent) o
 
