@@ -2,14 +2,18 @@
 -- a wrong rule of docs/PROMISES.md shows.
 -- Assumes nothing.
 use Rattle.theorems.proofs.Words.{ℕ, zero, suc, _+_, _*_, _≡_, refl, Bool, true, not, _&&_, _||_, List, [], _∷_, _++_, map, eqb, ltb, length}
-use Rattle.theorems.proofs.Words.{getD, PdoData}
+use Rattle.theorems.proofs.Words.{getD, PdoData, arith, take, drop, false, false≢true, Refusal, Accepted, OutOfPlace, SetPoint}
 use Rattle.rules_dictionary.specs.Plans.{mapped, plansOf, joined, pdoData}
 use Rattle.rules_dictionary.specs.{Numbers.all, Numbers.any, Numbers.areBytes, Table.statusWord, Table.eachWay, Table.dictionaryLength, Values.read}
-use Rattle.rules_services.specs.{Effects.frame, PdoTraffic.listens, PdoTraffic.mappedLength, PdoTraffic.noData}
-use Rattle.rules.specs.Outcome.{statusOf, sameBy, samePlan, sameData, encoded, frameSize}
-use Rattle.rules.specs.Calls.{Call, powerUpCall, frameCall, eventCall, Outcome, refusalNumber}
-use Rattle.rules.specs.{Sound.sound, Scripts.blank, Scripts.nothing, Scripts.zeros, Scripts.open-rules, Examples.request, Examples.nmt}
-use Rattle.theorems.specs.Promises.{Step, Stand, does, after, mayChange, covers, points, open-promises}
+use Rattle.rules_dictionary.specs.{Numbers.value, Numbers.part, Table.controlWord, Table.mode, Values.write}
+use Rattle.rules_services.specs.{Effects.Frame, Effects.frame, PdoTraffic.listens, PdoTraffic.mappedLength, PdoTraffic.noData}
+use Rattle.rules.specs.Outcome.{statusOf, sameBy, samePlan, sameData, encoded, sentInto, frameSize}
+use Rattle.rules.specs.Calls.{Call, powerUpCall, frameCall, eventCall, Outcome, answer, refusalNumber}
+use Rattle.rules.specs.{Sound.sound, Scripts.blank, Scripts.nothing, Scripts.zeros, Scripts.Answers, Scripts.open-rules}
+use Rattle.rules.specs.Examples.{request, reply, nmt, open-examples}
+use Rattle.theorems.specs.Promises.{Step, Stand, does, after, mayChange, covers, open-promises, inOrderOfCause, heldAt, edges, edgesIn, reachedIn}
+use Rattle.theorems.specs.Promises.{Passed, HoldsBitFour, keepsExamples, RefusesEverything, RepliesAlike, SendsAlways, SendsNothingLater}
+use Rattle.theorems.specs.Promises.{ChangesNothingLater}
 
 -- ---- the calls of the runs
 
@@ -120,15 +124,57 @@ bad-value-dropped : keepsAll (frameCall 0x305 (0x06 ∷ 0x00 ∷ 0x07 ∷ [])) (
 unfolding open-rules open-promises
 bad-value-dropped = refl
 
--- ---- AtMostSixInOrder: an SDO write that changes 6041h: the reply on 585h, and behind it the four transmit PDOs
-abbrev identifiersIn : ℕ → List ℕ → List ℕ
-identifiersIn n o = map (λ k. getD o (frameSize * k) 0 + 256 * getD o (suc (frameSize * k)) 0) (upTo n)
+-- ---- AtMostSixInOrder
 
+-- the frames of an answer, eleven bytes each, and what stands in them
+abbrev cut : ℕ → List ℕ → List (List ℕ)
+cut zero o = []
+cut (suc n) o = take frameSize o ∷ cut n (drop frameSize o)
+
+abbrev sentBy : Outcome → List (List ℕ)
+sentBy u = cut (u .frames) (u .output)
+
+abbrev identifiersOf : Outcome → List ℕ
+identifiersOf u = map (λ f. value (part 0 2 f)) (sentBy u)
+
+abbrev lengthsOf : Outcome → List ℕ
+lengthsOf u = map (λ f. getD f 2 0) (sentBy u)
+
+-- of frames that are emergencies
+abbrev codesOf : Outcome → List ℕ
+codesOf u = map (λ f. value (part 3 2 f)) (sentBy u)
+
+-- a fault whose cause is gone, in Operational
+abbrev faultedCalls : List Call
+faultedCalls = started ∷ eventCall 3 (0x10 ∷ 0x23 ∷ 0x02 ∷ []) ∷ eventCall 4 [] ∷ eventCall 8 [] ∷ operational ∷ []
+
+-- an SDO write that resets it: the reply on 585h, the emergency on 085h, and behind them the four transmit PDOs, each within eight bytes
 reply-comes-first :
-    (answers (control 0x06) (started ∷ operational ∷ []) .frames ≡ 5)
-    × (identifiersIn 5 (answers (control 0x06) (started ∷ operational ∷ []) .output) ≡ 0x485 ∷ 0x385 ∷ 0x285 ∷ 0x185 ∷ 0x585 ∷ [])
+    let u = answers (control 0x80) faultedCalls in
+    (identifiersOf u ≡ 0x585 ∷ 0x085 ∷ 0x185 ∷ 0x285 ∷ 0x385 ∷ 0x485 ∷ []) × (lengthsOf u ≡ 8 ∷ 8 ∷ 2 ∷ 3 ∷ 6 ∷ 6 ∷ [])
 unfolding open-rules open-promises
 reply-comes-first = (refl, refl)
+
+-- receive PDO 2 with a byte too many and mode 7: 8220h, and then 8200h
+long-then-refused :
+    let u = answers (frameCall 0x305 (0x06 ∷ 0x00 ∷ 0x07 ∷ 0x00 ∷ [])) (started ∷ operational ∷ []) in
+    (identifiersOf u ≡ 0x085 ∷ 0x085 ∷ []) × (codesOf u ≡ 0x8220 ∷ 0x8200 ∷ []) × (inOrderOfCause (codesOf u) ≡ true)
+unfolding open-rules open-promises
+long-then-refused = (refl, refl, refl)
+
+-- receive PDO 1 with a byte too many resets the fault: 8220h, and then 0000h
+long-then-reset :
+    let u = answers (frameCall 0x205 (0x80 ∷ 0x00 ∷ 0x00 ∷ [])) faultedCalls in
+    (identifiersOf u ≡ 0x085 ∷ 0x085 ∷ 0x185 ∷ 0x285 ∷ 0x385 ∷ 0x485 ∷ [])
+    × (take 2 (codesOf u) ≡ 0x8220 ∷ 0x0000 ∷ []) × (inOrderOfCause (take 2 (codesOf u)) ≡ true)
+unfolding open-rules open-promises
+long-then-reset = (refl, refl, refl)
+
+-- the other way round they are not in order, nor are three, nor any other two
+out-of-order :
+    map inOrderOfCause ((0x8200 ∷ 0x8220 ∷ []) ∷ (0x0000 ∷ 0x8220 ∷ []) ∷ (0x8220 ∷ 0x8200 ∷ 0x0000 ∷ []) ∷ (0x8220 ∷ 0x8210 ∷ []) ∷ [])
+    ≡ false ∷ false ∷ false ∷ false ∷ []
+out-of-order = refl
 
 -- ---- ElevenBytes: a heartbeat, which has one data byte
 one-data-byte : length (encoded (frame 0x705 (0x05 ∷ []))) ≡ frameSize
@@ -158,14 +204,102 @@ same-word :
 unfolding open-rules open-promises
 same-word = refl
 
--- ---- HeldBitTakesNothing: 1Fh written again; OneEdgeTakesOne: 1Fh written once
-abbrev taken : List Call → ℕ
-taken cs = length (points (ran (enabled ++ cs) .state .axis .drive .store))
+-- ---- OneEdgeTakesOne, NeverMoreThanEdges: 1Fh, 1Fh again, 0Fh, 1Fh, and the first of the two is reached
 
-edge-takes-one : taken (control 0x1F ∷ []) ≡ 1
-unfolding open-rules open-promises
-edge-takes-one = refl
+-- what each takes: 607Ah, 6081h, 6083h and 6084h as they are after power-up
+abbrev point : SetPoint
+point = record { target = 0; velocity = 0; acceleration = 1; deceleration = 1 }
 
-held-takes-none : taken (control 0x1F ∷ control 0x1F ∷ []) ≡ 1
+abbrev turns : List Call
+turns = control 0x1F ∷ control 0x1F ∷ control 0x0F ∷ control 0x1F ∷ []
+
+edge-takes-one :
+    let a = ran enabled in
+    let ks = map step (control 0x1F ∷ []) in
+    (edgesIn ks a ≡ 1) × (heldAt a ≡ []) × (heldAt (after ks a) ≡ point ∷ []) × Passed 1 0 [] (point ∷ [])
 unfolding open-rules open-promises
-held-takes-none = refl
+edge-takes-one = (
+  refl,
+  refl,
+  refl,
+  record { taken = point ∷ []; gone = 0; rest = refl; few = omega arith; counted = omega arith; inside = omega arith },
+)
+
+never-more :
+    let ks = map step (enabled ++ (turns ++ (eventCall 6 [] ∷ []))) in
+    (edgesIn ks (ran []) ≡ 2) × (reachedIn ks (ran []) ≡ 1) × (heldAt (after ks (ran [])) ≡ point ∷ [])
+unfolding open-rules open-promises
+never-more = (refl, refl, refl)
+
+-- along the writes of one call, each of 6040h counts
+edges-along : edges 0x0F (write controlWord 0x1F ∷ write mode 0x01 ∷ write controlWord 0x0F ∷ write controlWord 0x1F ∷ []) ≡ 2
+unfolding open-rules open-promises
+edges-along = refl
+
+-- ---- HeldBitTakesNothing: two set-points with the same numbers are held; the first is reached, and 1Fh is written again: the second is left
+held-takes-none :
+    let a = ran (enabled ++ turns) in
+    let ks = map step (eventCall 6 [] ∷ control 0x1F ∷ []) in
+    HoldsBitFour ks a × (reachedIn ks a ≡ 1) × (heldAt a ≡ point ∷ point ∷ []) × (heldAt (after ks a) ≡ point ∷ [])
+unfolding open-rules open-promises
+held-takes-none = ((refl, refl, (refl, refl, tt)), refl, refl, refl)
+
+-- ---- ShutsOut: a node of each kind
+
+abbrev nodeWith : Refusal → Answers
+nodeWith r c s d o = record { refusal = r; frames = 0; state = s; dictionary = d; output = o }
+
+-- it refuses everything
+refusing-falls : RefusesEverything (nodeWith OutOfPlace) × (keepsExamples (nodeWith OutOfPlace) ≡ false)
+unfolding open-rules open-examples
+refusing-falls = (λ c s d o e. omega arith, refl)
+
+-- it does nothing
+doing-nothing-falls : SendsAlways (nodeWith Accepted) 0 × (keepsExamples (nodeWith Accepted) ≡ false)
+unfolding open-rules open-examples
+doing-nothing-falls = (λ c s d o. refl, refl)
+
+-- it is the node after power-up, and idle then
+abbrev idleNode : Answers
+idleNode (powerUpCall n) s d o = answer (powerUpCall n) s d o
+idleNode (frameCall i bs) s d o = nodeWith Accepted (frameCall i bs) s d o
+idleNode (eventCall k xs) s d o = nodeWith Accepted (eventCall k xs) s d o
+
+idle-falls : SendsNothingLater idleNode × ChangesNothingLater idleNode × (keepsExamples idleNode ≡ false)
+unfolding open-rules open-examples
+idle-falls = (quiet, still, refl)
+  where
+    quiet : SendsNothingLater idleNode
+    quiet (powerUpCall n) s d o h = absurd (false≢true h)
+    quiet (frameCall i bs) s d o h = refl
+    quiet (eventCall k xs) s d o h = refl
+
+    still : ChangesNothingLater idleNode
+    still (powerUpCall n) s d o h = absurd (false≢true h)
+    still (frameCall i bs) s d o h = refl
+    still (eventCall k xs) s d o h = refl
+
+-- it is the node, and answers each frame as if 6040h had been written
+abbrev constantReply : List Frame
+constantReply = reply (0x60 ∷ 0x40 ∷ 0x60 ∷ 0x00 ∷ 0x00 ∷ 0x00 ∷ 0x00 ∷ 0x00 ∷ []) ∷ []
+
+abbrev replyingNode : Answers
+replyingNode (powerUpCall n) s d o = answer (powerUpCall n) s d o
+replyingNode (frameCall i bs) s d o =
+    let u = answer (frameCall i bs) s d o in
+    record { refusal = u .refusal; frames = 1; state = u .state; dictionary = u .dictionary; output = sentInto o constantReply }
+replyingNode (eventCall k xs) s d o = answer (eventCall k xs) s d o
+
+replying-falls : RepliesAlike replyingNode constantReply × (keepsExamples replyingNode ≡ false)
+unfolding open-rules open-examples
+replying-falls = (λ bs s d o. refl, refl)
+
+-- it is the node, and reports six frames
+abbrev sixFrames : Answers
+sixFrames c s d o =
+    let u = answer c s d o in
+    record { refusal = u .refusal; frames = 6; state = u .state; dictionary = u .dictionary; output = u .output }
+
+six-frames-fall : SendsAlways sixFrames 6 × (keepsExamples sixFrames ≡ false)
+unfolding open-rules open-examples
+six-frames-fall = (λ c s d o. refl, refl)

@@ -41,11 +41,12 @@ use Rattle.rules_services.specs.declared.Event.{Event}
 use Rattle.rules_services.specs.declared.Event.the-variants.{Started as started, QuickStopDone as quickStopDone, ReactionDone as reactionDone}
 use Rattle.rules_services.specs.declared.Event.the-variants.{SetPointReached as setPointReached, Tick as tick, CauseGone as causeGone, Fault as fault}
 use Rattle.rules_services.specs.declared.Event.the-variants.{Feedback as feedback, Voltage as voltage}
-use Rattle.rules.specs.Outcome.{statusOf, encoded, sentInto, mostData, frameSize, transmitters}
+use Rattle.rules.specs.Outcome.{statusOf, encoded, sentInto, mostData, mostFrames, frameSize, transmitters}
 use Rattle.rules.specs.Sound.{sound}
 use Rattle.rules.specs.Calls.{Call, powerUpCall, frameCall, eventCall, Decision, refuses, does as performs, decided, Outcome, answer, outputLength}
+use Rattle.rules.specs.Calls.{refusalNumber}
 use Rattle.rules.specs.Scripts.{Answers, givenBy}
-use Rattle.rules.specs.Examples.{examples}
+use Rattle.rules.specs.Examples.{request, examples}
 
 -- ---- a run: an accepted power-up, and then calls in any number, refused ones included, each handed the state and the dictionary that the
 -- one before handed back, with output of any length
@@ -159,7 +160,7 @@ laid (f ∷ fs) = encoded f ++ laid fs
 pub record FramesOf (u : Outcome) (o : List ℕ) : Type 0 where
   pub sent : List Frame
   pub counted : u .frames ≡ length sent
-  pub most : length sent ≤ 6
+  pub most : length sent ≤ mostFrames
   pub short : (f : Frame) → In f sent → length (f .content) ≤ mostData
   pub inOrder : Ordered (record { state = u .state; dictionary = u .dictionary }) sent
   pub output : u .output ≡ laid sent ++ drop (frameSize * length sent) o
@@ -171,43 +172,47 @@ abbrev pub ElevenBytes : Type 0
 ElevenBytes = (f : Frame) → length (encoded f) ≡ frameSize
 
 -- ---- "Shut out by demand 2: a node that refuses everything, one with a constant reply, one that does nothing, one that reports six frames
--- always. One idle after power-up falls to 2 and 3.": the ten examples hold of the rules, and of none of these
+-- always. One idle after power-up falls to 2 and 3.": the ten examples hold of the rules, and of no node that is of one of these kinds, whatever
+-- else it does
 
 abbrev pub keepsExamples : Answers → Bool
 keepsExamples node = all (givenBy node) examples
 
-unfoldable pub refusesEverything : Answers
-refusesEverything c s d o = record { refusal = DictionaryLength; frames = 0; state = s; dictionary = d; output = o }
+-- for whatever reason
+abbrev pub RefusesEverything : Answers → Type 0
+RefusesEverything node = (c : Call) (s : State) (d o : List ℕ) → refusalNumber (node c s d o .refusal) ≡ 0 → ⊥
 
-unfoldable pub doesNothing : Answers
-doesNothing c s d o = record { refusal = Accepted; frames = 0; state = s; dictionary = d; output = o }
+-- the same frames to every request to node 5, of which the examples speak, whatever these frames are
+abbrev pub RepliesAlike : Answers → List Frame → Type 0
+RepliesAlike node fs = (bs : List ℕ) (s : State) (d o : List ℕ) → node (request bs) s d o .output ≡ sentInto o fs
 
-unfoldable pub constantReply : Answers
-constantReply (frameCall i bs) s d o =
-    record {
-      refusal = Accepted;
-      frames = 1;
-      state = s;
-      dictionary = d;
-      output = sentInto o (frame (replyBase + s .node .id) (0x60 ∷ 0x40 ∷ 0x60 ∷ 0x00 ∷ 0x00 ∷ 0x00 ∷ 0x00 ∷ 0x00 ∷ []) ∷ []);
-    }
-constantReply (powerUpCall n) s d o = answer (powerUpCall n) s d o
-constantReply (eventCall k xs) s d o = answer (eventCall k xs) s d o
+-- so many frames to every call
+abbrev pub SendsAlways : Answers → ℕ → Type 0
+SendsAlways node n = (c : Call) (s : State) (d o : List ℕ) → node c s d o .frames ≡ n
 
-unfoldable pub sixFramesAlways : Answers
-sixFramesAlways c s d o =
-    let u = answer c s d o in
-    record { refusal = u .refusal; frames = 6; state = u .state; dictionary = u .dictionary; output = u .output }
+-- a call that is no power-up
+abbrev pub isLater : Call → Bool
+isLater (powerUpCall n) = false
+isLater (frameCall i bs) = true
+isLater (eventCall k xs) = true
 
-unfoldable pub idleAfterPowerUp : Answers
-idleAfterPowerUp (powerUpCall n) s d o = answer (powerUpCall n) s d o
-idleAfterPowerUp (frameCall i bs) s d o = record { refusal = Accepted; frames = 0; state = s; dictionary = d; output = o }
-idleAfterPowerUp (eventCall k xs) s d o = record { refusal = Accepted; frames = 0; state = s; dictionary = d; output = o }
+-- idle after power-up: it sends nothing, ..
+abbrev pub SendsNothingLater : Answers → Type 0
+SendsNothingLater node = (c : Call) (s : State) (d o : List ℕ) → isLater c ≡ true → node c s d o .frames ≡ 0
+
+-- .. or it changes nothing
+abbrev pub ChangesNothingLater : Answers → Type 0
+ChangesNothingLater node = (c : Call) (s : State) (d o : List ℕ) → isLater c ≡ true → node c s d o .dictionary ≡ d
 
 abbrev pub ShutsOut : Type 0
 ShutsOut =
-    (keepsExamples answer ≡ true) × (keepsExamples refusesEverything ≡ false) × (keepsExamples constantReply ≡ false)
-    × (keepsExamples doesNothing ≡ false) × (keepsExamples sixFramesAlways ≡ false) × (keepsExamples idleAfterPowerUp ≡ false)
+    (keepsExamples answer ≡ true)
+    × ((node : Answers) → RefusesEverything node → keepsExamples node ≡ false)
+    × ((node : Answers) (fs : List Frame) → RepliesAlike node fs → keepsExamples node ≡ false)
+    × ((node : Answers) → SendsAlways node 0 → keepsExamples node ≡ false)
+    × ((node : Answers) → SendsAlways node mostFrames → keepsExamples node ≡ false)
+    × ((node : Answers) → SendsNothingLater node → keepsExamples node ≡ false)
+    × ((node : Answers) → ChangesNothingLater node → keepsExamples node ≡ false)
 
 -- ---- demand 3, "After each call the dictionary is the one demand 2's rules give": sound in every clause of document 01
 
