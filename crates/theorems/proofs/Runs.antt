@@ -241,8 +241,10 @@ power-up-holds : (n : ℕ) (a : Stand) (o : List ℕ) → isNodeId n ≡ true �
     outputLength ≤ length o → Holds (left (record { call = powerUpCall n; output = o }) a)
 unfolding answer answered accepted
 power-up-holds n a o legal long bytes room =
-    subst (λ (x : Decision). Holds (standing (answered x (a .state) (a .dictionary) o))) (sym (power-up-decided n (a .state) (a .dictionary) o legal long room))
-    (ended-holds (a .state) (a .dictionary) (powerUp n) long bytes (fresh-lawful n (a .dictionary) legal long))
+    let s = a .state in
+    let d = a .dictionary in
+    subst (λ (x : Decision). Holds (standing (answered x s d o))) (sym (power-up-decided n s d o legal long room))
+    (ended-holds s d (powerUp n) long bytes (fresh-lawful n d legal long))
 
 -- THE INVARIANT of every run
 pub run-holds : (r : Run) → Holds (reached r)

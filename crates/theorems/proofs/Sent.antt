@@ -10,7 +10,8 @@ use Rattle.theorems.proofs.Words.{not-true, by-test, whichever, on-ways
 use Rattle.theorems.proofs.Services.{Serves, Releases, Before, longer}
 use Rattle.theorems.proofs.{Lawful.finally, DriveKept.emptied-same, DriveKept.rule-same}
 use Rattle.theorems.proofs.{Runs.run-holds, Runs.ended-bytes, Runs.Decides, Runs.decides, Demands.ready-at, Settled.register-in}
-use Rattle.rules_dictionary.specs.{Numbers.all, Numbers.areBytes, Numbers.isByte, Numbers.padded, Numbers.bytes, Numbers.filter, Numbers.part, Numbers.value}
+use Rattle.rules_dictionary.specs.{Numbers.all, Numbers.areBytes, Numbers.isByte, Numbers.padded, Numbers.bytes, Numbers.filter, Numbers.part}
+use Rattle.rules_dictionary.specs.{Numbers.value}
 use Rattle.rules_dictionary.specs.{Table.Row, Table.sizeOf, Table.mostMoves, Table.identifier, Table.dictionaryLength, Table.controlWord, Table.mode}
 use Rattle.rules_dictionary.specs.{Table.heartbeatTime, Table.errorRegister, Table.eachWay, Table.placeOf, Plans.mapped, Plans.pdoData, Plans.joined}
 use Rattle.rules_dictionary.specs.{Plans.readyOf, Plans.readyFor, Values.Write, Values.field, Values.read, Values.store, Values.stored}
@@ -26,8 +27,8 @@ use Rattle.rules.specs.Outcome.{ended, settled, paceFor, transmissions, transmi
 use Rattle.rules.specs.Calls.{Call, Decision, refuses, does as performs, refused, accepted, answered, answer}
 use Rattle.rules_dictionary.proofs.Defaults.{length-bytes}
 use Rattle.rules.proofs.Encoded.{length-encoded}
-use Rattle.theorems.specs.Promises.{octets, reached, Ordered, laid, FramesOf, AtMostSixInOrder, OutputOfBytes, isOn, codeOf, inOrderOfCause, ElevenBytes}
-use Rattle.theorems.specs.Promises.{Stand}
+use Rattle.theorems.specs.Promises.{octets, reached, Ordered, laid, FramesOf, AtMostSixInOrder, OutputOfBytes, isOn, codeOf, inOrderOfCause}
+use Rattle.theorems.specs.Promises.{ElevenBytes, Stand}
 
 -- ---- eleven bytes
 
@@ -142,7 +143,8 @@ two-caused : (fs gs : List Frame) → length fs ≤ 1 → length gs ≤ 1 → al
     inOrderOfCause (map codeOf (fs ++ gs)) ≡ true
 two-caused [] gs a b p q = one-caused gs b
 two-caused (f ∷ []) [] a b p q = refl
-two-caused (f ∷ []) (g ∷ []) a b p q = and-both (isOf pdoTooLong f) (goesBehind g) (and-left (isOf pdoTooLong f) true p) (and-left (goesBehind g) true q)
+two-caused (f ∷ []) (g ∷ []) a b p q =
+    and-both (isOf pdoTooLong f) (goesBehind g) (and-left (isOf pdoTooLong f) true p) (and-left (goesBehind g) true q)
 two-caused (f ∷ []) (g ∷ h ∷ gs) a b p q = absurd (omega arith)
 two-caused (f ∷ e ∷ fs) gs a b p q = absurd (omega arith)
 

@@ -9,7 +9,8 @@ use Rattle.rules.specs.Calls.{Outcome, answer, refusalNumber}
 use Rattle.rules.specs.Scripts.{Line, Answers, blank, matches, runs, nothing, zeros, givenBy, fromNothing}
 use Rattle.rules.specs.Examples.{examples, open-examples}
 use Rattle.rules.proofs.Examples.{ten-examples}
-use Rattle.theorems.specs.Promises.{keepsExamples, RefusesEverything, RepliesAlike, SendsAlways, SendsNothingLater, ChangesNothingLater, ShutsOut}
+use Rattle.theorems.specs.Promises.{keepsExamples, RefusesEverything, RepliesAlike, SendsAlways, SendsNothingLater, ChangesNothingLater}
+use Rattle.theorems.specs.Promises.{ShutsOut}
 
 kept : keepsExamples answer ≡ true
 unfolding fromNothing

@@ -1,43 +1,42 @@
 -- Set-points are taken at the edges of bit 4 and nowhere else, by counting: no service takes more than bit 4 rose along its writes.
 -- Assumes nothing.
-use Rattle.theorems.proofs.Words.{ℕ, _+_, _≤_, _^_, _<_, arith, _≡_, refl, sym, _∙_, ap, subst, inl, inr, Bool, true, false, cond, not, _&&_, _||_}
-use Rattle.theorems.proofs.Words.{drop-of-length-le, List, [], _∷_, _++_, append-nil, append-assoc, length, length-append, length-drop, drop}
-use Rattle.theorems.proofs.Words.{drop-drop, DriveState, SetPoint, Store, Empty, Rested, Moving, Queued, Drive, State, within, same-or-apart}
-use Rattle.theorems.proofs.Words.{length-store, read-same, read-apart, apart, same-self, here, there, In, and-left, and-right, all-in, by-test}
-use Rattle.theorems.proofs.Words.{by-match, not-true, implied, whichever, either, clash, eqb, leb, eq-eqb, le-leb, Told, Happened, Bad, Started}
-use Rattle.theorems.proofs.Words.{QuickStopDone, ReactionDone, SetPointReached, Tick, CauseGone, Feedback, Voltage}
 use lib.Seq.{drop-append-le, drop-at}
-use mathlib.Core.Bool.{and-false, false≢true}
+use mathlib.Core.Bool.{and-false}
+use Rattle.theorems.proofs.Words.{ℕ, _+_, _≤_, _^_, _<_, arith, _≡_, refl, sym, _∙_, ap, subst, inl, inr, Bool, true, false, cond, not, _&&_}
+use Rattle.theorems.proofs.Words.{_||_, false≢true, drop-of-length-le, List, [], _∷_, _++_, append-nil, append-assoc, length, length-append}
+use Rattle.theorems.proofs.Words.{eqb, length-drop, drop, drop-drop, leb, DriveState, SetPoint, Store, Empty, Rested, Moving, Queued, Drive}
+use Rattle.theorems.proofs.Words.{State, In, here, there, Told, Happened, Bad, Started, QuickStopDone, ReactionDone, SetPointReached, Tick}
+use Rattle.theorems.proofs.Words.{CauseGone, Feedback, Voltage, within, same-or-apart, apart, same-self, length-store, read-same, read-apart}
+use Rattle.theorems.proofs.Words.{and-left, and-right, all-in, by-test, by-match, whichever, either, clash, implied}
 use Rattle.theorems.proofs.Services.{Serves, Releases, applied-all}
-use Rattle.theorems.proofs.{Settled.control-in, Settled.register-in, Writes.Fitting, Lawful.Lawful, Lawful.finally, Runs.Decides, Runs.decides, Runs.power-up-decided}
-use Rattle.rules_dictionary.specs.Table.{same, dictionaryLength, controlWord, mode, heartbeatTime, table, sizeOf, open-table, Row}
+use Rattle.theorems.proofs.Runs.{Decides, decides, power-up-decided}
+use Rattle.theorems.proofs.{Settled.control-in, Settled.register-in, Writes.Fitting, Lawful.Lawful, Lawful.finally}
+use Rattle.rules_dictionary.specs.Table.{Row, same, dictionaryLength, controlWord, mode, heartbeatTime, table, sizeOf, open-table}
 use Rattle.rules_dictionary.specs.{Numbers.all, Numbers.bit, Values.Write, Values.read, Values.store, Values.stored}
 use Rattle.drive.specs.DriveStates.{command, next}
-use Rattle.drive.specs.SetPoints.{positions, emptied, enters, withState, behind, isQueued, isMoving, target, withinLimits, setPoint, offered, setPointRule}
-use Rattle.drive.specs.SetPoints.{modeWritten, controlWritten, reached, newSetPointBit, atOnceBit}
+use Rattle.drive.specs.SetPoints.{positions, emptied, enters, withState, behind, isQueued, isMoving, target, withinLimits, setPoint, offered}
+use Rattle.drive.specs.SetPoints.{setPointRule, modeWritten, controlWritten, reached, newSetPointBit, atOnceBit}
 use Rattle.rules_services.specs.Written.{wrote, countRestarted, modeActed, faultReset, controlActed, applied}
 use Rattle.rules_services.specs.Nmt.{commanded, powerUp, freshState, left, voltageDisabled}
-use Rattle.rules_services.specs.{Effects.Effect, Effects.becomes, Effects.andThen, Effects.withHeld, Events.faulted, Events.happens, Events.isInPlace}
-use Rattle.rules_services.specs.declared.Event.the-variants.{Fault}
-use Rattle.rules_services.specs.Events.{eventOf}
-use Rattle.rules.specs.Outcome.{ended}
-use Rattle.rules.specs.Sound.{sound}
-use Rattle.rules.specs.Calls.{Call, powerUpCall, frameCall, eventCall, Decision, decided, decision, eventDecision, refused, accepted, answered, answer}
-use Rattle.rules.specs.Calls.{outputLength}
+use Rattle.rules_services.specs.Events.{eventOf, isInPlace, happens, faulted}
+use Rattle.rules_services.specs.{Effects.Effect, Effects.andThen, Effects.withHeld, declared.Event.the-variants.Fault}
+use Rattle.rules.specs.Calls.{Call, powerUpCall, frameCall, eventCall, Decision, decided, decision, eventDecision, refused, accepted, answered}
+use Rattle.rules.specs.Calls.{answer}
+use Rattle.rules.specs.{Calls.outputLength, Outcome.ended, Sound.sound}
 use Rattle.rules.proofs.AtEnd.{at-end}
-use Rattle.theorems.specs.Promises.{points, Passed, rise, wordBehind, edges, edgesIn, reachedIn, isReached, tellsReached, isAccepted, writesOf}
-use Rattle.theorems.specs.Promises.{Step, Stand, Run, decidedAt, heldAt, begun, after, octets, allOctets, reached as reachedBy, HoldsBitFour}
-use Rattle.theorems.specs.Promises.{keepsBitFour, OneEdgeTakesOne, NeverMoreThanEdges, HeldBitTakesNothing}
+use Rattle.theorems.specs.Promises.{Step, Stand, after, octets, allOctets, Run, begun, reached as reachedBy, points, heldAt, decidedAt}
+use Rattle.theorems.specs.Promises.{writesOf, wordBehind, rise, edges, edgesIn, isReached, tellsReached, isAccepted, reachedIn, Passed}
+use Rattle.theorems.specs.Promises.{HoldsBitFour, OneEdgeTakesOne, NeverMoreThanEdges, HeldBitTakesNothing}
 use Rattle.drive.specs.SetPoints as SetPoints
 use Rattle.theorems.specs.Promises as Promises
 
 -- ---- from the set-points held before to those held later
 
-pub stays : {n : ℕ} {xs : List SetPoint} → Passed n 0 xs xs
+stays : {n : ℕ} {xs : List SetPoint} → Passed n 0 xs xs
 stays {xs = xs} =
     record { taken = []; gone = 0; rest = sym (append-nil xs); few = omega arith; counted = omega arith; inside = omega arith }
 
-pub empties : {n : ℕ} (xs : List SetPoint) → Passed n 0 xs []
+empties : {n : ℕ} (xs : List SetPoint) → Passed n 0 xs []
 empties xs =
     let all = xs ++ [] in
     record {
@@ -50,7 +49,7 @@ empties xs =
     }
 
 -- one after another, where no more is counted of edges, and no less of set-points reached
-pub onward : {e f g p q r : ℕ} {xs ys zs : List SetPoint} → Passed e p xs ys → Passed f q ys zs → e + f ≤ g → r ≤ p + q → Passed g r xs zs
+onward : {e f g p q r : ℕ} {xs ys zs : List SetPoint} → Passed e p xs ys → Passed f q ys zs → e + f ≤ g → r ≤ p + q → Passed g r xs zs
 onward {xs = xs} {ys = ys} a b most least =
     let front = xs ++ a .taken in
     let whole : front ++ b .taken ≡ xs ++ (a .taken ++ b .taken) = append-assoc xs (a .taken) (b .taken) in
@@ -78,7 +77,7 @@ emptied-passes : {n : ℕ} (v : Drive) → Passed n 0 (points (v .store)) (point
 unfolding emptied
 emptied-passes {n} v = whichever (λ (w : Drive). Passed n 0 (points (v .store)) (points (w .store))) (positions v) stays (empties (points (v .store)))
 
-pub enters-passes : {n : ℕ} (q : DriveState) (v : Drive) → Passed n 0 (points (v .store)) (points (enters q v .store))
+enters-passes : {n : ℕ} (q : DriveState) (v : Drive) → Passed n 0 (points (v .store)) (points (enters q v .store))
 unfolding enters
 enters-passes q v = emptied-passes (withState q v)
 
@@ -129,7 +128,7 @@ rule-passes d old word v =
     (λ down. stays)
 
 -- first the drive command, which takes nothing, then the rule
-pub control-passes : (d : List ℕ) (old : ℕ) (v : Drive) →
+control-passes : (d : List ℕ) (old : ℕ) (v : Drive) →
     Passed (rise old (read d controlWord)) 0 (points (v .store)) (points (controlWritten d old v .drive .store))
 unfolding controlWritten
 control-passes d old v =
@@ -194,11 +193,11 @@ edges-both (w ∷ ws) vs d l fit =
 
 -- ---- what an effect does to the set-points held: no more is taken than bit 4 rose along its writes
 
-abbrev pub PassesBy : State → List ℕ → Effect → Type 0
+abbrev PassesBy : State → List ℕ → Effect → Type 0
 PassesBy s d e = Passed (edges (read d controlWord) (e .writes)) 0 (points (s .axis .drive .store)) (points (e .state .axis .drive .store))
 
 -- writes that are acted on: first the mode, then the control word
-pub applied-passes : (ws : List Write) (s : State) (d : List ℕ) → length d ≡ dictionaryLength → Fitting ws → PassesBy s d (applied ws s d)
+applied-passes : (ws : List Write) (s : State) (d : List ℕ) → length d ≡ dictionaryLength → Fitting ws → PassesBy s d (applied ws s d)
 unfolding applied controlActed faultReset modeActed countRestarted modeWritten
 applied-passes ws s d l fit =
     let old = read d controlWord in
@@ -215,7 +214,8 @@ applied-passes ws s d l fit =
     λ vs. omega (arith, one-edge ws d l fit, edges-both ws vs d l fit) in
     let controlled : (vs : List Write) → Passed (edges old (ws ++ vs)) 0 (points (s .axis .drive .store)) (points (c .drive .store)) =
     λ vs. onward moded (control-passes d1 old (t .axis .drive)) (omega (arith, along vs)) (omega arith) in
-    whichever Q (wrote controlWord ws) (whichever Q (c .reset) (controlled _) (controlled [])) (onward moded (stays {n = 0}) (omega arith) (omega arith))
+    whichever Q (wrote controlWord ws) (whichever Q (c .reset) (controlled _) (controlled []))
+    (onward moded (stays {n = 0}) (omega arith) (omega arith))
 
 releases-pass : {xs : List Row} {s : State} {d : List ℕ} {e : Effect} → Releases xs s d e → PassesBy s d e
 unfolding andThen
@@ -223,7 +223,8 @@ releases-pass Releases.none = stays
 releases-pass (Releases.skips rest) = releases-pass rest
 releases-pass {s = s} {d = d} (Releases.next q ws {e} cleared may inside rest) =
     let a = applied ws (withHeld q s) d in
-    let fitting = applied-all (λ w. In (w .row) table × (w .value < 256 ^ sizeOf (w .row))) ws (withHeld q s) d (may .fit) (λ e. (register-in, omega arith)) in
+    let fitting =
+    applied-all (λ w. In (w .row) table × (w .value < 256 ^ sizeOf (w .row))) ws (withHeld q s) d (may .fit) (λ e. (register-in, omega arith)) in
     onward (applied-passes ws (withHeld q s) d (cleared .long) (may .fit)) (releases-pass rest)
     (omega (arith, edges-both (a .writes) (e .writes) d (cleared .long) fitting)) (omega arith)
 
@@ -322,7 +323,8 @@ unfolding answer answered accepted ended powerUp freshState
 begun-empty r =
     let s = r .found .state in
     let d = r .found .dictionary in
-    ap (λ (x : Decision). points (answered x s d (r .output) .state .axis .drive .store)) (power-up-decided (r .node) s d (r .output) (r .legal) (r .long) (r .room))
+    ap (λ (x : Decision). points (answered x s d (r .output) .state .axis .drive .store))
+    (power-up-decided (r .node) s d (r .output) (r .legal) (r .long) (r .room))
     ∙ ap points (finally-store d (powerUp (r .node)))
 
 pub never-more-than-edges : NeverMoreThanEdges
@@ -348,7 +350,8 @@ held-edges : (ws : List Write) (word : ℕ) → bit newSetPointBit word ≡ true
 unfolding edges
 held-edges [] word h k = refl
 held-edges (w ∷ ws) word h k =
-    let still = by-test (λ (v : ℕ). bit newSetPointBit v ≡ true) (same controlWord (w .row))
+    let still : bit newSetPointBit (wordBehind word w) ≡ true =
+    by-test (λ (v : ℕ). bit newSetPointBit v ≡ true) (same controlWord (w .row))
     (λ e. implied (same controlWord (w .row)) (bit newSetPointBit (w .value)) (and-left (keepsOne w) (all keepsOne ws) k) e) (λ e. h) in
     rw h (omega (arith, held-edges ws (wordBehind word w) still (and-right (keepsOne w) (all keepsOne ws) k)))
 

@@ -1,19 +1,20 @@
 -- For each promise a telling run of node 5, computed: the promise's premises are met there, and what it promises is seen. Each is a run on which
 -- a wrong rule of docs/PROMISES.md shows.
 -- Assumes nothing.
-use Rattle.theorems.proofs.Words.{ℕ, zero, suc, _+_, _*_, _≡_, refl, Bool, true, not, _&&_, _||_, List, [], _∷_, _++_, map, eqb, ltb, length}
-use Rattle.theorems.proofs.Words.{getD, PdoData, arith, take, drop, false, false≢true, Refusal, Accepted, OutOfPlace, SetPoint}
+use Rattle.theorems.proofs.Words.{ℕ, zero, suc, _≡_, refl, Bool, true, not, _&&_, _||_, List, [], _∷_, _++_, map, eqb, ltb, length, getD}
+use Rattle.theorems.proofs.Words.{PdoData, arith, drop, and-eq-true-iff, false, false≢true, Refusal, Accepted, OutOfPlace, SetPoint}
 use Rattle.rules_dictionary.specs.Plans.{mapped, plansOf, joined, pdoData}
 use Rattle.rules_dictionary.specs.{Numbers.all, Numbers.any, Numbers.areBytes, Table.statusWord, Table.eachWay, Table.dictionaryLength, Values.read}
-use Rattle.rules_dictionary.specs.{Numbers.value, Numbers.part, Table.controlWord, Table.mode, Values.write}
+use Rattle.rules_dictionary.specs.{Numbers.value, Numbers.part, Numbers.bit, Table.controlWord, Table.mode, Values.write}
+use Rattle.drive.specs.SetPoints.{newSetPointBit}
 use Rattle.rules_services.specs.{Effects.Frame, Effects.frame, PdoTraffic.listens, PdoTraffic.mappedLength, PdoTraffic.noData}
 use Rattle.rules.specs.Outcome.{statusOf, sameBy, samePlan, sameData, encoded, sentInto, frameSize}
 use Rattle.rules.specs.Calls.{Call, powerUpCall, frameCall, eventCall, Outcome, answer, refusalNumber}
-use Rattle.rules.specs.{Sound.sound, Scripts.blank, Scripts.nothing, Scripts.zeros, Scripts.Answers, Scripts.open-rules}
-use Rattle.rules.specs.Examples.{request, reply, nmt, open-examples}
-use Rattle.theorems.specs.Promises.{Step, Stand, does, after, mayChange, covers, open-promises, inOrderOfCause, heldAt, edges, edgesIn, reachedIn}
-use Rattle.theorems.specs.Promises.{Passed, HoldsBitFour, keepsExamples, RefusesEverything, RepliesAlike, SendsAlways, SendsNothingLater}
-use Rattle.theorems.specs.Promises.{ChangesNothingLater}
+use Rattle.rules.specs.{Sound.sound, Scripts.blank, Scripts.nothing, Scripts.zeros, Scripts.Answers, Scripts.givenBy, Scripts.open-rules}
+use Rattle.rules.specs.Examples.{request, reply, nmt, example4, open-examples}
+use Rattle.theorems.specs.Promises.{Step, Stand, does, left, after, mayChange, covers, open-promises, inOrderOfCause, heldAt, edges, edgesIn}
+use Rattle.theorems.specs.Promises.{reachedIn, Passed, keepsBitFour, HoldsBitFour, keepsExamples, RefusesEverything, RepliesAlike, SendsAlways}
+use Rattle.theorems.specs.Promises.{SendsNothingLater, ChangesNothingLater}
 
 -- ---- the calls of the runs
 
@@ -42,9 +43,9 @@ write1 low high subindex b = request (0x2F ∷ low ∷ high ∷ subindex ∷ b �
 abbrev operational : Call
 operational = nmt 0x01
 
--- Operation enabled in mode 1
-abbrev enabled : List Call
-enabled = started ∷ control 0x06 ∷ control 0x0F ∷ write1 0x60 0x60 0x00 0x01 ∷ []
+-- Ready in mode 1
+abbrev readied : List Call
+readied = started ∷ write1 0x60 0x60 0x00 0x01 ∷ control 0x06 ∷ []
 
 -- ---- SoundAlways: a frame is held for SYNC when the node is stopped
 sound-after-stop :
@@ -126,55 +127,47 @@ bad-value-dropped = refl
 
 -- ---- AtMostSixInOrder
 
--- the frames of an answer, eleven bytes each, and what stands in them
+-- of each frame of an answer the identifier, the length, and the first two data bytes as a word: an emergency's code, a PDO's 6041h
 abbrev cut : ℕ → List ℕ → List (List ℕ)
 cut zero o = []
-cut (suc n) o = take frameSize o ∷ cut n (drop frameSize o)
+cut (suc n) o = (value (part 0 2 o) ∷ getD o 2 0 ∷ value (part 3 2 o) ∷ []) ∷ cut n (drop frameSize o)
 
 abbrev sentBy : Outcome → List (List ℕ)
 sentBy u = cut (u .frames) (u .output)
 
-abbrev identifiersOf : Outcome → List ℕ
-identifiersOf u = map (λ f. value (part 0 2 f)) (sentBy u)
-
-abbrev lengthsOf : Outcome → List ℕ
-lengthsOf u = map (λ f. getD f 2 0) (sentBy u)
-
--- of frames that are emergencies
-abbrev codesOf : Outcome → List ℕ
-codesOf u = map (λ f. value (part 3 2 f)) (sentBy u)
-
 -- a fault whose cause is gone, in Operational
-abbrev faultedCalls : List Call
-faultedCalls = started ∷ eventCall 3 (0x10 ∷ 0x23 ∷ 0x02 ∷ []) ∷ eventCall 4 [] ∷ eventCall 8 [] ∷ operational ∷ []
+abbrev inFault : List Call
+inFault = eventCall 3 (0x10 ∷ 0x23 ∷ 0x02 ∷ []) ∷ eventCall 4 [] ∷ eventCall 8 [] ∷ operational ∷ []
 
--- an SDO write that resets it: the reply on 585h, the emergency on 085h, and behind them the four transmit PDOs, each within eight bytes
+-- an SDO write that resets it: the reply on 585h, the emergency on 085h, and behind them the four transmit PDOs
 reply-comes-first :
-    let u = answers (control 0x80) faultedCalls in
-    (identifiersOf u ≡ 0x585 ∷ 0x085 ∷ 0x185 ∷ 0x285 ∷ 0x385 ∷ 0x485 ∷ []) × (lengthsOf u ≡ 8 ∷ 8 ∷ 2 ∷ 3 ∷ 6 ∷ 6 ∷ [])
+    sentBy (answers (control 0x80) inFault)
+    ≡ (0x585 ∷ 8 ∷ 0x4060 ∷ []) ∷ (0x085 ∷ 8 ∷ 0x0000 ∷ []) ∷ (0x185 ∷ 2 ∷ 0x0240 ∷ []) ∷ (0x285 ∷ 3 ∷ 0x0240 ∷ []) ∷ (0x385 ∷ 6 ∷ 0x0240 ∷ [])
+    ∷ (0x485 ∷ 6 ∷ 0x0240 ∷ []) ∷ []
 unfolding open-rules open-promises
-reply-comes-first = (refl, refl)
+reply-comes-first = refl
+
+-- receive PDO 1 with a byte too many resets it: 8220h, and then 0000h
+long-then-reset :
+    sentBy (answers (frameCall 0x205 (0x80 ∷ 0x00 ∷ 0x00 ∷ [])) inFault)
+    ≡ (0x085 ∷ 8 ∷ 0x8220 ∷ []) ∷ (0x085 ∷ 8 ∷ 0x0000 ∷ []) ∷ (0x185 ∷ 2 ∷ 0x0240 ∷ []) ∷ (0x285 ∷ 3 ∷ 0x0240 ∷ []) ∷ (0x385 ∷ 6 ∷ 0x0240 ∷ [])
+    ∷ (0x485 ∷ 6 ∷ 0x0240 ∷ []) ∷ []
+unfolding open-rules open-promises
+long-then-reset = refl
 
 -- receive PDO 2 with a byte too many and mode 7: 8220h, and then 8200h
 long-then-refused :
-    let u = answers (frameCall 0x305 (0x06 ∷ 0x00 ∷ 0x07 ∷ 0x00 ∷ [])) (started ∷ operational ∷ []) in
-    (identifiersOf u ≡ 0x085 ∷ 0x085 ∷ []) × (codesOf u ≡ 0x8220 ∷ 0x8200 ∷ []) × (inOrderOfCause (codesOf u) ≡ true)
+    sentBy (answers (frameCall 0x305 (0x06 ∷ 0x00 ∷ 0x07 ∷ 0x00 ∷ [])) (operational ∷ []))
+    ≡ (0x085 ∷ 8 ∷ 0x8220 ∷ []) ∷ (0x085 ∷ 8 ∷ 0x8200 ∷ []) ∷ []
 unfolding open-rules open-promises
-long-then-refused = (refl, refl, refl)
+long-then-refused = refl
 
--- receive PDO 1 with a byte too many resets the fault: 8220h, and then 0000h
-long-then-reset :
-    let u = answers (frameCall 0x205 (0x80 ∷ 0x00 ∷ 0x00 ∷ [])) faultedCalls in
-    (identifiersOf u ≡ 0x085 ∷ 0x085 ∷ 0x185 ∷ 0x285 ∷ 0x385 ∷ 0x485 ∷ [])
-    × (take 2 (codesOf u) ≡ 0x8220 ∷ 0x0000 ∷ []) × (inOrderOfCause (take 2 (codesOf u)) ≡ true)
-unfolding open-rules open-promises
-long-then-reset = (refl, refl, refl)
-
--- the other way round they are not in order, nor are three, nor any other two
-out-of-order :
-    map inOrderOfCause ((0x8200 ∷ 0x8220 ∷ []) ∷ (0x0000 ∷ 0x8220 ∷ []) ∷ (0x8220 ∷ 0x8200 ∷ 0x0000 ∷ []) ∷ (0x8220 ∷ 0x8210 ∷ []) ∷ [])
-    ≡ false ∷ false ∷ false ∷ false ∷ []
-out-of-order = refl
+-- so they are in order; the other way round, with another second, or three, they are not
+order-of-cause :
+    (map inOrderOfCause ((0x8220 ∷ 0x0000 ∷ []) ∷ (0x8220 ∷ 0x8200 ∷ []) ∷ []) ≡ true ∷ true ∷ [])
+    × (map inOrderOfCause ((0x0000 ∷ 0x8220 ∷ []) ∷ (0x8200 ∷ 0x8220 ∷ []) ∷ (0x8220 ∷ 0x8210 ∷ []) ∷ (0x8220 ∷ 0x8200 ∷ 0x0000 ∷ []) ∷ [])
+    ≡ false ∷ false ∷ false ∷ false ∷ [])
+order-of-cause = (refl, refl)
 
 -- ---- ElevenBytes: a heartbeat, which has one data byte
 one-data-byte : length (encoded (frame 0x705 (0x05 ∷ []))) ≡ frameSize
@@ -204,45 +197,61 @@ same-word :
 unfolding open-rules open-promises
 same-word = refl
 
--- ---- OneEdgeTakesOne, NeverMoreThanEdges: 1Fh, 1Fh again, 0Fh, 1Fh, and the first of the two is reached
+-- ---- the set-points, over calls from a stand on: bit 4's edges, the set-points reached, and those held before and now
 
--- what each takes: 607Ah, 6081h, 6083h and 6084h as they are after power-up
+record Counted : Type 0 where
+  edges : ℕ
+  reached : ℕ
+  before : List SetPoint
+  now : List SetPoint
+
+abbrev counted : List Step → Stand → Counted
+counted ks a = record { edges = edgesIn ks a; reached = reachedIn ks a; before = heldAt a; now = heldAt (after ks a) }
+
+-- what is taken: 607Ah, 6081h, 6083h and 6084h as power-up leaves them
 abbrev point : SetPoint
 point = record { target = 0; velocity = 0; acceleration = 1; deceleration = 1 }
 
-abbrev turns : List Call
-turns = control 0x1F ∷ control 0x1F ∷ control 0x0F ∷ control 0x1F ∷ []
-
+-- ---- OneEdgeTakesOne: 1Fh, which enables and is an edge
 edge-takes-one :
-    let a = ran enabled in
-    let ks = map step (control 0x1F ∷ []) in
-    (edgesIn ks a ≡ 1) × (heldAt a ≡ []) × (heldAt (after ks a) ≡ point ∷ []) × Passed 1 0 [] (point ∷ [])
+    (counted (map step (control 0x1F ∷ [])) (ran readied) ≡ record { edges = 1; reached = 0; before = []; now = point ∷ [] })
+    × Passed 1 0 [] (point ∷ [])
 unfolding open-rules open-promises
 edge-takes-one = (
-  refl,
-  refl,
   refl,
   record { taken = point ∷ []; gone = 0; rest = refl; few = omega arith; counted = omega arith; inside = omega arith },
 )
 
-never-more :
-    let ks = map step (enabled ++ (turns ++ (eventCall 6 [] ∷ []))) in
-    (edgesIn ks (ran []) ≡ 2) × (reachedIn ks (ran []) ≡ 1) × (heldAt (after ks (ran [])) ≡ point ∷ [])
-unfolding open-rules open-promises
-never-more = (refl, refl, refl)
-
--- along the writes of one call, each of 6040h counts
+-- along the writes of one call each of 6040h counts
 edges-along : edges 0x0F (write controlWord 0x1F ∷ write mode 0x01 ∷ write controlWord 0x0F ∷ write controlWord 0x1F ∷ []) ≡ 2
 unfolding open-rules open-promises
 edges-along = refl
 
--- ---- HeldBitTakesNothing: two set-points with the same numbers are held; the first is reached, and 1Fh is written again: the second is left
-held-takes-none :
-    let a = ran (enabled ++ turns) in
-    let ks = map step (eventCall 6 [] ∷ control 0x1F ∷ []) in
-    HoldsBitFour ks a × (reachedIn ks a ≡ 1) × (heldAt a ≡ point ∷ point ∷ []) × (heldAt (after ks a) ≡ point ∷ [])
+-- ---- NeverMoreThanEdges: one edge since power-up, and its set-point is reached
+never-more : counted (map step (readied ++ (control 0x1F ∷ eventCall 6 [] ∷ []))) (ran []) ≡ record { edges = 1; reached = 1; before = []; now = [] }
 unfolding open-rules open-promises
-held-takes-none = ((refl, refl, (refl, refl, tt)), refl, refl, refl)
+never-more = refl
+
+-- ---- HeldBitTakesNothing: two set-points with the same numbers are held; the first is reached, and 1Fh is written again: the second alone is left
+
+abbrev holds : List Step → Stand → Bool
+holds [] a = true
+holds (k ∷ ks) a = bit newSetPointBit (read (a .dictionary) controlWord) && keepsBitFour k a && holds ks (left k a)
+
+-- the promise's premise, tested
+holding : (ks : List Step) (a : Stand) → holds ks a ≡ true → HoldsBitFour ks a
+unfolding HoldsBitFour
+holding [] a h = tt
+holding (k ∷ ks) a h = let e = simp and-eq-true-iff at h in (e .0 .0, e .0 .1, holding ks (left k a) (e .1))
+
+abbrev heldAndCounted : List Step → Stand → Bool × Counted
+heldAndCounted ks a = (holds ks a, counted ks a)
+
+held-takes-none :
+    heldAndCounted (map step (eventCall 6 [] ∷ control 0x1F ∷ [])) (ran (readied ++ (control 0x1F ∷ control 0x0F ∷ control 0x1F ∷ [])))
+    ≡ (true, record { edges = 0; reached = 1; before = point ∷ point ∷ []; now = point ∷ [] })
+unfolding open-rules open-promises
+held-takes-none = refl
 
 -- ---- ShutsOut: a node of each kind
 
@@ -279,7 +288,7 @@ idle-falls = (quiet, still, refl)
     still (frameCall i bs) s d o h = refl
     still (eventCall k xs) s d o h = refl
 
--- it is the node, and answers each frame as if 6040h had been written
+-- it is the node, and answers each frame as if 6040h had been written: right up to the upload of example 4
 abbrev constantReply : List Frame
 constantReply = reply (0x60 ∷ 0x40 ∷ 0x60 ∷ 0x00 ∷ 0x00 ∷ 0x00 ∷ 0x00 ∷ 0x00 ∷ []) ∷ []
 
@@ -290,7 +299,7 @@ replyingNode (frameCall i bs) s d o =
     record { refusal = u .refusal; frames = 1; state = u .state; dictionary = u .dictionary; output = sentInto o constantReply }
 replyingNode (eventCall k xs) s d o = answer (eventCall k xs) s d o
 
-replying-falls : RepliesAlike replyingNode constantReply × (keepsExamples replyingNode ≡ false)
+replying-falls : RepliesAlike replyingNode constantReply × (givenBy replyingNode example4 ≡ false)
 unfolding open-rules open-examples
 replying-falls = (λ bs s d o. refl, refl)
 

@@ -12,7 +12,7 @@ use Rattle.drive.specs.declared.SetPoint.{SetPoint}
 use Rattle.drive.specs.declared.Store.{Store}
 use Rattle.drive.specs.declared.Store.the-variants.{Empty, Rested, Moving, Queued}
 use Rattle.state.specs.declared.State.{State}
-use Rattle.state.specs.declared.Refusal.the-variants.{Accepted, DictionaryLength, NotSound}
+use Rattle.state.specs.declared.Refusal.the-variants.{Accepted, NotSound}
 use Rattle.rules_dictionary.specs.Numbers.{all, any, areBytes, filter, bit, value, part}
 use Rattle.rules_dictionary.specs.TheNode.{isNodeId}
 use Rattle.rules_dictionary.specs.Table.{Row, table, sizeOf, same, dictionaryLength, placeOf, isReset, Found, found, noObject, noSubindex, lookup}
@@ -22,8 +22,7 @@ use Rattle.rules_dictionary.specs.Values.{Write, read, field, unpacked}
 use Rattle.rules_dictionary.specs.Aborts.{Abort, bad}
 use Rattle.rules_dictionary.specs.Plans.{mapped, planFor, readyFor, plansOf, readyOf, joined, pdoData}
 use Rattle.rules_dictionary.specs.Members.{In}
-use Rattle.drive.specs.SetPoints.{newSetPointBit, controlWritten}
-use Rattle.drive.specs.declared.Drive.{Drive}
+use Rattle.drive.specs.SetPoints.{newSetPointBit}
 use Rattle.rules_services.specs.Effects.{Frame, frame}
 use Rattle.state.specs.NmtStates.{isStopped}
 use Rattle.rules_services.specs.Emergency.{emergency, emergencyBase, faultGone, valueRefused, pdoTooShort, pdoTooLong}
