@@ -27,8 +27,8 @@ use Rattle.rules.specs.Outcome.{ended, settled, paceFor, transmissions, transmi
 use Rattle.rules.specs.Calls.{Call, Decision, refuses, does as performs, refused, accepted, answered, answer}
 use Rattle.rules_dictionary.proofs.Defaults.{length-bytes}
 use Rattle.rules.proofs.Encoded.{length-encoded}
-use Rattle.theorems.specs.Promises.{octets, reached, Ordered, laid, FramesOf, AtMostSixInOrder, OutputOfBytes, isOn, codeOf, inOrderOfCause}
-use Rattle.theorems.specs.Promises.{ElevenBytes, Stand}
+use Rattle.theorems.specs.Promises.{octets, reached, Spoken, laid, FramesOf, AtMostSixInOrder, OutputOfBytes, isOn, codeOf, inOrderOfCause}
+use Rattle.theorems.specs.Promises.{ElevenBytes}
 
 -- ---- eleven bytes
 
@@ -73,19 +73,9 @@ sent-bytes (f ∷ fs) o h b =
 
 -- ---- the three kinds of frames that a service sends itself
 
--- of node n: replies, then emergencies, then a boot-up or heartbeat
-pub record Spoken (n : ℕ) (fs : List Frame) : Type 0 where
-  pub replies : List Frame
-  pub emergencies : List Frame
-  pub beats : List Frame
-  pub whole : fs ≡ replies ++ (emergencies ++ beats)
-  pub onReply : all (isOn (replyBase + n)) replies ≡ true
-  pub onEmergency : all (isOn (emergencyBase + n)) emergencies ≡ true
-  pub onBeat : all (isOn (heartbeatBase + n)) beats ≡ true
-  pub caused : inOrderOfCause (map codeOf emergencies) ≡ true
-  pub oneReply : length replies ≤ 1
-  pub oneBeat : length beats ≤ 1
-  pub few : length replies + (length emergencies + length beats) ≤ 2
+-- spoken by node n, and each of bytes
+pub record Says (n : ℕ) (fs : List Frame) : Type 0 where
+  pub spoken : Spoken n fs
   pub octet : all ofBytes fs ≡ true
 
 -- so many frames at the most, all on one identifier
@@ -164,43 +154,45 @@ reset-coded s d = whichever (λ fs. all goesBehind fs ≡ true) (isStopped (s .n
 
 -- ---- what is spoken
 
-spoken : (n a b c : ℕ) (rs es bs : List Frame) → On (replyBase + n) a rs → On (emergencyBase + n) b es → On (heartbeatBase + n) c bs →
-    inOrderOfCause (map codeOf es) ≡ true → (a ≤ 1) × (c ≤ 1) × (a + (b + c) ≤ 2) → Spoken n (rs ++ (es ++ bs))
-spoken n a b c rs es bs r e h order most =
+says : (n a b c : ℕ) (rs es bs : List Frame) → On (replyBase + n) a rs → On (emergencyBase + n) b es → On (heartbeatBase + n) c bs →
+    inOrderOfCause (map codeOf es) ≡ true → (a ≤ 1) × (c ≤ 1) × (a + (b + c) ≤ 2) → Says n (rs ++ (es ++ bs))
+says n a b c rs es bs r e h order most =
     record {
-      replies = rs;
-      emergencies = es;
-      beats = bs;
-      whole = refl;
-      onReply = r .on;
-      onEmergency = e .on;
-      onBeat = h .on;
-      caused = order;
-      oneReply = omega (arith, r .few, most .0);
-      oneBeat = omega (arith, h .few, most .1);
-      few = omega (arith, r .few, e .few, h .few, most .2);
+      spoken = record {
+        replies = rs;
+        emergencies = es;
+        beats = bs;
+        whole = refl;
+        onReply = r .on;
+        onEmergency = e .on;
+        onBeat = h .on;
+        caused = order;
+        oneReply = omega (arith, r .few, most .0);
+        oneBeat = omega (arith, h .few, most .1);
+        few = omega (arith, r .few, e .few, h .few, most .2);
+      };
       octet = all-append ofBytes rs (es ++ bs) (r .octet) (all-append ofBytes es bs (e .octet) (h .octet));
     }
 
 -- a reply, and an emergency behind it
-replied-spoken : (n : ℕ) (rs fs : List Frame) → On (replyBase + n) 1 rs → On (emergencyBase + n) 1 fs → Spoken n (rs ++ fs)
+replied-spoken : (n : ℕ) (rs fs : List Frame) → On (replyBase + n) 1 rs → On (emergencyBase + n) 1 fs → Says n (rs ++ fs)
 replied-spoken n rs fs r a =
-    rw append-nil at (spoken n 1 1 0 rs fs [] r a (none-on (heartbeatBase + n) 0) (one-caused fs (a .few)) (omega arith))
+    rw append-nil at (says n 1 1 0 rs fs [] r a (none-on (heartbeatBase + n) 0) (one-caused fs (a .few)) (omega arith))
 
-alarmed-spoken : (n : ℕ) (fs : List Frame) → On (emergencyBase + n) 2 fs → inOrderOfCause (map codeOf fs) ≡ true → Spoken n fs
+alarmed-spoken : (n : ℕ) (fs : List Frame) → On (emergencyBase + n) 2 fs → inOrderOfCause (map codeOf fs) ≡ true → Says n fs
 alarmed-spoken n fs a order =
-    rw append-nil at (spoken n 0 2 0 [] fs [] (none-on (replyBase + n) 0) a (none-on (heartbeatBase + n) 0) order (omega arith))
+    rw append-nil at (says n 0 2 0 [] fs [] (none-on (replyBase + n) 0) a (none-on (heartbeatBase + n) 0) order (omega arith))
 
 -- an emergency at the most
-alone : (n : ℕ) (fs : List Frame) → On (emergencyBase + n) 1 fs → Spoken n fs
+alone : (n : ℕ) (fs : List Frame) → On (emergencyBase + n) 1 fs → Says n fs
 alone n fs a = replied-spoken n [] fs (none-on (replyBase + n) 1) a
 
-silent : (n : ℕ) → Spoken n []
+silent : (n : ℕ) → Says n []
 silent n = alone n [] (none-on (emergencyBase + n) 1)
 
-beat-spoken : (n c : ℕ) → c < 256 → Spoken n (frame (heartbeatBase + n) (c ∷ []) ∷ [])
+beat-spoken : (n c : ℕ) → c < 256 → Says n (frame (heartbeatBase + n) (c ∷ []) ∷ [])
 beat-spoken n c h =
-    spoken n 0 0 1 [] [] _ (none-on (replyBase + n) 0) (none-on (emergencyBase + n) 0)
+    says n 0 0 1 [] [] _ (none-on (replyBase + n) 0) (none-on (emergencyBase + n) 0)
     (one-on (heartbeatBase + n) (c ∷ []) (rw (lt-ltb c 256 h)) (omega arith)) refl (omega arith)
 
 -- ---- one fault reset at the most: after it, and outside Fault, there is none
@@ -303,7 +295,7 @@ releases-calm {s = s} {d = d} (Releases.next h ws {e} cleared may inside rest) b
 
 -- as the node that it leaves
 abbrev pub SpeaksAs : ℕ → Effect → Type 0
-SpeaksAs n e = (e .state .node .id ≡ n) × Spoken n (e .sent)
+SpeaksAs n e = (e .state .node .id ≡ n) × Says n (e .sent)
 
 byte-small : (m : NmtState) → stateByte m < 256
 byte-small m = elim m [ PreOperational ↦ omega arith | Operational ↦ omega arith | Stopped ↦ omega arith ]
@@ -311,7 +303,7 @@ byte-small m = elim m [ PreOperational ↦ omega arith | Operational ↦ omega a
 module _ {K : Type 0} {s : State} {d : List ℕ} (k : K) (b : areBytes d ≡ true) (l : length d ≡ dictionaryLength) where
   -- what may stand behind 8220h, behind what goes before it
   behind : {fs : List Frame} → Before K s d fs → (gs : List Frame) → On (emergencyBase + s .node .id) 1 gs → all goesBehind gs ≡ true →
-      Spoken (s .node .id) (fs ++ gs)
+      Says (s .node .id) (fs ++ gs)
   behind (Before.replied rq octet) gs a c =
       replied-spoken (s .node .id) (reply downloaded rq s (bytes dataSize 0)) gs (reply-on downloaded rq s 0 (omega arith) (octet k)) a
   behind (Before.warned w) gs a c =
@@ -362,7 +354,7 @@ module _ {K : Type 0} {s : State} {d : List ℕ} (k : K) (b : areBytes d ≡ tru
 
 abbrev Said : Decision → Type 0
 Said (refuses r) = Unit
-Said (performs e) = Spoken (e .state .node .id) (e .sent)
+Said (performs e) = Says (e .state .node .id) (e .sent)
 
 said : {c : Call} {x : Decision} {s : State} {d : List ℕ} → Decides s d c x → octets c ≡ true → areBytes d ≡ true → Said x
 unfolding powerUp freshState
@@ -370,7 +362,7 @@ said (Decides.refuses r q) o b = tt
 said (Decides.begins n q legal long) o b = beat-spoken n 0 (omega arith)
 said (Decides.serves {e} xs q law v) o b =
     let w = speaks o b (law .long) v in
-    subst (λ (k : ℕ). Spoken k (e .sent)) (sym (w .0)) (w .1)
+    subst (λ (k : ℕ). Says k (e .sent)) (sym (w .0)) (w .1)
 
 -- ---- the transmit PDOs behind it
 
@@ -388,26 +380,6 @@ few-of : (f : ℕ → Bool) (g : ℕ → Frame) (ts : List ℕ) → length (map 
 few-of f g [] = omega arith
 few-of f g (t ∷ ts) =
     by-match (λ us. length (map g us) ≤ suc (length ts)) (f t) (λ e. omega (arith, few-of f g ts)) (λ e. omega (arith, few-of f g ts))
-
--- what is spoken, and the transmit PDOs behind it, are in the paper's order
-ordered : (a : Stand) (fs pdo : List Frame) (send : ℕ → Bool) → Spoken (a .state .node .id) fs →
-    pdo ≡ map (λ t. transmitted (a .dictionary) (eachWay + t) (getD (a .state .axis .ready) t noData)) (filter send transmitters) →
-    Ordered a (fs ++ pdo)
-ordered a fs pdo send w e =
-    record {
-      replies = w .replies;
-      emergencies = w .emergencies;
-      beats = w .beats;
-      sending = send;
-      whole = rw (e, w .whole) (simp append-assoc);
-      onReply = w .onReply;
-      onEmergency = w .onEmergency;
-      onBeat = w .onBeat;
-      caused = w .caused;
-      oneReply = w .oneReply;
-      oneBeat = w .oneBeat;
-      few = w .few;
-    }
 
 -- ---- each of them of bytes, and no longer than a frame
 
@@ -434,7 +406,7 @@ pdo-octets d paces (t ∷ ts) h sub =
     let rest = pdo-octets d paces ts h (λ u i. sub u (there i)) in
     whichever (λ fs. all ofBytes (fs ++ transmissions d (readyOf d) paces ts) ≡ true) (paces t .send) (rw (pdo-octet d h (sub t here)) rest) rest
 
-ended-octets : (s : State) (d : List ℕ) (e : Effect) → Spoken (e .state .node .id) (e .sent) → areBytes d ≡ true →
+ended-octets : (s : State) (d : List ℕ) (e : Effect) → Says (e .state .node .id) (e .sent) → areBytes d ≡ true →
     all ofBytes (ended s d e .sent) ≡ true
 unfolding ended
 ended-octets s d e w b =
@@ -448,21 +420,27 @@ ended-octets s d e w b =
 frames-of : (x : Decision) (s : State) (d o : List ℕ) → Said x → areBytes d ≡ true → FramesOf (answered x s d o) o
 unfolding answered refused accepted ended laid
 frames-of (refuses r) s d o h b =
-    let none = ordered (record { state = s; dictionary = d }) [] [] (λ t. false) (silent (s .node .id)) refl in
-    record { sent = []; counted = refl; most = omega arith; short = λ f i. absurd (none-in i); inOrder = none; output = refl }
+    record {
+      sent = [];
+      counted = refl;
+      most = omega arith;
+      short = λ f i. absurd (none-in i);
+      inOrder = record { own = []; spoken = silent (s .node .id) .spoken; sending = λ t. false; whole = refl };
+      output = refl;
+    }
 frames-of (performs e) s d o w b =
     let d′ = settled (finally d e) (stored (e .writes) d) in
     let paces = paceFor s (finally d e) (e .occasion) d′ (readyOf d′) in
     let pdo = transmissions d′ (readyOf d′) paces transmitters in
     let risen = rising d′ (readyOf d′) paces transmitters in
     let four : length pdo ≤ 4 = rw risen (few-of (λ t. paces t .send) (pdoFrame d′ (readyOf d′) paces) transmitters) in
-    let two : length (e .sent) ≤ 2 = rw (w .whole, length-append, length-append) (w .few) in
+    let two : length (e .sent) ≤ 2 = rw (w .spoken .whole, length-append, length-append) (w .spoken .few) in
     record {
       sent = e .sent ++ pdo;
       counted = refl;
       most = rw length-append (omega arith);
       short = λ f i. leb-true (length (f .content)) mostData (and-right (areBytes (f .content)) _ (all-in ofBytes i (ended-octets s d e w b)));
-      inOrder = ordered _ (e .sent) pdo (λ t. paces t .send) w risen;
+      inOrder = record { own = e .sent; spoken = w .spoken; sending = λ t. paces t .send; whole = ap (λ l. e .sent ++ l) risen };
       output = laid-out (e .sent ++ pdo) o;
     }
 

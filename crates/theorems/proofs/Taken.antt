@@ -25,7 +25,7 @@ use Rattle.rules.specs.Calls.{answer}
 use Rattle.rules.specs.{Calls.outputLength, Outcome.ended, Sound.sound}
 use Rattle.rules.proofs.AtEnd.{at-end}
 use Rattle.theorems.specs.Promises.{Step, Stand, after, octets, allOctets, Run, begun, reached as reachedBy, points, heldAt, decidedAt}
-use Rattle.theorems.specs.Promises.{writesOf, wordBehind, rise, edges, edgesIn, isReached, tellsReached, isAccepted, reachedIn, Passed}
+use Rattle.theorems.specs.Promises.{writesOf, wordAfter, rise, edges, edgesIn, isReached, tellsReached, isAccepted, reachedIn, Passed}
 use Rattle.theorems.specs.Promises.{HoldsBitFour, OneEdgeTakesOne, NeverMoreThanEdges, HeldBitTakesNothing}
 use Rattle.drive.specs.SetPoints as SetPoints
 use Rattle.theorems.specs.Promises as Promises
@@ -144,9 +144,9 @@ unfolding open-table
 control-alone = refl
 
 -- what a write leaves of 6040h
-word-behind : (w : Write) (d : List ℕ) → length d ≡ dictionaryLength → In (w .row) table × (w .value < 256 ^ sizeOf (w .row)) →
-    read (store (w .row) (w .value) d) controlWord ≡ wordBehind (read d controlWord) w
-word-behind w d l fit =
+word-after : (w : Write) (d : List ℕ) → length d ≡ dictionaryLength → In (w .row) table × (w .value < 256 ^ sizeOf (w .row)) →
+    read (store (w .row) (w .value) d) controlWord ≡ wordAfter (read d controlWord) w
+word-after w d l fit =
     elim (same-or-apart (fit .0) control-in) [
       | inl e ↦ subst (λ (z : Row). read (store (w .row) (w .value) d) z ≡ w .value) e
           (read-same (w .row) (w .value) d (omega (arith, within (fit .0), l)) (fit .1))
@@ -176,7 +176,7 @@ unfolding stored edges
 one-edge [] d l fit = no-rise (bit newSetPointBit (read d controlWord))
 one-edge (w ∷ ws) d l fit =
     let d1 = store (w .row) (w .value) d in
-    rw (← (word-behind w d l (fit w here))) (omega (
+    rw (← (word-after w d l (fit w here))) (omega (
       arith,
       one-edge ws d1 (length-store (w .row) (w .value) d ∙ l) (λ v i. fit v (there i)),
       rises-between (bit newSetPointBit (read d controlWord)) (bit newSetPointBit (read d1 controlWord))
@@ -188,7 +188,7 @@ edges-both : (ws vs : List Write) (d : List ℕ) → length d ≡ dictionaryLeng
 unfolding stored edges
 edges-both [] vs d l fit = omega arith
 edges-both (w ∷ ws) vs d l fit =
-    rw (← (word-behind w d l (fit w here)))
+    rw (← (word-after w d l (fit w here)))
     (omega (arith, edges-both ws vs (store (w .row) (w .value) d) (length-store (w .row) (w .value) d ∙ l) (λ v i. fit v (there i))))
 
 -- ---- what an effect does to the set-points held: no more is taken than bit 4 rose along its writes
@@ -350,10 +350,10 @@ held-edges : (ws : List Write) (word : ℕ) → bit newSetPointBit word ≡ true
 unfolding edges
 held-edges [] word h k = refl
 held-edges (w ∷ ws) word h k =
-    let still : bit newSetPointBit (wordBehind word w) ≡ true =
+    let still : bit newSetPointBit (wordAfter word w) ≡ true =
     by-test (λ (v : ℕ). bit newSetPointBit v ≡ true) (same controlWord (w .row))
     (λ e. implied (same controlWord (w .row)) (bit newSetPointBit (w .value)) (and-left (keepsOne w) (all keepsOne ws) k) e) (λ e. h) in
-    rw h (omega (arith, held-edges ws (wordBehind word w) still (and-right (keepsOne w) (all keepsOne ws) k)))
+    rw h (omega (arith, held-edges ws (wordAfter word w) still (and-right (keepsOne w) (all keepsOne ws) k)))
 
 no-edges : (ks : List Step) (a : Stand) → HoldsBitFour ks a → edgesIn ks a ≡ 0
 unfolding edgesIn HoldsBitFour

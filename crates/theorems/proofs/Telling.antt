@@ -1,7 +1,7 @@
 -- For each promise a telling run of node 5, computed: the promise's premises are met there, and what it promises is seen. Each is a run on which
 -- a wrong rule of docs/PROMISES.md shows.
 -- Assumes nothing.
-use Rattle.theorems.proofs.Words.{ℕ, zero, suc, _≡_, refl, Bool, true, not, _&&_, _||_, List, [], _∷_, _++_, map, eqb, ltb, length, getD}
+use Rattle.theorems.proofs.Words.{ℕ, zero, suc, _≡_, refl, ap, Bool, true, not, _&&_, _||_, List, [], _∷_, _++_, map, eqb, ltb, length, getD}
 use Rattle.theorems.proofs.Words.{PdoData, arith, drop, and-eq-true-iff, false, false≢true, Refusal, Accepted, OutOfPlace, SetPoint}
 use Rattle.rules_dictionary.specs.Plans.{mapped, plansOf, joined, pdoData}
 use Rattle.rules_dictionary.specs.{Numbers.all, Numbers.any, Numbers.areBytes, Table.statusWord, Table.eachWay, Table.dictionaryLength, Values.read}
@@ -234,24 +234,32 @@ never-more = refl
 
 -- ---- HeldBitTakesNothing: two set-points with the same numbers are held; the first is reached, and 1Fh is written again: the second alone is left
 
+abbrev twoHeld : Stand
+twoHeld = ran (readied ++ (control 0x1F ∷ control 0x0F ∷ control 0x1F ∷ []))
+
+abbrev whileHeld : List Step
+whileHeld = map step (eventCall 6 [] ∷ control 0x1F ∷ [])
+
+-- the conditions of HoldsBitFour
 abbrev holds : List Step → Stand → Bool
 holds [] a = true
 holds (k ∷ ks) a = bit newSetPointBit (read (a .dictionary) controlWord) && keepsBitFour k a && holds ks (left k a)
 
--- the promise's premise, tested
+abbrev heldAndCounted : List Step → Stand → Bool × Counted
+heldAndCounted ks a = (holds ks a, counted ks a)
+
+held-takes-none : heldAndCounted whileHeld twoHeld ≡ (true, record { edges = 0; reached = 1; before = point ∷ point ∷ []; now = point ∷ [] })
+unfolding open-rules open-promises
+held-takes-none = refl
+
+-- so that the promise's premise is met there
 holding : (ks : List Step) (a : Stand) → holds ks a ≡ true → HoldsBitFour ks a
 unfolding HoldsBitFour
 holding [] a h = tt
 holding (k ∷ ks) a h = let e = simp and-eq-true-iff at h in (e .0 .0, e .0 .1, holding ks (left k a) (e .1))
 
-abbrev heldAndCounted : List Step → Stand → Bool × Counted
-heldAndCounted ks a = (holds ks a, counted ks a)
-
-held-takes-none :
-    heldAndCounted (map step (eventCall 6 [] ∷ control 0x1F ∷ [])) (ran (readied ++ (control 0x1F ∷ control 0x0F ∷ control 0x1F ∷ [])))
-    ≡ (true, record { edges = 0; reached = 1; before = point ∷ point ∷ []; now = point ∷ [] })
-unfolding open-rules open-promises
-held-takes-none = refl
+bit-held : HoldsBitFour whileHeld twoHeld
+bit-held = holding whileHeld twoHeld (ap (λ p. p .0) held-takes-none)
 
 -- ---- ShutsOut: a node of each kind
 

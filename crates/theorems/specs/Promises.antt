@@ -135,21 +135,27 @@ inOrderOfCause (a ∷ []) = true
 inOrderOfCause (a ∷ b ∷ []) = eqb a pdoTooLong && (eqb b valueRefused || eqb b faultGone)
 inOrderOfCause (a ∷ b ∷ c ∷ cs) = false
 
--- a list of frames in the paper's order; `sending` says which transmit PDOs are sent
-pub record Ordered (a : Stand) (sent : List Frame) : Type 0 where
+-- what a service of node n sends itself
+pub record Spoken (n : ℕ) (sent : List Frame) : Type 0 where
   pub replies : List Frame
   pub emergencies : List Frame
   pub beats : List Frame
-  pub sending : ℕ → Bool
-  pub whole : sent ≡ replies ++ (emergencies ++ (beats ++
-      map (λ t. transmitted (a .dictionary) (eachWay + t) (getD (a .state .axis .ready) t noData)) (filter sending transmitters)))
-  pub onReply : all (isOn (replyBase + a .state .node .id)) replies ≡ true
-  pub onEmergency : all (isOn (emergencyBase + a .state .node .id)) emergencies ≡ true
-  pub onBeat : all (isOn (heartbeatBase + a .state .node .id)) beats ≡ true
+  pub whole : sent ≡ replies ++ (emergencies ++ beats)
+  pub onReply : all (isOn (replyBase + n)) replies ≡ true
+  pub onEmergency : all (isOn (emergencyBase + n)) emergencies ≡ true
+  pub onBeat : all (isOn (heartbeatBase + n)) beats ≡ true
   pub caused : inOrderOfCause (map codeOf emergencies) ≡ true
   pub oneReply : length replies ≤ 1
   pub oneBeat : length beats ≤ 1
   pub few : length replies + (length emergencies + length beats) ≤ 2
+
+-- a list of frames in the paper's order: the transmit PDOs behind what is spoken; `sending` says which of them are sent
+pub record Ordered (a : Stand) (sent : List Frame) : Type 0 where
+  pub own : List Frame
+  pub spoken : Spoken (a .state .node .id) own
+  pub sending : ℕ → Bool
+  pub whole : sent ≡ own
+      ++ map (λ t. transmitted (a .dictionary) (eachWay + t) (getD (a .state .axis .ready) t noData)) (filter sending transmitters)
 
 unfoldable pub laid : List Frame → List ℕ
 laid [] = []
@@ -371,9 +377,9 @@ abbrev pub writesOf : Decision → List Write
 writesOf (refuses x) = []
 writesOf (performs e) = e .writes
 
--- 6040h behind a write, where that word stood before it
-abbrev pub wordBehind : ℕ → Write → ℕ
-wordBehind word w = cond (same controlWord (w .row)) (w .value) word
+-- 6040h after a write, where that word stood before it
+abbrev pub wordAfter : ℕ → Write → ℕ
+wordAfter word w = cond (same controlWord (w .row)) (w .value) word
 
 -- 1 where bit 4 rose
 abbrev pub rise : ℕ → ℕ → ℕ
@@ -382,7 +388,7 @@ rise old word = cond (not (bit newSetPointBit old) && bit newSetPointBit word) 1
 -- how often bit 4 of 6040h rises along those writes, in order, where that word stood before them
 unfoldable pub edges : ℕ → List Write → ℕ
 edges word [] = 0
-edges word (w ∷ ws) = rise word (wordBehind word w) + edges (wordBehind word w) ws
+edges word (w ∷ ws) = rise word (wordAfter word w) + edges (wordAfter word w) ws
 
 -- .. and along the writes of those calls: 6040h written twice by one call counts along both
 unfoldable pub edgesIn : List Step → Stand → ℕ
