@@ -97,7 +97,9 @@ transmitter t h =
     subst (λ (q : ℕ). In q transmitters) (eqb-true _ _ (below (λ i. eqb (getD transmitters i 0) i) eachWay t refl h)) (getD-in transmitters t 0 h)
 
 few-spoken : (n : ℕ) (e : Effect) → SpeaksAs n e → length (e .sent) ≤ mostBefore
-few-spoken n e w = subst (λ (l : List Frame). length l ≤ mostBefore) (sym (w .1 .whole)) (rw (length-append, length-append) (w .1 .few))
+few-spoken n e w =
+    let k = w .1 .spoken in
+    subst (λ (l : List Frame). length l ≤ mostBefore) (sym (k .whole)) (rw (length-append, length-append) (k .few))
 
 module _ {s : State} {d o : List ℕ} {e : Effect} {r : Done} {bs′ d′ o′ : List ℕ} (h : Stands s d o) (b : areBytes d ≡ true)
     (serves : Serves Unit s d e) (left : Leaves s e d o r bs′ d′ o′) (rest : Rests s e r) where

@@ -226,16 +226,22 @@ pub passed {ℓ} : {A : Type ℓ} (b : Bool) (x y : A) → b ≡ true → (elim 
 passed true x y h = refl
 passed false x y h = clash false h refl
 
+pub power-up-decided : (n : ℕ) (s : State) (d o : List ℕ) → isNodeId n ≡ true → length d ≡ dictionaryLength → outputLength ≤ length o →
+    decided (powerUpCall n) s d o ≡ performs (powerUp n)
+unfolding decided decision
+power-up-decided n s d o legal long room =
+    passed (eqb (length d) dictionaryLength) _ _ (eq-eqb _ _ long)
+    ∙ passed (leb outputLength (length o)) _ _ (le-leb _ _ room)
+    ∙ passed (isNodeId n) _ _ legal
+
 power-up-holds : (n : ℕ) (a : Stand) (o : List ℕ) → isNodeId n ≡ true → length (a .dictionary) ≡ dictionaryLength → areBytes (a .dictionary) ≡ true →
     outputLength ≤ length o → Holds (left (record { call = powerUpCall n; output = o }) a)
-unfolding answer answered accepted decided decision
+unfolding answer answered accepted
 power-up-holds n a o legal long bytes room =
+    let s = a .state in
     let d = a .dictionary in
-    let accepted = passed (eqb (length d) dictionaryLength) _ _ (eq-eqb _ _ long)
-    ∙ passed (leb outputLength (length o)) _ _ (le-leb _ _ room)
-    ∙ passed (isNodeId n) _ _ legal in
-    subst (λ (x : Decision). Holds (standing (answered x (a .state) d o))) (sym accepted)
-    (ended-holds (a .state) d (powerUp n) long bytes (fresh-lawful n d legal long))
+    subst (λ (x : Decision). Holds (standing (answered x s d o))) (sym (power-up-decided n s d o legal long room))
+    (ended-holds s d (powerUp n) long bytes (fresh-lawful n d legal long))
 
 -- THE INVARIANT of every run
 pub run-holds : (r : Run) → Holds (reached r)

@@ -5,27 +5,34 @@ use Rattle.theorems.proofs.Words.{true, false, not, _||_, _&&_, and-eq-
 use Rattle.theorems.proofs.Words.{eq-eqb, lt-ltb, leb-true, length, getD, take, length-append, length-take, drop, leb, drop-drop, PdoData}
 use Rattle.theorems.proofs.Words.{DriveState, Drive, Command, NmtState, PreOperational, Operational, Stopped, State, Paced, In, here, there}
 use Rattle.theorems.proofs.Words.{and-both, and-left, and-right, all-drop, part-bytes, all-take, store-bytes, stored-bytes, length-store}
-use Rattle.theorems.proofs.Words.{length-stored, bytes-are, read-fits, within, isStopped, all-both, either, by-match, clash, implied}
-use Rattle.theorems.proofs.Words.{not-true, by-test, whichever, on-ways, length-padded}
+use Rattle.theorems.proofs.Words.{length-stored, bytes-are, read-fits, within, isStopped, all-both, either, by-match, clash, implied, not-true}
+use Rattle.theorems.proofs.Words.{by-test, whichever, on-ways, length-padded, eqb, all-in, none-in}
 use Rattle.theorems.proofs.Services.{Serves, Releases, Before, longer}
-use Rattle.theorems.proofs.{Lawful.finally, DriveKept.emptied-same, DriveKept.rule-same}
-use Rattle.theorems.proofs.{Runs.run-holds, Runs.ended-bytes, Runs.Decides, Runs.decides, Demands.ready-at, Settled.register-in}
-use Rattle.rules_dictionary.specs.{Numbers.all, Numbers.areBytes, Numbers.isByte, Numbers.padded, Numbers.bytes, Numbers.filter, Numbers.part}
-use Rattle.rules_dictionary.specs.{Table.Row, Table.sizeOf, Table.mostMoves, Table.identifier, Table.dictionaryLength, Table.controlWord, Table.mode}
-use Rattle.rules_dictionary.specs.{Table.heartbeatTime, Table.errorRegister, Table.eachWay, Table.placeOf, Plans.mapped, Plans.pdoData, Plans.joined}
-use Rattle.rules_dictionary.specs.{Plans.readyOf, Plans.readyFor, Values.Write, Values.field, Values.read, Values.store, Values.stored}
+use Rattle.theorems.proofs.Lawful.{finally}
+use Rattle.theorems.proofs.DriveKept.{emptied-same, rule-same}
+use Rattle.theorems.proofs.Runs.{run-holds, ended-bytes, Decides, decides}
+use Rattle.theorems.proofs.Demands.{ready-at}
+use Rattle.theorems.proofs.Settled.{register-in}
+use Rattle.rules_dictionary.specs.Numbers.{all, areBytes, isByte, padded, bytes, filter, part, value}
+use Rattle.rules_dictionary.specs.Table.{Row, sizeOf, mostMoves, identifier, dictionaryLength, controlWord, mode, heartbeatTime, errorRegister}
+use Rattle.rules_dictionary.specs.Table.{eachWay, placeOf}
+use Rattle.rules_dictionary.specs.Plans.{mapped, pdoData, joined, readyOf, readyFor}
+use Rattle.rules_dictionary.specs.Values.{Write, field, read, store, stored}
 use Rattle.drive.specs.DriveStates.{isFault, command, next, resets}
 use Rattle.drive.specs.SetPoints.{enters, emptied, withState, modeWritten, controlWritten, withMode, modeOf}
 use Rattle.rules_services.specs.Effects.{Frame, frame, Effect, andThen, withDrive, withHeld}
 use Rattle.rules_services.specs.Written.{wrote, countRestarted, modeActed, faultReset, controlActed, applied}
 use Rattle.rules_services.specs.Nmt.{commanded, powerUp, freshState, left, voltageDisabled, stateByte, heartbeatBase}
-use Rattle.rules_services.specs.{Emergency.emergency, Emergency.faultGone, Emergency.emergencyBase, Sdo.dataSize, Sdo.reply, Sdo.downloaded}
-use Rattle.rules_services.specs.{Sdo.replyBase, PdoTraffic.noData, PdoTraffic.transmitted, Events.faulted}
+use Rattle.rules_services.specs.Emergency.{emergency, faultGone, valueRefused, pdoTooLong, emergencyBase}
+use Rattle.rules_services.specs.Sdo.{dataSize, reply, downloaded, replyBase}
+use Rattle.rules_services.specs.PdoTraffic.{noData, transmitted}
+use Rattle.rules_services.specs.Events.{faulted}
 use Rattle.rules.specs.Outcome.{ended, settled, paceFor, transmissions, transmitters, mostData, encoded, sentInto, frameSize}
 use Rattle.rules.specs.Calls.{Call, Decision, refuses, does as performs, refused, accepted, answered, answer}
 use Rattle.rules_dictionary.proofs.Defaults.{length-bytes}
 use Rattle.rules.proofs.Encoded.{length-encoded}
-use Rattle.theorems.specs.Promises.{octets, reached, Ordered, laid, FramesOf, AtMostSixInOrder, OutputOfBytes, isOn, ElevenBytes, Stand}
+use Rattle.theorems.specs.Promises.{octets, reached, Spoken, laid, FramesOf, AtMostSixInOrder, OutputOfBytes, isOn, codeOf, inOrderOfCause}
+use Rattle.theorems.specs.Promises.{ElevenBytes}
 
 -- ---- eleven bytes
 
@@ -70,16 +77,9 @@ sent-bytes (f ∷ fs) o h b =
 
 -- ---- the three kinds of frames that a service sends itself
 
--- of node n: replies, then emergencies, then a boot-up or heartbeat
-pub record Spoken (n : ℕ) (fs : List Frame) : Type 0 where
-  pub replies : List Frame
-  pub emergencies : List Frame
-  pub beats : List Frame
-  pub whole : fs ≡ replies ++ (emergencies ++ beats)
-  pub onReply : all (isOn (replyBase + n)) replies ≡ true
-  pub onEmergency : all (isOn (emergencyBase + n)) emergencies ≡ true
-  pub onBeat : all (isOn (heartbeatBase + n)) beats ≡ true
-  pub few : length replies + (length emergencies + length beats) ≤ 2
+-- spoken by node n, and each of bytes
+pub record Says (n : ℕ) (fs : List Frame) : Type 0 where
+  pub spoken : Spoken n fs
   pub octet : all ofBytes fs ≡ true
 
 -- so many frames at the most, all on one identifier
@@ -119,35 +119,85 @@ reply-on c rq s v small b =
     (all-append isByte (c ∷ part 1 3 rq) (bytes dataSize v) (rw (lt-ltb c 256 small) (part-bytes 1 3 rq b)) (bytes-are dataSize v))
     (rw (length-append, length-take, length-bytes dataSize v) (omega arith))
 
-spoken : (n a b c : ℕ) (rs es bs : List Frame) → On (replyBase + n) a rs → On (emergencyBase + n) b es → On (heartbeatBase + n) c bs →
-    a + (b + c) ≤ 2 → Spoken n (rs ++ (es ++ bs))
-spoken n a b c rs es bs r e h most =
+-- ---- emergencies in the order of their causes
+
+abbrev isOf : ℕ → Frame → Bool
+isOf code f = eqb (codeOf f) code
+
+-- what may stand behind 8220h
+abbrev goesBehind : Frame → Bool
+goesBehind f = isOf valueRefused f || isOf faultGone f
+
+one-caused : (fs : List Frame) → length fs ≤ 1 → inOrderOfCause (map codeOf fs) ≡ true
+one-caused [] h = refl
+one-caused (f ∷ []) h = refl
+one-caused (f ∷ g ∷ fs) h = absurd (omega arith)
+
+two-caused : (fs gs : List Frame) → length fs ≤ 1 → length gs ≤ 1 → all (isOf pdoTooLong) fs ≡ true → all goesBehind gs ≡ true →
+    inOrderOfCause (map codeOf (fs ++ gs)) ≡ true
+two-caused [] gs a b p q = one-caused gs b
+two-caused (f ∷ []) [] a b p q = refl
+two-caused (f ∷ []) (g ∷ []) a b p q =
+    and-both (isOf pdoTooLong f) (goesBehind g) (and-left (isOf pdoTooLong f) true p) (and-left (goesBehind g) true q)
+two-caused (f ∷ []) (g ∷ h ∷ gs) a b p q = absurd (omega arith)
+two-caused (f ∷ e ∷ fs) gs a b p q = absurd (omega arith)
+
+long-coded : (w : Bool) (s : State) (d : List ℕ) → all (isOf pdoTooLong) (longer w s d) ≡ true
+unfolding emergency bytes value
+long-coded w s d =
+    let P : List Frame → Type 0 = λ fs. all (isOf pdoTooLong) fs ≡ true in
+    whichever P w (whichever P (isStopped (s .node .nmt)) refl refl) refl
+
+refused-coded : (s : State) (d : List ℕ) → all goesBehind (emergency valueRefused s d) ≡ true
+unfolding emergency bytes value
+refused-coded s d = whichever (λ fs. all goesBehind fs ≡ true) (isStopped (s .node .nmt)) refl refl
+
+reset-coded : (s : State) (d : List ℕ) → all goesBehind (emergency faultGone s d) ≡ true
+unfolding emergency bytes value
+reset-coded s d = whichever (λ fs. all goesBehind fs ≡ true) (isStopped (s .node .nmt)) refl refl
+
+-- ---- what is spoken
+
+says : (n a b c : ℕ) (rs es bs : List Frame) → On (replyBase + n) a rs → On (emergencyBase + n) b es → On (heartbeatBase + n) c bs →
+    inOrderOfCause (map codeOf es) ≡ true → (a ≤ 1) × (c ≤ 1) × (a + (b + c) ≤ 2) → Says n (rs ++ (es ++ bs))
+says n a b c rs es bs r e h order most =
     record {
-      replies = rs;
-      emergencies = es;
-      beats = bs;
-      whole = refl;
-      onReply = r .on;
-      onEmergency = e .on;
-      onBeat = h .on;
-      few = omega (arith, r .few, e .few, h .few);
+      spoken = record {
+        replies = rs;
+        emergencies = es;
+        beats = bs;
+        whole = refl;
+        onReply = r .on;
+        onEmergency = e .on;
+        onBeat = h .on;
+        caused = order;
+        oneReply = omega (arith, r .few, most .0);
+        oneBeat = omega (arith, h .few, most .1);
+        few = omega (arith, r .few, e .few, h .few, most .2);
+      };
       octet = all-append ofBytes rs (es ++ bs) (r .octet) (all-append ofBytes es bs (e .octet) (h .octet));
     }
 
 -- a reply, and an emergency behind it
-replied-spoken : (n : ℕ) (rs fs : List Frame) → On (replyBase + n) 1 rs → On (emergencyBase + n) 1 fs → Spoken n (rs ++ fs)
-replied-spoken n rs fs r a = rw append-nil at (spoken n 1 1 0 rs fs [] r a (none-on (heartbeatBase + n) 0) (omega arith))
+replied-spoken : (n : ℕ) (rs fs : List Frame) → On (replyBase + n) 1 rs → On (emergencyBase + n) 1 fs → Says n (rs ++ fs)
+replied-spoken n rs fs r a =
+    rw append-nil at (says n 1 1 0 rs fs [] r a (none-on (heartbeatBase + n) 0) (one-caused fs (a .few)) (omega arith))
 
-alarmed-spoken : (n : ℕ) (fs : List Frame) → On (emergencyBase + n) 2 fs → Spoken n fs
-alarmed-spoken n fs a = rw append-nil at (spoken n 0 2 0 [] fs [] (none-on (replyBase + n) 0) a (none-on (heartbeatBase + n) 0) (omega arith))
+alarmed-spoken : (n : ℕ) (fs : List Frame) → On (emergencyBase + n) 2 fs → inOrderOfCause (map codeOf fs) ≡ true → Says n fs
+alarmed-spoken n fs a order =
+    rw append-nil at (says n 0 2 0 [] fs [] (none-on (replyBase + n) 0) a (none-on (heartbeatBase + n) 0) order (omega arith))
 
-silent : (n : ℕ) → Spoken n []
-silent n = alarmed-spoken n [] (none-on (emergencyBase + n) 2)
+-- an emergency at the most
+alone : (n : ℕ) (fs : List Frame) → On (emergencyBase + n) 1 fs → Says n fs
+alone n fs a = replied-spoken n [] fs (none-on (replyBase + n) 1) a
 
-beat-spoken : (n c : ℕ) → c < 256 → Spoken n (frame (heartbeatBase + n) (c ∷ []) ∷ [])
+silent : (n : ℕ) → Says n []
+silent n = alone n [] (none-on (emergencyBase + n) 1)
+
+beat-spoken : (n c : ℕ) → c < 256 → Says n (frame (heartbeatBase + n) (c ∷ []) ∷ [])
 beat-spoken n c h =
-    spoken n 0 0 1 [] [] _ (none-on (replyBase + n) 0) (none-on (emergencyBase + n) 0)
-    (one-on (heartbeatBase + n) (c ∷ []) (rw (lt-ltb c 256 h)) (omega arith)) (omega arith)
+    says n 0 0 1 [] [] _ (none-on (replyBase + n) 0) (none-on (emergencyBase + n) 0)
+    (one-on (heartbeatBase + n) (c ∷ []) (rw (lt-ltb c 256 h)) (omega arith)) refl (omega arith)
 
 -- ---- one fault reset at the most: after it, and outside Fault, there is none
 
@@ -173,13 +223,15 @@ control-state d old v =
 -- of frames sent from s on, and the state behind them: an emergency at the most, and then, or outside Fault, no more
 record Calm (s : State) (fs : List Frame) (t : State) : Type 0 where
   alarms : On (emergencyBase + s .node .id) 1 fs
+  coded : all goesBehind fs ≡ true
   id : t .node .id ≡ s .node .id
   quiet : isFault (s .axis .drive .state) ≡ false → (fs ≡ []) × (isFault (t .axis .drive .state) ≡ false)
   once : (fs ≡ []) ⊎ (isFault (t .axis .drive .state) ≡ false)
 
 calm-silent : (s t : State) → t .node .id ≡ s .node .id → (isFault (s .axis .drive .state) ≡ false → isFault (t .axis .drive .state) ≡ false) →
     Calm s [] t
-calm-silent s t i h = record { alarms = none-on (emergencyBase + s .node .id) 1; id = i; quiet = λ q. (refl, h q); once = inl refl }
+calm-silent s t i h =
+    record { alarms = none-on (emergencyBase + s .node .id) 1; coded = refl; id = i; quiet = λ q. (refl, h q); once = inl refl }
 
 -- the state that the control word finds
 pub found-by : (ws : List Write) (s : State) (d : List ℕ) →
@@ -214,6 +266,7 @@ applied-calm ws s d b l =
           (rw append-nil
           (emergency-on faultGone u (store errorRegister 0 d1) (store-bytes errorRegister 0 d1 (stored-bytes ws d b))
           (length-store errorRegister 0 d1 ∙ length-stored ws d ∙ l)));
+      coded = all-append goesBehind (emergency faultGone u (store errorRegister 0 d1)) [] (reset-coded u (store errorRegister 0 d1)) refl;
       id = f .0;
       quiet = λ h. clash (resets (v .cause) (v .state) k) e (rw (ap isFault (f .1) ∙ h));
       once = inr (ap isFault moved ∙ reset-leaves (v .cause) (v .state) k e);
@@ -229,6 +282,7 @@ calm-then s t u fs gs a b =
         | inl q ↦ rw q (subst (λ (i : ℕ). On (emergencyBase + i) 1 gs) (a .id) (b .alarms))
         | inr q ↦ rw (b .quiet q .0, append-nil fs) (a .alarms)
       ];
+      coded = all-append goesBehind fs gs (a .coded) (b .coded);
       id = b .id ∙ a .id;
       quiet = λ h. (ap₂ _++_ (a .quiet h .0) (b .quiet (a .quiet h .1) .0), b .quiet (a .quiet h .1) .1);
       once = elim (a .once) [ inl q ↦ elim (b .once) [ inl r ↦ inl (ap₂ _++_ q r) | inr r ↦ inr r ] | inr q ↦ inr (b .quiet q .1) ];
@@ -242,27 +296,30 @@ releases-calm (Releases.skips rest) b l = releases-calm rest b l
 releases-calm {s = s} {d = d} (Releases.next h ws {e} cleared may rest) b l =
     let a = applied ws (withHeld h s) d in
     let c = applied-calm ws (withHeld h s) d b l in
-    calm-then s (a .state) (e .state) (a .sent) (e .sent) (record { alarms = c .alarms; id = c .id; quiet = c .quiet; once = c .once })
+    calm-then s (a .state) (e .state) (a .sent) (e .sent)
+    (record { alarms = c .alarms; coded = c .coded; id = c .id; quiet = c .quiet; once = c .once })
     (releases-calm rest (stored-bytes (a .writes) d b) (length-stored (a .writes) d ∙ l))
 
 -- ---- what each service says
 
 -- as the node that it leaves
 abbrev pub SpeaksAs : ℕ → Effect → Type 0
-SpeaksAs n e = (e .state .node .id ≡ n) × Spoken n (e .sent)
+SpeaksAs n e = (e .state .node .id ≡ n) × Says n (e .sent)
 
 byte-small : (m : NmtState) → stateByte m < 256
 byte-small m = elim m [ PreOperational ↦ omega arith | Operational ↦ omega arith | Stopped ↦ omega arith ]
 
 module _ {K : Type 0} {s : State} {d : List ℕ} (k : K) (b : areBytes d ≡ true) (l : length d ≡ dictionaryLength) where
-  -- emergencies behind what goes before them
-  behind : {fs : List Frame} → Before K s d fs → (gs : List Frame) → On (emergencyBase + s .node .id) 1 gs → Spoken (s .node .id) (fs ++ gs)
-  behind (Before.replied rq octet) gs a =
+  -- what may stand behind 8220h, behind what goes before it
+  behind : {fs : List Frame} → Before K s d fs → (gs : List Frame) → On (emergencyBase + s .node .id) 1 gs → all goesBehind gs ≡ true →
+      Says (s .node .id) (fs ++ gs)
+  behind (Before.replied rq octet) gs a c =
       replied-spoken (s .node .id) (reply downloaded rq s (bytes dataSize 0)) gs (reply-on downloaded rq s 0 (omega arith) (octet k)) a
-  behind (Before.warned w) gs a =
+  behind (Before.warned w) gs a c =
       let i = emergencyBase + s .node .id in
-      alarmed-spoken (s .node .id) (longer w s d ++ gs)
-      (both-on i 1 1 (longer w s d) gs (whichever (On i 1) w (emergency-on _ s d b l) (none-on i 1)) a)
+      let long : On i 1 (longer w s d) = whichever (On i 1) w (emergency-on _ s d b l) (none-on i 1) in
+      alarmed-spoken (s .node .id) (longer w s d ++ gs) (both-on i 1 1 (longer w s d) gs long a)
+      (two-caused (longer w s d) gs (long .few) (a .few) (long-coded w s d) c)
 
   pub speaks : {e : Effect} → Serves K s d e → SpeaksAs (s .node .id) e
   unfolding commanded powerUp freshState voltageDisabled left faulted
@@ -272,14 +329,19 @@ module _ {K : Type 0} {s : State} {d : List ℕ} (k : K) (b : areBytes d ≡ tru
     replied-spoken (s .node .id) (reply c rq s (bytes dataSize v)) [] (reply-on c rq s v small (octet k))
         (none-on (emergencyBase + s .node .id) 1),
   )
-  speaks (Serves.alarms w code) = (refl, behind (Before.warned w) (emergency code s d ++ []) (rw append-nil (emergency-on code s d b l)))
+  speaks (Serves.alarms true code) = (
+    refl,
+    behind (Before.warned true) (emergency valueRefused s d ++ []) (rw append-nil (emergency-on valueRefused s d b l))
+        (rw append-nil (refused-coded s d)),
+  )
+  speaks (Serves.alarms false code) = (refl, alone (s .node .id) (emergency code s d ++ []) (rw append-nil (emergency-on code s d b l)))
   speaks (Serves.applies ws before may) =
       let c = applied-calm ws s d b l in
-      (c .id, behind before (applied ws s d .sent) (c .alarms))
-  speaks (Serves.holds bs w i on synchronous long legal) = (refl, behind (Before.warned w) [] (none-on (emergencyBase + s .node .id) 1))
+      (c .id, behind before (applied ws s d .sent) (c .alarms) (c .coded))
+  speaks (Serves.holds bs w i on synchronous long legal) = (refl, behind (Before.warned w) [] (none-on (emergencyBase + s .node .id) 1) refl)
   speaks (Serves.releases {e} r) =
       let c = releases-calm r b l in
-      (c .id, behind (Before.warned false) (e .sent) (c .alarms))
+      (c .id, alone (s .node .id) (e .sent) (c .alarms))
   speaks (Serves.starts h idle) = (refl, silent (s .node .id))
   speaks Serves.leaves = (refl, silent (s .node .id))
   speaks Serves.stops = (refl, silent (s .node .id))
@@ -289,9 +351,8 @@ module _ {K : Type 0} {s : State} {d : List ℕ} (k : K) (b : areBytes d ≡ tru
   speaks (Serves.reaches h) = (refl, silent (s .node .id))
   speaks Serves.recovers = (refl, silent (s .node .id))
   speaks (Serves.faults code register fits) =
-      let i = emergencyBase + s .node .id in
       let alarm = emergency-on code _ (stored _ d) (stored-bytes _ d b) (length-stored _ d ∙ l) in
-      (refl, alarmed-spoken (s .node .id) _ (rw append-nil (both-on i 1 1 [] _ (none-on i 1) alarm)))
+      (refl, alone (s .node .id) _ (rw append-nil alarm))
   speaks (Serves.feeds at speed fits) = (refl, silent (s .node .id))
   speaks (Serves.powers v) = (refl, silent (s .node .id))
   speaks Serves.rests = (refl, silent (s .node .id))
@@ -302,7 +363,7 @@ module _ {K : Type 0} {s : State} {d : List ℕ} (k : K) (b : areBytes d ≡ tru
 
 abbrev Said : Decision → Type 0
 Said (refuses r) = Unit
-Said (performs e) = Spoken (e .state .node .id) (e .sent)
+Said (performs e) = Says (e .state .node .id) (e .sent)
 
 said : {c : Call} {x : Decision} {s : State} {d : List ℕ} → Decides s d c x → octets c ≡ true → areBytes d ≡ true → Said x
 unfolding powerUp freshState
@@ -310,7 +371,7 @@ said (Decides.refuses r q) o b = tt
 said (Decides.begins n legal long) o b = beat-spoken n 0 (omega arith)
 said (Decides.serves {e} law v) o b =
     let w = speaks o b (law .long) v in
-    subst (λ (k : ℕ). Spoken k (e .sent)) (sym (w .0)) (w .1)
+    subst (λ (k : ℕ). Says k (e .sent)) (sym (w .0)) (w .1)
 
 -- ---- the transmit PDOs behind it
 
@@ -329,50 +390,7 @@ few-of f g [] = omega arith
 few-of f g (t ∷ ts) =
     by-match (λ us. length (map g us) ≤ suc (length ts)) (f t) (λ e. omega (arith, few-of f g ts)) (λ e. omega (arith, few-of f g ts))
 
--- what is spoken, and the transmit PDOs behind it, are in the paper's order
-ordered : (a : Stand) (fs pdo : List Frame) (send : ℕ → Bool) → Spoken (a .state .node .id) fs →
-    pdo ≡ map (λ t. transmitted (a .dictionary) (eachWay + t) (getD (a .state .axis .ready) t noData)) (filter send transmitters) →
-    Ordered a (fs ++ pdo)
-ordered a fs pdo send w e =
-    record {
-      replies = w .replies;
-      emergencies = w .emergencies;
-      beats = w .beats;
-      sending = send;
-      whole = rw (e, w .whole) (simp append-assoc);
-      onReply = w .onReply;
-      onEmergency = w .onEmergency;
-      onBeat = w .onBeat;
-      few = w .few;
-    }
-
-frames-of : (x : Decision) (s : State) (d o : List ℕ) → Said x → FramesOf (answered x s d o) o
-unfolding answered refused accepted ended laid
-frames-of (refuses r) s d o h =
-    let none = ordered (record { state = s; dictionary = d }) [] [] (λ t. false) (silent (s .node .id)) refl in
-    record { sent = []; counted = refl; most = omega arith; inOrder = none; output = refl }
-frames-of (performs e) s d o w =
-    let d′ = settled (finally d e) (stored (e .writes) d) in
-    let paces = paceFor s (finally d e) (e .occasion) d′ (readyOf d′) in
-    let pdo = transmissions d′ (readyOf d′) paces transmitters in
-    let risen = rising d′ (readyOf d′) paces transmitters in
-    let four : length pdo ≤ 4 = rw risen (few-of (λ t. paces t .send) (pdoFrame d′ (readyOf d′) paces) transmitters) in
-    let two : length (e .sent) ≤ 2 = rw (w .whole, length-append, length-append) (w .few) in
-    record {
-      sent = e .sent ++ pdo;
-      counted = refl;
-      most = rw length-append (omega arith);
-      inOrder = ordered _ (e .sent) pdo (λ t. paces t .send) w risen;
-      output = laid-out (e .sent ++ pdo) o;
-    }
-
-pub at-most-six-in-order : AtMostSixInOrder
-unfolding answer
-at-most-six-in-order r k o =
-    let a = reached r in
-    frames-of _ (a .state) (a .dictionary) (k .output) (said (decides (a .state) (a .dictionary) (k .call) (k .output)) o (run-holds r .at .bytes))
-
--- ---- bytes out
+-- ---- each of them of bytes, and no longer than a frame
 
 joined-bytes : (d : List ℕ) (xs : List Row) → areBytes d ≡ true → areBytes (joined d xs) ≡ true
 unfolding joined
@@ -397,15 +415,58 @@ pdo-octets d paces (t ∷ ts) h sub =
     let rest = pdo-octets d paces ts h (λ u i. sub u (there i)) in
     whichever (λ fs. all ofBytes (fs ++ transmissions d (readyOf d) paces ts) ≡ true) (paces t .send) (rw (pdo-octet d h (sub t here)) rest) rest
 
-answered-bytes : (x : Decision) (s : State) (d o : List ℕ) → Said x → areBytes d ≡ true → areBytes o ≡ true →
-    areBytes (answered x s d o .output) ≡ true
-unfolding answered refused accepted ended
-answered-bytes (refuses r) s d o h b c = c
-answered-bytes (performs e) s d o h b c =
+ended-octets : (s : State) (d : List ℕ) (e : Effect) → Says (e .state .node .id) (e .sent) → areBytes d ≡ true →
+    all ofBytes (ended s d e .sent) ≡ true
+unfolding ended
+ended-octets s d e w b =
+    let d′ = settled (finally d e) (stored (e .writes) d) in
+    let paces = paceFor s (finally d e) (e .occasion) d′ (readyOf d′) in
+    all-append ofBytes (e .sent) (transmissions d′ (readyOf d′) paces transmitters) (w .octet)
+    (pdo-octets d′ paces transmitters (ended-bytes s d e b) (λ t i. i))
+
+-- ---- the frames of an answer
+
+frames-of : (x : Decision) (s : State) (d o : List ℕ) → Said x → areBytes d ≡ true → FramesOf (answered x s d o) o
+unfolding answered refused accepted ended laid
+frames-of (refuses r) s d o h b =
+    record {
+      sent = [];
+      counted = refl;
+      most = omega arith;
+      short = λ f i. absurd (none-in i);
+      inOrder = record { own = []; spoken = silent (s .node .id) .spoken; sending = λ t. false; whole = refl };
+      output = refl;
+    }
+frames-of (performs e) s d o w b =
     let d′ = settled (finally d e) (stored (e .writes) d) in
     let paces = paceFor s (finally d e) (e .occasion) d′ (readyOf d′) in
     let pdo = transmissions d′ (readyOf d′) paces transmitters in
-    sent-bytes (e .sent ++ pdo) o (all-append ofBytes (e .sent) pdo (h .octet) (pdo-octets d′ paces transmitters (ended-bytes s d e b) (λ t i. i))) c
+    let risen = rising d′ (readyOf d′) paces transmitters in
+    let four : length pdo ≤ 4 = rw risen (few-of (λ t. paces t .send) (pdoFrame d′ (readyOf d′) paces) transmitters) in
+    let two : length (e .sent) ≤ 2 = rw (w .spoken .whole, length-append, length-append) (w .spoken .few) in
+    record {
+      sent = e .sent ++ pdo;
+      counted = refl;
+      most = rw length-append (omega arith);
+      short = λ f i. leb-true (length (f .content)) mostData (and-right (areBytes (f .content)) _ (all-in ofBytes i (ended-octets s d e w b)));
+      inOrder = record { own = e .sent; spoken = w .spoken; sending = λ t. paces t .send; whole = ap (λ l. e .sent ++ l) risen };
+      output = laid-out (e .sent ++ pdo) o;
+    }
+
+pub at-most-six-in-order : AtMostSixInOrder
+unfolding answer
+at-most-six-in-order r k o =
+    let a = reached r in
+    let h = run-holds r .at .bytes in
+    frames-of _ (a .state) (a .dictionary) (k .output) (said (decides (a .state) (a .dictionary) (k .call) (k .output)) o h) h
+
+-- ---- bytes out
+
+answered-bytes : (x : Decision) (s : State) (d o : List ℕ) → Said x → areBytes d ≡ true → areBytes o ≡ true →
+    areBytes (answered x s d o .output) ≡ true
+unfolding answered refused accepted
+answered-bytes (refuses r) s d o h b c = c
+answered-bytes (performs e) s d o w b c = sent-bytes (ended s d e .sent) o (ended-octets s d e w b) c
 
 pub output-of-bytes : OutputOfBytes
 unfolding answer

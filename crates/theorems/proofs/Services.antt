@@ -9,13 +9,18 @@ use Rattle.theorems.proofs.Words.{Feedback, Voltage, In, here, there, o
 use Rattle.theorems.proofs.Words.{isOperational, isPreOperational, by-test, by-match, whichever}
 use Rattle.theorems.proofs.Writes.{MayApply, applied-lawful, one-row}
 use Rattle.theorems.proofs.PdoKept.{values-may, unpacked-same, held-lawful, held-at, held-legal, none-sound}
-use Rattle.theorems.proofs.{Lawful.Lawful, NmtKept.ArgumentsFit, NmtKept.unfaulty, SdoKept.download-may}
+use Rattle.theorems.proofs.Lawful.{Lawful}
+use Rattle.theorems.proofs.NmtKept.{ArgumentsFit, unfaulty}
+use Rattle.theorems.proofs.SdoKept.{download-may}
 use Rattle.rules_dictionary.specs.Table.{Row, table, receivePdos, errorRegister, position, velocity, heartbeatTime, ValueType, u8, u16, u32, i8, i32}
 use Rattle.rules_dictionary.specs.Table.{Found, found, noObject, noSubindex, lookup, controlWord}
 use Rattle.rules_dictionary.specs.Values.{Write, write, read, stored, unpacked}
 use Rattle.rules_dictionary.specs.Aborts.{Abort, abortCode, Verdict, good, bad, unknownCommand, noObject as absent, noSubindex as absentSub}
-use Rattle.rules_dictionary.specs.{Numbers.areBytes, Numbers.bytes, Legal.isSynchronous, Plans.mapped, Plans.pdoData}
+use Rattle.rules_dictionary.specs.Numbers.{areBytes, bytes}
+use Rattle.rules_dictionary.specs.Legal.{isSynchronous}
+use Rattle.rules_dictionary.specs.Plans.{mapped, pdoData}
 use Rattle.drive.specs.DriveStates.{isNotReady, isFaulty}
+use Rattle.rules_services.specs.declared.Event.the-variants.{Fault}
 use Rattle.drive.specs.SetPoints.{enters, withStore, withCause, reached, isMoving, controlWritten}
 use Rattle.rules_services.specs.Effects.{Frame, Effect, becomes, sends, writes, on, andThen, withDrive, withHeld, withNmt, withVoltage, withHeartbeat}
 use Rattle.rules_services.specs.Emergency.{emergency, pdoTooShort, pdoTooLong, valueRefused, badSyncLength}
@@ -27,8 +32,9 @@ use Rattle.rules_services.specs.PdoTraffic.{release, releaseAll, sync, syncBase
 use Rattle.rules_services.specs.Nmt.{powerUp, left, voltageDisabled, commanded, nmt, nmtIdentifier, nmtLength, everyNode, heartbeat, tick as ticked}
 use Rattle.rules_services.specs.Nmt.{commandOf as nmtCommandOf, NmtCommand, start, stop, enterPreOperational, resetNode, resetCommunication}
 use Rattle.rules_services.specs.Nmt.{unknown as unknownNmt}
-use Rattle.rules_services.specs.{declared.Event.the-variants.Fault, Events.isInPlace, Events.happens, Events.faulted}
-use Rattle.rules.specs.{Sound.sound, Calls.framed}
+use Rattle.rules_services.specs.Events.{isInPlace, happens, faulted}
+use Rattle.rules.specs.Sound.{sound}
+use Rattle.rules.specs.Calls.{framed}
 
 -- ---- what a service writes: the values that it was handed, and 1001h from a fault reset
 
@@ -73,7 +79,8 @@ pub data Serves (K : Type 0) (s : State) (d : List ℕ) : Effect → Type 0 wher
   nothing : Serves K s d (becomes s)
   -- SDO and PDO
   replies : (c v : ℕ) (rq : List ℕ) → c < 256 → (K → areBytes rq ≡ true) → Serves K s d (sends (reply c rq s (bytes dataSize v)) (becomes s))
-  alarms : (b : Bool) (code : ℕ) → Serves K s d (sends (longer b s d) (sends (emergency code s d) (becomes s)))
+  -- behind 8220h stands no emergency but 8200h
+  alarms : (b : Bool) (code : ℕ) → Serves K s d (sends (longer b s d) (sends (emergency (cond b valueRefused code) s d) (becomes s)))
   applies : {fs : List Frame} (ws : List Write) → Before K s d fs → (K → Lawful s d → MayApply s d ws) → Serves K s d (sends fs (applied ws s d))
   holds : {p : ℕ} (bs : List ℕ) (b : Bool) → In p receivePdos → works (s .node .nmt) d p ≡ true → isSynchronous (typeOf d p) ≡ true →
       mappedLength (mapped d p) ≤ length bs → areLegal d (unpacked (mapped d p) bs) ≡ true →
@@ -176,6 +183,10 @@ module _ (K : Type 0) (s : State) (d : List ℕ) where
     asked-serves Unknown = aborts unknownCommand
 
   -- PDO
+  refused-serves : (b : Bool) → Serves K s d (sends (longer b s d) (sends (emergency valueRefused s d) (becomes s)))
+  refused-serves true = alarms true valueRefused
+  refused-serves false = alarms false valueRefused
+
   received-serves : (p : ℕ) (bs : List ℕ) → In p receivePdos → works (s .node .nmt) d p ≡ true → Serves K s d (received p bs s d)
   unfolding received heldOrApplied
   received-serves p bs i on =
@@ -190,7 +201,7 @@ module _ (K : Type 0) (s : State) (d : List ℕ) where
       (λ now. applies front (warned long)
       (λ q law. values-may s d (take k bs) i
       (ap (areLegal d) (unpacked-same (mapped d p) (take k bs) bs (take-take k k bs (omega arith))) ∙ legal) law)))
-      (λ e. alarms long valueRefused))
+      (λ e. refused-serves long))
 
   pub received-by-serves : (ps : List ℕ) (i : ℕ) (bs : List ℕ) → ((p : ℕ) → In p ps → In p receivePdos) → Serves K s d (receivedBy ps i bs s d)
   unfolding receivedBy listens

@@ -1,229 +1,261 @@
--- Set-points are taken at the edge of bit 4 and nowhere else: no service takes one while the bit stays 1.
+-- Set-points are taken at the edges of bit 4 and nowhere else, by counting: no service takes more than bit 4 rose along its writes.
 -- Assumes nothing.
-use Rattle.theorems.proofs.Words.{ℕ, _+_, _≤_, _^_, _<_, arith, _≡_, refl, sym, _∙_, ap, subst, _⊎_, inl, inr, Bool, true, not, _&&_, _||_}
-use Rattle.theorems.proofs.Words.{drop-of-length-le, and-eq-true-iff, List, [], _∷_, _++_, append-nil, length, drop, drop-drop, DriveState}
-use Rattle.theorems.proofs.Words.{SetPoint, Store, Empty, Rested, Moving, Queued, Drive, State, within, same-or-apart, length-store, read-same}
-use Rattle.theorems.proofs.Words.{read-apart, here, there, In, and-left, and-right, by-test, all-both, not-true, implied, whichever}
+use lib.Seq.{drop-append-le, drop-at}
+use mathlib.Core.Bool.{and-false}
+use Rattle.theorems.proofs.Words.{ℕ, _+_, _≤_, _^_, _<_, arith, _≡_, refl, sym, _∙_, ap, subst, inl, inr, Bool, true, false, cond, not, _&&_}
+use Rattle.theorems.proofs.Words.{_||_, false≢true, drop-of-length-le, List, [], _∷_, _++_, append-nil, append-assoc, length, length-append}
+use Rattle.theorems.proofs.Words.{eqb, length-drop, drop, drop-drop, leb, DriveState, SetPoint, Store, Empty, Rested, Moving, Queued, Drive}
+use Rattle.theorems.proofs.Words.{State, In, here, there, Told, Happened, Bad, Started, QuickStopDone, ReactionDone, SetPointReached, Tick}
+use Rattle.theorems.proofs.Words.{CauseGone, Feedback, Voltage, within, same-or-apart, apart, same-self, length-store, read-same, read-apart}
+use Rattle.theorems.proofs.Words.{and-left, and-right, all-in, by-test, by-match, whichever, either, clash, implied}
 use Rattle.theorems.proofs.Services.{Serves, Releases, applied-all}
-use Rattle.theorems.proofs.{Settled.control-in, Settled.register-in, Writes.Fitting, Lawful.Lawful, Lawful.finally, Runs.Decides, Runs.decides}
-use Rattle.rules_dictionary.specs.Table.{Row, same, dictionaryLength, controlWord, mode, heartbeatTime, table, sizeOf}
-use Rattle.rules_dictionary.specs.{Numbers.all, Numbers.bit, Values.Write, Values.read, Values.store, Values.stored}
+use Rattle.theorems.proofs.Runs.{Decides, decides, power-up-decided}
+use Rattle.theorems.proofs.Settled.{control-in, register-in}
+use Rattle.theorems.proofs.Writes.{Fitting}
+use Rattle.theorems.proofs.Lawful.{Lawful, finally}
+use Rattle.rules_dictionary.specs.Table.{Row, same, dictionaryLength, controlWord, mode, heartbeatTime, table, sizeOf, open-table}
+use Rattle.rules_dictionary.specs.Numbers.{all, bit}
+use Rattle.rules_dictionary.specs.Values.{Write, read, store, stored}
 use Rattle.drive.specs.DriveStates.{command, next}
-use Rattle.drive.specs.SetPoints.{positions, emptied, enters, withState, behind, isQueued, target, withinLimits, setPoint, offered, setPointRule}
-use Rattle.drive.specs.SetPoints.{modeWritten, controlWritten, reached, newSetPointBit, atOnceBit}
-use Rattle.drive.proofs.Tempting.{held-bit-takes-nothing}
+use Rattle.drive.specs.SetPoints.{positions, emptied, enters, withState, behind, isQueued, isMoving, target, withinLimits, setPoint, offered}
+use Rattle.drive.specs.SetPoints.{setPointRule, modeWritten, controlWritten, reached, newSetPointBit, atOnceBit}
 use Rattle.rules_services.specs.Written.{wrote, countRestarted, modeActed, faultReset, controlActed, applied}
 use Rattle.rules_services.specs.Nmt.{commanded, powerUp, freshState, left, voltageDisabled}
-use Rattle.rules_services.specs.{Effects.Effect, Effects.becomes, Effects.andThen, Effects.withHeld, Events.faulted}
-use Rattle.rules.specs.{Outcome.ended, Calls.Call, Calls.Decision, Calls.refused, Calls.accepted, Calls.answered, Calls.answer}
+use Rattle.rules_services.specs.Events.{eventOf, isInPlace, happens, faulted}
+use Rattle.rules_services.specs.Effects.{Effect, andThen, withHeld}
+use Rattle.rules_services.specs.declared.Event.the-variants.{Fault}
+use Rattle.rules.specs.Calls.{Call, powerUpCall, frameCall, eventCall, Decision, decided, decision, eventDecision, refused, accepted, answered}
+use Rattle.rules.specs.Calls.{answer, outputLength}
+use Rattle.rules.specs.Outcome.{ended}
+use Rattle.rules.specs.Sound.{sound}
 use Rattle.rules.proofs.AtEnd.{at-end}
-use Rattle.theorems.specs.Promises.{points, OneEdgeTakesOne, Step, Stand, after, octets, allOctets, reached as reachedBy, writesOf}
-use Rattle.theorems.specs.Promises.{HoldsBitFour, HeldBitTakesNothing}
+use Rattle.theorems.specs.Promises.{Step, Stand, after, octets, allOctets, Run, begun, reached as reachedBy, points, heldAt, decidedAt}
+use Rattle.theorems.specs.Promises.{writesOf, wordAfter, rise, edges, edgesIn, isReached, tellsReached, isAccepted, reachedIn, Passed}
+use Rattle.theorems.specs.Promises.{HoldsBitFour, OneEdgeTakesOne, NeverMoreThanEdges, HeldBitTakesNothing}
 use Rattle.drive.specs.SetPoints as SetPoints
 use Rattle.theorems.specs.Promises as Promises
 
--- ---- a store later on: it holds the last ones of the set-points before
+-- ---- from the set-points held before to those held later
 
-pub record Later (a b : Store) : Type 0 where
-  pub gone : ℕ
-  pub rest : points b ≡ drop gone (points a)
+stays : {n : ℕ} {xs : List SetPoint} → Passed n 0 xs xs
+stays {xs = xs} =
+    record { taken = []; gone = 0; rest = sym (append-nil xs); few = omega arith; counted = omega arith; inside = omega arith }
 
-pub later-self : {a : Store} → Later a a
-later-self = record { gone = 0; rest = refl }
+empties : {n : ℕ} (xs : List SetPoint) → Passed n 0 xs []
+empties xs =
+    let all = xs ++ [] in
+    record {
+      taken = [];
+      gone = length all;
+      rest = sym (drop-of-length-le all {i = length all} (omega arith));
+      few = omega arith;
+      counted = omega arith;
+      inside = omega arith;
+    }
 
-pub later-empty : (a : Store) → Later a Empty
-later-empty a = record { gone = length (points a); rest = sym (drop-of-length-le (points a) {i = length (points a)} (omega arith)) }
+-- one after another, where no more is counted of edges, and no less of set-points reached
+onward : {e f g p q r : ℕ} {xs ys zs : List SetPoint} → Passed e p xs ys → Passed f q ys zs → e + f ≤ g → r ≤ p + q → Passed g r xs zs
+onward {xs = xs} {ys = ys} a b most least =
+    let front = xs ++ a .taken in
+    let whole : front ++ b .taken ≡ xs ++ (a .taken ++ b .taken) = append-assoc xs (a .taken) (b .taken) in
+    record {
+      taken = a .taken ++ b .taken;
+      gone = a .gone + b .gone;
+      rest = b .rest ∙ ap (λ l. drop (b .gone) (l ++ b .taken)) (a .rest)
+          ∙ ap (drop (b .gone)) (sym (drop-append-le (a .gone) front (b .taken) (a .inside)))
+          ∙ drop-drop (b .gone) (a .gone) (front ++ b .taken) ∙ ap (drop (a .gone + b .gone)) whole;
+      few = rw length-append (omega (arith, a .few, b .few));
+      counted = omega (arith, a .counted, b .counted);
+      inside = omega (
+        arith,
+        a .inside,
+        b .inside,
+        length-append ys (b .taken),
+        ap length (a .rest),
+        length-drop (a .gone) front,
+        length-append front (b .taken),
+        ap length whole,
+      );
+    }
 
-pub later-reached : (a : Store) → Later a (reached a)
-later-reached Empty = later-self
-later-reached (Rested t) = later-self
-later-reached (Moving p) = record { gone = 1; rest = refl }
-later-reached (Queued p q) = record { gone = 1; rest = refl }
-
-pub later-trans : {a b c : Store} → Later a b → Later b c → Later a c
-later-trans {a} f g = record { gone = f .gone + g .gone; rest = g .rest ∙ ap (drop (g .gone)) (f .rest) ∙ drop-drop (g .gone) (f .gone) (points a) }
-
-later-emptied : (v : Drive) → Later (v .store) (emptied v .store)
+emptied-passes : {n : ℕ} (v : Drive) → Passed n 0 (points (v .store)) (points (emptied v .store))
 unfolding emptied
-later-emptied v = whichever (λ (w : Drive). Later (v .store) (w .store)) (positions v) later-self (later-empty (v .store))
+emptied-passes {n} v = whichever (λ (w : Drive). Passed n 0 (points (v .store)) (points (w .store))) (positions v) stays (empties (points (v .store)))
 
-pub later-enters : (q : DriveState) (v : Drive) → Later (v .store) (enters q v .store)
+enters-passes : {n : ℕ} (q : DriveState) (v : Drive) → Passed n 0 (points (v .store)) (points (enters q v .store))
 unfolding enters
-later-enters q v = later-emptied (withState q v)
+enters-passes q v = emptied-passes (withState q v)
 
--- while bit 4 stays 1
-pub later-control : (d : List ℕ) (old : ℕ) (v : Drive) → bit newSetPointBit old ≡ true → bit newSetPointBit (read d controlWord) ≡ true →
-    Later (v .store) (controlWritten d old v .drive .store)
-unfolding controlWritten
-later-control d old v before now =
-    let word = read d controlWord in
-    let w = enters (next (v .cause) (v .state) (command old word)) v in
-    subst (λ (x : Drive). Later (v .store) (x .store)) (sym (held-bit-takes-nothing d old word w before now))
-    (later-enters (next (v .cause) (v .state) (command old word)) v)
+reached-passes : {n r : ℕ} (a : Store) → isMoving a ≡ true → r ≤ 1 → Passed n r (points a) (points (reached a))
+reached-passes Empty h most = absurd (false≢true h)
+reached-passes (Rested t) h most = absurd (false≢true h)
+reached-passes (Moving p) h most =
+    record { taken = []; gone = 1; rest = refl; few = omega arith; counted = most; inside = omega arith }
+reached-passes (Queued p q) h most =
+    record { taken = []; gone = 1; rest = refl; few = omega arith; counted = most; inside = omega arith }
 
--- ---- one control word takes at most one
+-- ---- one control word takes one at the most, where bit 4 rose
 
--- a set-point at most taken, and only where the flag says so
-abbrev Takes : Bool → Store → Store → Type 0
-Takes rose a b =
-    (n : ℕ) × (xs : List SetPoint) × (points b ≡ drop n (points a) ++ xs) × (length xs ≤ 1) × ((xs ≡ []) ⊎ (rose ≡ true))
+taken-behind : (a : Store) (p : SetPoint) → Passed 1 0 (points a) (points (behind a p))
+taken-behind Empty p = record { taken = p ∷ []; gone = 0; rest = refl; few = omega arith; counted = omega arith; inside = omega arith }
+taken-behind (Rested t) p = record { taken = p ∷ []; gone = 0; rest = refl; few = omega arith; counted = omega arith; inside = omega arith }
+taken-behind (Moving q) p = record { taken = p ∷ []; gone = 0; rest = refl; few = omega arith; counted = omega arith; inside = omega arith }
+taken-behind (Queued q r) p = stays
 
-takes-none : (rose : Bool) (a b : Store) → Later a b → Takes rose a b
-takes-none rose a b f = (f .gone, [], f .rest ∙ sym (append-nil (drop (f .gone) (points a))), omega arith, inl refl)
+taken-at-once : (xs : List SetPoint) (p : SetPoint) → Passed 1 0 xs (p ∷ [])
+taken-at-once xs p =
+    record {
+      taken = p ∷ [];
+      gone = length xs;
+      rest = sym (drop-at xs (p ∷ []) (length xs) refl);
+      few = omega arith;
+      counted = omega arith;
+      inside = rw length-append (omega arith);
+    }
 
-takes-behind : (a : Store) (p : SetPoint) → Takes true a (behind a p)
-takes-behind Empty p = (0, p ∷ [], refl, omega arith, inr refl)
-takes-behind (Rested t) p = (0, p ∷ [], refl, omega arith, inr refl)
-takes-behind (Moving q) p = (0, p ∷ [], refl, omega arith, inr refl)
-takes-behind (Queued q r) p = (0, [], refl, omega arith, inl refl)
-
-takes-all : (a : Store) (p : SetPoint) → Takes true a (Moving p)
-takes-all a p = (length (points a), p ∷ [], rw (drop-of-length-le (points a) {i = length (points a)} (omega arith)), omega arith, inr refl)
-
-takes-offered : (d : List ℕ) (word : ℕ) (v : Drive) → Takes true (v .store) (offered d word v .store)
+offered-passes : (d : List ℕ) (word : ℕ) (v : Drive) → Passed 1 0 (points (v .store)) (points (offered d word v .store))
 unfolding offered SetPoints.withTaken
-takes-offered d word v =
-    let P : Drive → Type 0 = λ w. Takes true (v .store) (w .store) in
+offered-passes d word v =
+    let P : Drive → Type 0 = λ w. Passed 1 0 (points (v .store)) (points (w .store)) in
     let p = setPoint d (target d word (v .store)) in
-    let none = takes-none true (v .store) (v .store) later-self in
-    whichever P (not (bit atOnceBit word) && isQueued (v .store)) none
+    whichever P (not (bit atOnceBit word) && isQueued (v .store)) stays
     (whichever P (withinLimits d (target d word (v .store)))
-    (whichever (Takes true (v .store)) (bit atOnceBit word) (takes-all (v .store) p) (takes-behind (v .store) p)) none)
+    (whichever (λ (a : Store). Passed 1 0 (points (v .store)) (points a)) (bit atOnceBit word) (taken-at-once (points (v .store)) p)
+    (taken-behind (v .store) p)) stays)
 
-takes-rule : (d : List ℕ) (old word : ℕ) (v : Drive) →
-    Takes (not (bit newSetPointBit old) && bit newSetPointBit word) (v .store) (setPointRule d old word v .store)
+rule-passes : (d : List ℕ) (old word : ℕ) (v : Drive) → Passed (rise old word) 0 (points (v .store)) (points (setPointRule d old word v .store))
 unfolding setPointRule
-takes-rule d old word v =
-    let rose = not (bit newSetPointBit old) && bit newSetPointBit word in
-    let P : Drive → Type 0 = λ w. Takes rose (v .store) (w .store) in
-    let none = takes-none rose (v .store) (v .store) later-self in
+rule-passes d old word v =
+    let P : Drive → Type 0 = λ w. Passed (rise old word) 0 (points (v .store)) (points (w .store)) in
     by-test P (bit newSetPointBit word)
     (λ up. by-test P (positions v && not (bit newSetPointBit old))
-    (λ e. rw (up, and-right (positions v) (not (bit newSetPointBit old)) e) (takes-offered d word v)) (λ e. none))
-    (λ down. none)
+    (λ e. rw (up, and-right (positions v) (not (bit newSetPointBit old)) e) (offered-passes d word v)) (λ e. stays))
+    (λ down. stays)
 
 -- first the drive command, which takes nothing, then the rule
-takes-after : (rose : Bool) (a b c : Store) → Later a b → Takes rose b c → Takes rose a c
-takes-after rose a b c f g =
-    let xs = g .1 in
-    let n = f .gone in (
-      n + g .0,
-      xs,
-      g .2 ∙ ap (λ (l : List SetPoint). drop (g .0) l ++ xs) (f .rest) ∙ ap (λ (l : List SetPoint). l ++ xs)
-          (drop-drop (g .0) n (points a)),
-      g .3,
-      g .4,
-    )
-
-pub one-edge-takes-one : OneEdgeTakesOne
+control-passes : (d : List ℕ) (old : ℕ) (v : Drive) →
+    Passed (rise old (read d controlWord)) 0 (points (v .store)) (points (controlWritten d old v .drive .store))
 unfolding controlWritten
-one-edge-takes-one d old v =
+control-passes d old v =
     let word = read d controlWord in
-    let w = enters (next (v .cause) (v .state) (command old word)) v in
-    let t =
-    takes-after _ (v .store) (w .store) (setPointRule d old word w .store) (later-enters (next (v .cause) (v .state) (command old word)) v)
-    (takes-rule d old word w) in
-    let rose = not (bit newSetPointBit old) in (
-      t .0,
-      t .1,
-      t .2,
-      t .3,
-      elim
-          (t .4) [ inl e ↦ inl e | inr e ↦ inr (not-true _ (and-left rose (bit newSetPointBit word) e), and-right rose _ e) ],
-    )
+    let q = next (v .cause) (v .state) (command old word) in
+    onward (enters-passes {n = 0} q v) (rule-passes d old word (enters q v)) (omega arith) (omega arith)
 
--- ---- bit 4 stays 1 over writes that leave it so
+-- ---- the edges along writes
 
-abbrev keepsOne : Write → Bool
-keepsOne w = not (same controlWord (w .row)) || bit newSetPointBit (w .value)
+-- no row of the table has 6040h's number and lies elsewhere
+control-alone : all (λ x. not (same controlWord x && apart x controlWord)) table ≡ true
+unfolding open-table
+control-alone = refl
 
-abbrev keeps : List Write → Bool
-keeps ws = all keepsOne ws
+-- what a write leaves of 6040h
+word-after : (w : Write) (d : List ℕ) → length d ≡ dictionaryLength → In (w .row) table × (w .value < 256 ^ sizeOf (w .row)) →
+    read (store (w .row) (w .value) d) controlWord ≡ wordAfter (read d controlWord) w
+word-after w d l fit =
+    elim (same-or-apart (fit .0) control-in) [
+      | inl e ↦ subst (λ (z : Row). read (store (w .row) (w .value) d) z ≡ w .value) e
+          (read-same (w .row) (w .value) d (omega (arith, within (fit .0), l)) (fit .1))
+          ∙ rw (ap (same controlWord) e ∙ same-self controlWord)
+      | inr a ↦ elim (either (same controlWord (w .row))) [
+        | inl e ↦ clash false (rw (e, a) at (all-in (λ x. not (same controlWord x && apart x controlWord)) (fit .0) control-alone)) refl
+        | inr e ↦ rw e (read-apart (w .row) controlWord (w .value) d a)
+      ]
+    ]
 
-pub bit-stays : (ws : List Write) (d : List ℕ) → length d ≡ dictionaryLength → Fitting ws → keeps ws ≡ true →
-    bit newSetPointBit (read d controlWord) ≡ true → bit newSetPointBit (read (stored ws d) controlWord) ≡ true
-unfolding stored
-bit-stays [] d l fit k h = h
-bit-stays (w ∷ ws) d l fit k h =
-    bit-stays ws (store (w .row) (w .value) d) (length-store (w .row) (w .value) d ∙ l) (λ v i. fit v (there i)) (and-right (keepsOne w) (keeps ws) k)
-    (elim (same-or-apart (fit w here .0) control-in) [
-      | inl e ↦ ap (bit newSetPointBit) (subst (λ (z : Row). read (store (w .row) (w .value) d) z ≡ w .value) e
-          (read-same (w .row) (w .value) d (omega (arith, within (fit w here .0), l)) (fit w here .1)))
-          ∙ implied (same controlWord (w .row)) _ (and-left (keepsOne w) (keeps ws) k) (ap (same controlWord) e ∙ refl)
-      | inr a ↦ rw (read-apart (w .row) controlWord (w .value) d a) h
-    ])
+-- a bit that rose rose before some word between, or behind it
+rises-between : (a b c : Bool) → cond (not a && c) 1 0 ≤ cond (not a && b) 1 0 + cond (not b && c) 1 0
+rises-between true b c = omega arith
+rises-between false true true = omega arith
+rises-between false true false = omega arith
+rises-between false false true = omega arith
+rises-between false false false = omega arith
 
--- ---- the services: what an effect leaves in the store
+no-rise : (a : Bool) → cond (not a && a) 1 0 ≤ 0
+no-rise true = omega arith
+no-rise false = omega arith
 
-abbrev pub LaterBy : State → Effect → Type 0
-LaterBy s e = Later (s .axis .drive .store) (e .state .axis .drive .store)
+-- from the word before to the word behind there is no more than one
+one-edge : (ws : List Write) (d : List ℕ) → length d ≡ dictionaryLength → Fitting ws →
+    rise (read d controlWord) (read (stored ws d) controlWord) ≤ edges (read d controlWord) ws
+unfolding stored edges
+one-edge [] d l fit = no-rise (bit newSetPointBit (read d controlWord))
+one-edge (w ∷ ws) d l fit =
+    let d1 = store (w .row) (w .value) d in
+    rw (← (word-after w d l (fit w here))) (omega (
+      arith,
+      one-edge ws d1 (length-store (w .row) (w .value) d ∙ l) (λ v i. fit v (there i)),
+      rises-between (bit newSetPointBit (read d controlWord)) (bit newSetPointBit (read d1 controlWord))
+          (bit newSetPointBit (read (stored ws d1) controlWord)),
+    ))
+
+edges-both : (ws vs : List Write) (d : List ℕ) → length d ≡ dictionaryLength → Fitting ws →
+    edges (read d controlWord) (ws ++ vs) ≡ edges (read d controlWord) ws + edges (read (stored ws d) controlWord) vs
+unfolding stored edges
+edges-both [] vs d l fit = omega arith
+edges-both (w ∷ ws) vs d l fit =
+    rw (← (word-after w d l (fit w here)))
+    (omega (arith, edges-both ws vs (store (w .row) (w .value) d) (length-store (w .row) (w .value) d ∙ l) (λ v i. fit v (there i))))
+
+-- ---- what an effect does to the set-points held: no more is taken than bit 4 rose along its writes
+
+abbrev PassesBy : State → List ℕ → Effect → Type 0
+PassesBy s d e = Passed (edges (read d controlWord) (e .writes)) 0 (points (s .axis .drive .store)) (points (e .state .axis .drive .store))
 
 -- writes that are acted on: first the mode, then the control word
-pub applied-later : (ws : List Write) (s : State) (d : List ℕ) → length d ≡ dictionaryLength → Fitting ws → keeps ws ≡ true →
-    bit newSetPointBit (read d controlWord) ≡ true → LaterBy s (applied ws s d)
+applied-passes : (ws : List Write) (s : State) (d : List ℕ) → length d ≡ dictionaryLength → Fitting ws → PassesBy s d (applied ws s d)
 unfolding applied controlActed faultReset modeActed countRestarted modeWritten
-applied-later ws s d l fit k h =
+applied-passes ws s d l fit =
+    let old = read d controlWord in
     let d1 = stored ws d in
     let r = countRestarted ws s in
     let t = modeActed ws r d1 in
-    let c = controlWritten d1 (read d controlWord) (t .axis .drive) in
-    let restarted : LaterBy s (becomes r) = whichever (λ (u : State). LaterBy s (becomes u)) (wrote heartbeatTime ws) later-self later-self in
-    let moded : LaterBy s (becomes t) =
-    whichever (λ (u : State). LaterBy s (becomes u)) (wrote mode ws) (later-trans restarted (later-emptied _)) restarted in
-    let controlled = later-trans moded (later-control d1 (read d controlWord) (t .axis .drive) h (bit-stays ws d l fit k h)) in
-    whichever (LaterBy s) (wrote controlWord ws) (whichever (LaterBy s) (c .reset) controlled controlled) moded
+    let c = controlWritten d1 old (t .axis .drive) in
+    let P : ℕ → State → Type 0 = λ n u. Passed n 0 (points (s .axis .drive .store)) (points (u .axis .drive .store)) in
+    let Q : Effect → Type 0 = λ e. P (edges old (ws ++ e .writes)) (e .state) in
+    let restarted : P 0 r = whichever (P 0) (wrote heartbeatTime ws) stays stays in
+    let moded : P 0 t =
+    whichever (P 0) (wrote mode ws) (onward restarted (emptied-passes {n = 0} _) (omega arith) (omega arith)) restarted in
+    let along : (vs : List Write) → rise old (read d1 controlWord) ≤ edges old (ws ++ vs) =
+    λ vs. omega (arith, one-edge ws d l fit, edges-both ws vs d l fit) in
+    let controlled : (vs : List Write) → Passed (edges old (ws ++ vs)) 0 (points (s .axis .drive .store)) (points (c .drive .store)) =
+    λ vs. onward moded (control-passes d1 old (t .axis .drive)) (omega (arith, along vs)) (omega arith) in
+    whichever Q (wrote controlWord ws) (whichever Q (c .reset) (controlled _) (controlled []))
+    (onward moded (stays {n = 0}) (omega arith) (omega arith))
 
--- bit 4 is 1, and the effect leaves it so
-abbrev Held : List ℕ → Effect → Type 0
-Held d e = (bit newSetPointBit (read d controlWord) ≡ true) × (keeps (e .writes) ≡ true)
-
--- ---- writes that are acted on
-
-values-later : (ws : List Write) (s : State) (d : List ℕ) → length d ≡ dictionaryLength → Fitting ws → Held d (applied ws s d) →
-    LaterBy s (applied ws s d)
-unfolding applied
-values-later ws s d l fit h = applied-later ws s d l fit (and-left (keeps ws) _ (rw all-both at (h .1))) (h .0)
-
--- ---- every service
-
-releases-later : {s : State} {d : List ℕ} {e : Effect} → Releases s d e → Held d e → LaterBy s e
+releases-pass : {s : State} {d : List ℕ} {e : Effect} → Releases s d e → PassesBy s d e
 unfolding andThen
-releases-later Releases.none h = later-self
-releases-later (Releases.skips rest) h = releases-later rest h
-releases-later {s = s} {d = d} (Releases.next q ws {e} cleared may rest) h =
+releases-pass Releases.none = stays
+releases-pass (Releases.skips rest) = releases-pass rest
+releases-pass {s = s} {d = d} (Releases.next q ws {e} cleared may rest) =
     let a = applied ws (withHeld q s) d in
-    let k = simp and-eq-true-iff at (rw (all-both keepsOne (a .writes) (e .writes)) at (h .1)) in
-    later-trans
-    (values-later ws (withHeld q s) d (cleared .long) (may .fit) (h .0, k .0))
-    (releases-later rest (
-      bit-stays (a .writes) d (cleared .long)
-          (applied-all (λ w. In (w .row) table × (w .value < 256 ^ sizeOf (w .row))) ws (withHeld q s) d (may .fit) (λ e. (register-in, omega arith)))
-          (k .0) (h .0),
-      k .1,
-    ))
+    let fitting =
+    applied-all (λ w. In (w .row) table × (w .value < 256 ^ sizeOf (w .row))) ws (withHeld q s) d (may .fit) (λ e. (register-in, omega arith)) in
+    onward (applied-passes ws (withHeld q s) d (cleared .long) (may .fit)) (releases-pass rest)
+    (omega (arith, edges-both (a .writes) (e .writes) d (cleared .long) fitting)) (omega arith)
 
-later : {K : Type 0} {s : State} {d : List ℕ} {e : Effect} → Serves K s d e → K → Lawful s d → Held d e → LaterBy s e
+-- every service
+passes : {K : Type 0} {s : State} {d : List ℕ} {e : Effect} → Serves K s d e → K → Lawful s d → PassesBy s d e
 unfolding commanded powerUp freshState voltageDisabled left faulted
-later Serves.nothing k law h = later-self
-later (Serves.replies c v rq small octet) k law h = later-self
-later (Serves.alarms l code) k law h = later-self
-later {s = s} {d = d} (Serves.applies ws before may) k law h = values-later ws s d (law .long) (may k law .fit) h
-later (Serves.holds bs l i on synchronous long legal) k law h = later-self
-later (Serves.releases r) k law h = releases-later r h
-later (Serves.starts q idle) k law h = later-self
-later Serves.leaves k law h = later-self
-later {s = s} Serves.stops k law h = later-enters _ (s .axis .drive)
-later {s = s} Serves.resets k law h = later-enters _ (s .axis .drive)
-later Serves.begins k law h = later-empty _
-later {s = s} (Serves.moves q placed) k law h = later-enters q (s .axis .drive)
-later (Serves.reaches placed) k law h = later-reached _
-later Serves.recovers k law h = later-self
-later {s = s} (Serves.faults code register fits) k law h = later-enters _ (s .axis .drive)
-later (Serves.feeds at speed fits) k law h = later-self
-later (Serves.powers v) k law h = later-self
-later Serves.rests k law h = later-self
-later (Serves.counts e) k law h = later-self
-later Serves.beats k law h = later-self
+passes Serves.nothing k law = stays
+passes (Serves.replies c v rq small octet) k law = stays
+passes (Serves.alarms l code) k law = stays
+passes {s = s} {d = d} (Serves.applies ws before may) k law = applied-passes ws s d (law .long) (may k law .fit)
+passes (Serves.holds bs l i on synchronous long legal) k law = stays
+passes (Serves.releases r) k law = releases-pass r
+passes (Serves.starts q idle) k law = stays
+passes Serves.leaves k law = stays
+passes {s = s} Serves.stops k law = enters-passes _ (s .axis .drive)
+passes {s = s} Serves.resets k law = enters-passes _ (s .axis .drive)
+passes Serves.begins k law = empties _
+passes {s = s} (Serves.moves q placed) k law = enters-passes q (s .axis .drive)
+passes {s = s} (Serves.reaches placed) k law = reached-passes (s .axis .drive .store) (placed k) (omega arith)
+passes Serves.recovers k law = stays
+passes {s = s} (Serves.faults code register fits) k law = enters-passes _ (s .axis .drive)
+passes (Serves.feeds at speed fits) k law = stays
+passes (Serves.powers v) k law = stays
+passes Serves.rests k law = stays
+passes (Serves.counts e) k law = stays
+passes Serves.beats k law = stays
 
 -- ---- the calls
 
@@ -231,24 +263,121 @@ later Serves.beats k law h = later-self
 finally-store : (d : List ℕ) (e : Effect) → finally d e .axis .drive .store ≡ e .state .axis .drive .store
 finally-store d e = at-end (e .occasion) (stored (e .writes) d) (e .state .axis .drive) .store
 
--- what a decision leaves in the store, where it keeps bit 4
-answered-later : {c : Call} {x : Decision} {s : State} {d : List ℕ} (o : List ℕ) → Decides s d c x → octets c ≡ true →
-    bit newSetPointBit (read d controlWord) ≡ true →
-    keeps (writesOf x) ≡ true → Later (s .axis .drive .store) (answered x s d o .state .axis .drive .store)
-unfolding answered refused accepted ended powerUp freshState
-answered-later o (Decides.refuses r q) b held h = later-self
-answered-later {d = d} o (Decides.begins n legal long) b held h = rw (finally-store d (powerUp n)) (later-empty _)
-answered-later {d = d} o (Decides.serves {e} law v) b held h = rw (finally-store d e) (later v b law (held, h))
+-- what a decision does to the set-points held, so many of which were reached by it
+abbrev PassesAs : ℕ → State → List ℕ → List ℕ → Decision → Type 0
+PassesAs n s d o x =
+    Passed (edges (read d controlWord) (writesOf x)) n (points (s .axis .drive .store)) (points (answered x s d o .state .axis .drive .store))
 
-after-later : (ks : List Step) (a : Stand) → allOctets ks → HoldsBitFour ks a →
-    Later (a .state .axis .drive .store) (after ks a .state .axis .drive .store)
-unfolding after allOctets HoldsBitFour answer
-after-later [] a b h = later-self
-after-later (k ∷ ks) a b h =
-    later-trans (answered-later (k .output) (decides (a .state) (a .dictionary) (k .call) (k .output)) (b .0) (h .0) (h .1))
-    (after-later ks (Promises.left k a) (b .1) (h .2))
+answered-passes : {c : Call} {x : Decision} {s : State} {d : List ℕ} (o : List ℕ) → Decides s d c x → octets c ≡ true → PassesAs 0 s d o x
+unfolding answered refused accepted ended powerUp freshState
+answered-passes o (Decides.refuses r q) b = stays
+answered-passes {d = d} o (Decides.begins n legal long) b = rw (finally-store d (powerUp n)) (empties _)
+answered-passes {d = d} o (Decides.serves {e} law v) b = rw (finally-store d e) (passes v b law)
+
+-- an event 6, accepted or not
+module _ (s : State) (d o : List ℕ) where
+  abbrev reachedIf : Bool → Decision → ℕ
+  reachedIf six x = cond (isAccepted x && six) 1 0
+
+  told-passes : (t : Told) → isReached t ≡ true → PassesAs (reachedIf (isReached t) (eventDecision t s d)) s d o (eventDecision t s d)
+  unfolding eventDecision isInPlace happens answered refused accepted ended
+  told-passes (Happened SetPointReached) h =
+      by-match (λ x. PassesAs (reachedIf true x) s d o x) (isMoving (s .axis .drive .store))
+      (λ m. rw (finally-store d (happens SetPointReached s d)) (reached-passes (s .axis .drive .store) m (omega arith))) (λ m. stays)
+  told-passes (Happened Started) h = absurd (false≢true h)
+  told-passes (Happened QuickStopDone) h = absurd (false≢true h)
+  told-passes (Happened ReactionDone) h = absurd (false≢true h)
+  told-passes (Happened Tick) h = absurd (false≢true h)
+  told-passes (Happened CauseGone) h = absurd (false≢true h)
+  told-passes (Happened (Fault code register)) h = absurd (false≢true h)
+  told-passes (Happened (Feedback at speed)) h = absurd (false≢true h)
+  told-passes (Happened (Voltage b)) h = absurd (false≢true h)
+  told-passes Bad h = absurd (false≢true h)
+
+  six-passes : (c : Call) → tellsReached c ≡ true → PassesAs (reachedIf (tellsReached c) (decided c s d o)) s d o (decided c s d o)
+  unfolding decided decision answered refused
+  six-passes (powerUpCall n) h = absurd (false≢true h)
+  six-passes (frameCall i bs) h = absurd (false≢true h)
+  six-passes (eventCall k xs) h =
+      let P : Decision → Type 0 = λ x. PassesAs (reachedIf (isReached (eventOf k xs)) x) s d o x in
+      by-match P (eqb (length d) dictionaryLength)
+      (λ l. by-match P (leb outputLength (length o))
+      (λ r. by-match P (sound s d) (λ q. told-passes (eventOf k xs) h) (λ q. stays)) (λ r. stays)) (λ l. stays)
+
+step-passes : (k : Step) (a : Stand) → octets (k .call) ≡ true →
+    PassesAs (cond (isAccepted (decidedAt k a) && tellsReached (k .call)) 1 0) (a .state) (a .dictionary) (k .output) (decidedAt k a)
+step-passes k a b =
+    elim (either (tellsReached (k .call))) [
+      | inl e ↦ six-passes (a .state) (a .dictionary) (k .output) (k .call) e
+      | inr e ↦ rw (e, and-false) (answered-passes (k .output) (decides (a .state) (a .dictionary) (k .call) (k .output)) b)
+    ]
+
+-- THE COUNT
+after-passes : (ks : List Step) (a : Stand) → allOctets ks → Passed (edgesIn ks a) (reachedIn ks a) (heldAt a) (heldAt (after ks a))
+unfolding after allOctets edgesIn reachedIn answer
+after-passes [] a b = stays
+after-passes (k ∷ ks) a b = onward (step-passes k a (b .0)) (after-passes ks (Promises.left k a) (b .1)) (omega arith) (omega arith)
+
+pub one-edge-takes-one : OneEdgeTakesOne
+one-edge-takes-one r ks b = after-passes ks (reachedBy r) b
+
+-- ---- since power-up, which leaves no set-point
+
+begun-empty : (r : Run) → heldAt (begun r) ≡ []
+unfolding answer answered accepted ended powerUp freshState
+begun-empty r =
+    let s = r .found .state in
+    let d = r .found .dictionary in
+    ap (λ (x : Decision). points (answered x s d (r .output) .state .axis .drive .store))
+    (power-up-decided (r .node) s d (r .output) (r .legal) (r .long) (r .room))
+    ∙ ap points (finally-store d (powerUp (r .node)))
+
+pub never-more-than-edges : NeverMoreThanEdges
+never-more-than-edges r =
+    let p = after-passes (r .steps) (begun r) (r .given) in
+    omega (
+      arith,
+      p .few,
+      p .counted,
+      p .inside,
+      ap length (p .rest),
+      length-drop (p .gone) (heldAt (begun r) ++ p .taken),
+      length-append (heldAt (begun r)) (p .taken),
+      ap length (begun-empty r),
+    )
+
+-- ---- while bit 4 stays 1 there is no edge
+
+abbrev keepsOne : Write → Bool
+keepsOne w = not (same controlWord (w .row)) || bit newSetPointBit (w .value)
+
+held-edges : (ws : List Write) (word : ℕ) → bit newSetPointBit word ≡ true → all keepsOne ws ≡ true → edges word ws ≡ 0
+unfolding edges
+held-edges [] word h k = refl
+held-edges (w ∷ ws) word h k =
+    let still : bit newSetPointBit (wordAfter word w) ≡ true =
+    by-test (λ (v : ℕ). bit newSetPointBit v ≡ true) (same controlWord (w .row))
+    (λ e. implied (same controlWord (w .row)) (bit newSetPointBit (w .value)) (and-left (keepsOne w) (all keepsOne ws) k) e) (λ e. h) in
+    rw h (omega (arith, held-edges ws (wordAfter word w) still (and-right (keepsOne w) (all keepsOne ws) k)))
+
+no-edges : (ks : List Step) (a : Stand) → HoldsBitFour ks a → edgesIn ks a ≡ 0
+unfolding edgesIn HoldsBitFour
+no-edges [] a h = refl
+no-edges (k ∷ ks) a h =
+    omega (
+      arith,
+      held-edges (writesOf (decidedAt k a)) (read (a .dictionary) controlWord) (h .0) (h .1),
+      no-edges ks (Promises.left k a) (h .2),
+    )
+
+none-of : {A : Type 0} (xs : List A) → length xs ≤ 0 → xs ≡ []
+none-of [] h = refl
+none-of (x ∷ xs) h = absurd (omega arith)
 
 pub held-bit-takes-none : HeldBitTakesNothing
 held-bit-takes-none r ks b h =
-    let l = after-later ks (reachedBy r) b h in
-    (l .gone, l .rest)
+    let p = one-edge-takes-one r ks b in
+    let before = heldAt (reachedBy r) in
+    let same : before ++ p .taken ≡ before =
+    ap (λ l. before ++ l) (none-of (p .taken) (omega (arith, p .few, no-edges ks (reachedBy r) h))) ∙ append-nil before in
+    (p .gone, p .rest ∙ ap (drop (p .gone)) same, p .counted, omega (arith, p .inside, ap length same))

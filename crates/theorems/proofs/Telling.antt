@@ -1,16 +1,23 @@
 -- For each promise a telling run of node 5, computed: the promise's premises are met there, and what it promises is seen. Each is a run on which
 -- a wrong rule of docs/PROMISES.md shows.
 -- Assumes nothing.
-use Rattle.theorems.proofs.Words.{ℕ, zero, suc, _+_, _*_, _≡_, refl, Bool, true, not, _&&_, List, [], _∷_, _++_, map, eqb, ltb, length}
-use Rattle.theorems.proofs.Words.{getD, PdoData}
+use Rattle.theorems.proofs.Words.{ℕ, zero, suc, _+_, _≡_, refl, Bool, true, not, _&&_, List, [], _∷_, _++_, map, eqb, ltb, length, getD}
+use Rattle.theorems.proofs.Words.{PdoData, ap, arith, drop, and-eq-true-iff, false, false≢true, Refusal, Accepted, OutOfPlace, SetPoint}
 use Rattle.rules_dictionary.specs.Plans.{mapped, plansOf, joined, pdoData}
-use Rattle.rules_dictionary.specs.{Numbers.all, Numbers.areBytes, Table.Row, Table.statusWord, Table.eachWay}
+use Rattle.rules_dictionary.specs.Numbers.{all, areBytes, value, part, bit}
+use Rattle.rules_dictionary.specs.Table.{Row, statusWord, eachWay, controlWord, mode}
 use Rattle.rules_dictionary.specs.Values.{write, read, stored}
-use Rattle.rules_services.specs.{Effects.frame, PdoTraffic.listens, PdoTraffic.mappedLength, PdoTraffic.noData}
-use Rattle.rules.specs.Outcome.{statusOf, sameBy, samePlan, sameData, encoded, frameSize}
-use Rattle.rules.specs.Calls.{Call, powerUpCall, frameCall, eventCall, Outcome, refusalNumber}
-use Rattle.rules.specs.{Sound.sound, Scripts.blank, Scripts.nothing, Scripts.zeros, Scripts.open-rules, Examples.request, Examples.nmt}
-use Rattle.theorems.specs.Promises.{Step, Stand, does, left, after, mayChange, points, open-promises}
+use Rattle.rules_services.specs.Effects.{frame, Frame}
+use Rattle.rules_services.specs.PdoTraffic.{listens, mappedLength, noData}
+use Rattle.rules.specs.Outcome.{statusOf, sameBy, samePlan, sameData, encoded, frameSize, sentInto}
+use Rattle.rules.specs.Calls.{Call, powerUpCall, frameCall, eventCall, Outcome, refusalNumber, answer}
+use Rattle.rules.specs.Sound.{sound}
+use Rattle.rules.specs.Scripts.{blank, nothing, zeros, open-rules, Answers, givenBy}
+use Rattle.rules.specs.Examples.{request, nmt, reply, example4, open-examples}
+use Rattle.theorems.specs.Promises.{Step, Stand, does, left, after, mayChange, open-promises, inOrderOfCause, heldAt, edges, edgesIn, reachedIn}
+use Rattle.theorems.specs.Promises.{Passed, keepsBitFour, HoldsBitFour, keepsExamples, RefusesEverything, RepliesAlike, SendsAlways}
+use Rattle.theorems.specs.Promises.{SendsNothingLater, ChangesNothingLater}
+use Rattle.drive.specs.SetPoints.{newSetPointBit}
 
 -- ---- the calls of the runs
 
@@ -39,9 +46,9 @@ write1 low high subindex b = request (0x2F ∷ low ∷ high ∷ subindex ∷ b �
 abbrev operational : Call
 operational = nmt 0x01
 
--- Operation enabled in mode 1
-abbrev enabled : List Call
-enabled = started ∷ control 0x06 ∷ control 0x0F ∷ write1 0x60 0x60 0x00 0x01 ∷ []
+-- Ready in mode 1
+abbrev readied : List Call
+readied = started ∷ write1 0x60 0x60 0x00 0x01 ∷ control 0x06 ∷ []
 
 -- ---- SoundAlways: a frame is held for SYNC when the node is stopped
 sound-after-stop :
@@ -193,15 +200,49 @@ bad-value-dropped : keepsAll (frameCall 0x305 (0x06 ∷ 0x00 ∷ 0x07 ∷ [])) (
 unfolding open-rules open-promises
 bad-value-dropped = refl
 
--- ---- AtMostSixInOrder: an SDO write that changes 6041h: the reply on 585h, and behind it the four transmit PDOs
-abbrev identifiersIn : ℕ → List ℕ → List ℕ
-identifiersIn n o = map (λ k. getD o (frameSize * k) 0 + 256 * getD o (suc (frameSize * k)) 0) (upTo n)
+-- ---- AtMostSixInOrder
 
+-- of each frame of an answer the identifier, the length, and the first two data bytes as a word: an emergency's code, a PDO's 6041h
+abbrev cut : ℕ → List ℕ → List (List ℕ)
+cut zero o = []
+cut (suc n) o = (value (part 0 2 o) ∷ getD o 2 0 ∷ value (part 3 2 o) ∷ []) ∷ cut n (drop frameSize o)
+
+abbrev sentBy : Outcome → List (List ℕ)
+sentBy u = cut (u .frames) (u .output)
+
+-- a fault whose cause is gone, in Operational
+abbrev inFault : List Call
+inFault = eventCall 3 (0x10 ∷ 0x23 ∷ 0x02 ∷ []) ∷ eventCall 4 [] ∷ eventCall 8 [] ∷ operational ∷ []
+
+-- an SDO write that resets it: the reply on 585h, the emergency on 085h, and behind them the four transmit PDOs
 reply-comes-first :
-    (answers (control 0x06) (started ∷ operational ∷ []) .frames ≡ 5)
-    × (identifiersIn 5 (answers (control 0x06) (started ∷ operational ∷ []) .output) ≡ 0x485 ∷ 0x385 ∷ 0x285 ∷ 0x185 ∷ 0x585 ∷ [])
+    sentBy (answers (control 0x80) inFault)
+    ≡ (0x585 ∷ 8 ∷ 0x4060 ∷ []) ∷ (0x085 ∷ 8 ∷ 0x0000 ∷ []) ∷ (0x185 ∷ 2 ∷ 0x0240 ∷ []) ∷ (0x285 ∷ 3 ∷ 0x0240 ∷ []) ∷ (0x385 ∷ 6 ∷ 0x0240 ∷ [])
+    ∷ (0x485 ∷ 6 ∷ 0x0240 ∷ []) ∷ []
 unfolding open-rules open-promises
-reply-comes-first = (refl, refl)
+reply-comes-first = refl
+
+-- receive PDO 1 with a byte too many resets it: 8220h, and then 0000h
+long-then-reset :
+    sentBy (answers (frameCall 0x205 (0x80 ∷ 0x00 ∷ 0x00 ∷ [])) inFault)
+    ≡ (0x085 ∷ 8 ∷ 0x8220 ∷ []) ∷ (0x085 ∷ 8 ∷ 0x0000 ∷ []) ∷ (0x185 ∷ 2 ∷ 0x0240 ∷ []) ∷ (0x285 ∷ 3 ∷ 0x0240 ∷ []) ∷ (0x385 ∷ 6 ∷ 0x0240 ∷ [])
+    ∷ (0x485 ∷ 6 ∷ 0x0240 ∷ []) ∷ []
+unfolding open-rules open-promises
+long-then-reset = refl
+
+-- receive PDO 2 with a byte too many and mode 7: 8220h, and then 8200h
+long-then-refused :
+    sentBy (answers (frameCall 0x305 (0x06 ∷ 0x00 ∷ 0x07 ∷ 0x00 ∷ [])) (operational ∷ []))
+    ≡ (0x085 ∷ 8 ∷ 0x8220 ∷ []) ∷ (0x085 ∷ 8 ∷ 0x8200 ∷ []) ∷ []
+unfolding open-rules open-promises
+long-then-refused = refl
+
+-- so they are in order; the other way round, with another second, or three, they are not
+order-of-cause :
+    (map inOrderOfCause ((0x8220 ∷ 0x0000 ∷ []) ∷ (0x8220 ∷ 0x8200 ∷ []) ∷ []) ≡ true ∷ true ∷ [])
+    × (map inOrderOfCause ((0x0000 ∷ 0x8220 ∷ []) ∷ (0x8200 ∷ 0x8220 ∷ []) ∷ (0x8220 ∷ 0x8210 ∷ []) ∷ (0x8220 ∷ 0x8200 ∷ 0x0000 ∷ []) ∷ [])
+    ≡ false ∷ false ∷ false ∷ false ∷ [])
+order-of-cause = (refl, refl)
 
 -- ---- ElevenBytes: a heartbeat, which has one data byte
 one-data-byte : length (encoded (frame 0x705 (0x05 ∷ []))) ≡ frameSize
@@ -231,14 +272,126 @@ same-word :
 unfolding open-rules open-promises
 same-word = refl
 
--- ---- HeldBitTakesNothing: 1Fh written again; OneEdgeTakesOne: 1Fh written once
-abbrev taken : List Call → ℕ
-taken cs = length (points (ran (enabled ++ cs) .state .axis .drive .store))
+-- ---- the set-points, over calls from a stand on: bit 4's edges, the set-points reached, and those held before and now
 
-edge-takes-one : taken (control 0x1F ∷ []) ≡ 1
+record Counted : Type 0 where
+  edges : ℕ
+  reached : ℕ
+  before : List SetPoint
+  now : List SetPoint
+
+abbrev counted : List Step → Stand → Counted
+counted ks a = record { edges = edgesIn ks a; reached = reachedIn ks a; before = heldAt a; now = heldAt (after ks a) }
+
+-- what is taken: 607Ah, 6081h, 6083h and 6084h as power-up leaves them
+abbrev point : SetPoint
+point = record { target = 0; velocity = 0; acceleration = 1; deceleration = 1 }
+
+-- ---- OneEdgeTakesOne: 1Fh, which enables and is an edge
+edge-takes-one :
+    (counted (map step (control 0x1F ∷ [])) (ran readied) ≡ record { edges = 1; reached = 0; before = []; now = point ∷ [] })
+    × Passed 1 0 [] (point ∷ [])
 unfolding open-rules open-promises
-edge-takes-one = refl
+edge-takes-one = (
+  refl,
+  record { taken = point ∷ []; gone = 0; rest = refl; few = omega arith; counted = omega arith; inside = omega arith },
+)
 
-held-takes-none : taken (control 0x1F ∷ control 0x1F ∷ []) ≡ 1
+-- along the writes of one call each of 6040h counts
+edges-along : edges 0x0F (write controlWord 0x1F ∷ write mode 0x01 ∷ write controlWord 0x0F ∷ write controlWord 0x1F ∷ []) ≡ 2
+unfolding open-rules open-promises
+edges-along = refl
+
+-- ---- NeverMoreThanEdges: one edge since power-up, and its set-point is reached
+never-more : counted (map step (readied ++ (control 0x1F ∷ eventCall 6 [] ∷ []))) (ran []) ≡ record { edges = 1; reached = 1; before = []; now = [] }
+unfolding open-rules open-promises
+never-more = refl
+
+-- ---- HeldBitTakesNothing: two set-points with the same numbers are held; the first is reached, and 1Fh is written again: the second alone is left
+
+abbrev twoHeld : Stand
+twoHeld = ran (readied ++ (control 0x1F ∷ control 0x0F ∷ control 0x1F ∷ []))
+
+abbrev whileHeld : List Step
+whileHeld = map step (eventCall 6 [] ∷ control 0x1F ∷ [])
+
+-- the conditions of HoldsBitFour
+abbrev holds : List Step → Stand → Bool
+holds [] a = true
+holds (k ∷ ks) a = bit newSetPointBit (read (a .dictionary) controlWord) && keepsBitFour k a && holds ks (left k a)
+
+abbrev heldAndCounted : List Step → Stand → Bool × Counted
+heldAndCounted ks a = (holds ks a, counted ks a)
+
+held-takes-none : heldAndCounted whileHeld twoHeld ≡ (true, record { edges = 0; reached = 1; before = point ∷ point ∷ []; now = point ∷ [] })
 unfolding open-rules open-promises
 held-takes-none = refl
+
+-- so that the promise's premise is met there
+holding : (ks : List Step) (a : Stand) → holds ks a ≡ true → HoldsBitFour ks a
+unfolding HoldsBitFour
+holding [] a h = tt
+holding (k ∷ ks) a h = let e = simp and-eq-true-iff at h in (e .0 .0, e .0 .1, holding ks (left k a) (e .1))
+
+bit-held : HoldsBitFour whileHeld twoHeld
+bit-held = holding whileHeld twoHeld (ap (λ p. p .0) held-takes-none)
+
+-- ---- ShutsOut: a node of each kind
+
+abbrev nodeWith : Refusal → Answers
+nodeWith r c s d o = record { refusal = r; frames = 0; state = s; dictionary = d; output = o }
+
+-- it refuses everything
+refusing-falls : RefusesEverything (nodeWith OutOfPlace) × (keepsExamples (nodeWith OutOfPlace) ≡ false)
+unfolding open-rules open-examples
+refusing-falls = (λ c s d o e. omega arith, refl)
+
+-- it does nothing
+doing-nothing-falls : SendsAlways (nodeWith Accepted) 0 × (keepsExamples (nodeWith Accepted) ≡ false)
+unfolding open-rules open-examples
+doing-nothing-falls = (λ c s d o. refl, refl)
+
+-- it is the node after power-up, and idle then
+abbrev idleNode : Answers
+idleNode (powerUpCall n) s d o = answer (powerUpCall n) s d o
+idleNode (frameCall i bs) s d o = nodeWith Accepted (frameCall i bs) s d o
+idleNode (eventCall k xs) s d o = nodeWith Accepted (eventCall k xs) s d o
+
+idle-falls : SendsNothingLater idleNode × ChangesNothingLater idleNode × (keepsExamples idleNode ≡ false)
+unfolding open-rules open-examples
+idle-falls = (quiet, still, refl)
+  where
+    quiet : SendsNothingLater idleNode
+    quiet (powerUpCall n) s d o h = absurd (false≢true h)
+    quiet (frameCall i bs) s d o h = refl
+    quiet (eventCall k xs) s d o h = refl
+
+    still : ChangesNothingLater idleNode
+    still (powerUpCall n) s d o h = absurd (false≢true h)
+    still (frameCall i bs) s d o h = refl
+    still (eventCall k xs) s d o h = refl
+
+-- it is the node, and answers each frame as if 6040h had been written: right up to the upload of example 4
+abbrev constantReply : List Frame
+constantReply = reply (0x60 ∷ 0x40 ∷ 0x60 ∷ 0x00 ∷ 0x00 ∷ 0x00 ∷ 0x00 ∷ 0x00 ∷ []) ∷ []
+
+abbrev replyingNode : Answers
+replyingNode (powerUpCall n) s d o = answer (powerUpCall n) s d o
+replyingNode (frameCall i bs) s d o =
+    let u = answer (frameCall i bs) s d o in
+    record { refusal = u .refusal; frames = 1; state = u .state; dictionary = u .dictionary; output = sentInto o constantReply }
+replyingNode (eventCall k xs) s d o = answer (eventCall k xs) s d o
+
+replying-falls : RepliesAlike replyingNode constantReply × (givenBy replyingNode example4 ≡ false)
+unfolding open-rules open-examples
+replying-falls = (λ bs s d o. refl, refl)
+
+-- it is the node, and reports six frames
+abbrev sixFrames : Answers
+sixFrames c s d o =
+    let u = answer c s d o in
+    record { refusal = u .refusal; frames = 6; state = u .state; dictionary = u .dictionary; output = u .output }
+
+six-frames-fall : SendsAlways sixFrames 6 × (keepsExamples sixFrames ≡ false)
+unfolding open-rules open-examples
+six-frames-fall = (λ c s d o. refl, refl)

@@ -12,8 +12,8 @@ use Rattle.drive.specs.declared.SetPoint.{SetPoint}
 use Rattle.drive.specs.declared.Store.{Store}
 use Rattle.drive.specs.declared.Store.the-variants.{Empty, Rested, Moving, Queued}
 use Rattle.state.specs.declared.State.{State}
-use Rattle.state.specs.declared.Refusal.the-variants.{Accepted, DictionaryLength, NotSound}
-use Rattle.rules_dictionary.specs.Numbers.{all, any, areBytes, filter, bit}
+use Rattle.state.specs.declared.Refusal.the-variants.{Accepted, NotSound}
+use Rattle.rules_dictionary.specs.Numbers.{all, any, areBytes, filter, bit, value, part}
 use Rattle.rules_dictionary.specs.TheNode.{isNodeId}
 use Rattle.rules_dictionary.specs.Table.{Row, table, sizeOf, same, dictionaryLength, placeOf, isReset, Found, found, noObject, noSubindex, lookup}
 use Rattle.rules_dictionary.specs.Table.{statusWord, mode, modeDisplay, controlWord, errorCode, errorRegister, position, velocity, identifier}
@@ -25,19 +25,19 @@ use Rattle.rules_dictionary.specs.Plans.{mapped, planFor, readyFor, plansOf, re
 use Rattle.rules_dictionary.specs.Members.{In}
 use Rattle.rules_dictionary.specs.declared.PdoData.{PdoData}
 use Rattle.drive.specs.DriveStates.{isFault, faultResetBit}
-use Rattle.drive.specs.SetPoints.{newSetPointBit, controlWritten}
+use Rattle.drive.specs.SetPoints.{newSetPointBit}
 use Rattle.drive.specs.declared.Drive.{Drive}
 use Rattle.rules_services.specs.Effects.{Frame, frame}
 use Rattle.state.specs.NmtStates.{isStopped, isOperational}
-use Rattle.rules_services.specs.Emergency.{emergency, emergencyBase, pdoTooShort}
+use Rattle.rules_services.specs.Emergency.{emergency, emergencyBase, pdoTooShort, faultGone, valueRefused, pdoTooLong}
 use Rattle.rules_services.specs.declared.SdoCommand.{SdoCommand as Command}
-use Rattle.rules_services.specs.declared.SdoCommand.the-variants.{Download as download, Upload as upload}
-use Rattle.rules_services.specs.declared.SdoCommand.the-variants.{ClientAbort as clientAbort, Unknown as unknown}
+use Rattle.rules_services.specs.declared.SdoCommand.the-variants.{Download as download, Upload as upload, ClientAbort as clientAbort}
+use Rattle.rules_services.specs.declared.SdoCommand.the-variants.{Unknown as unknown}
 use Rattle.rules_services.specs.Sdo.{commandOf, commandByte, askedIndex, askedSubindex, askedValue, downloadVerdict, requestBase, requestLength}
 use Rattle.rules_services.specs.Sdo.{replyBase}
 use Rattle.rules_services.specs.PdoTraffic.{listens, typeOf, mappedLength, areLegal, transmitted, noData, isHeld, syncBase}
-use Rattle.rules_services.specs.Nmt.{nmtIdentifier, nmtLength, everyNode, heartbeatBase, commandOf as nmtCommandOf}
-use Rattle.rules_services.specs.Nmt.{NmtCommand, start, stop, enterPreOperational, resetNode, resetCommunication, unknown as unknownNmt}
+use Rattle.rules_services.specs.Nmt.{nmtIdentifier, nmtLength, everyNode, heartbeatBase, commandOf as nmtCommandOf, NmtCommand, start, stop}
+use Rattle.rules_services.specs.Nmt.{enterPreOperational, resetNode, resetCommunication, unknown as unknownNmt}
 use Rattle.rules_services.specs.declared.Told.{Told}
 use Rattle.rules_services.specs.declared.Told.the-variants.{Happened as event, Bad as badEvent}
 use Rattle.rules_services.specs.Events.{eventOf}
@@ -45,11 +45,12 @@ use Rattle.rules_services.specs.declared.Event.{Event}
 use Rattle.rules_services.specs.declared.Event.the-variants.{Started as started, QuickStopDone as quickStopDone, ReactionDone as reactionDone}
 use Rattle.rules_services.specs.declared.Event.the-variants.{SetPointReached as setPointReached, Tick as tick, CauseGone as causeGone, Fault as fault}
 use Rattle.rules_services.specs.declared.Event.the-variants.{Feedback as feedback, Voltage as voltage}
-use Rattle.rules.specs.Outcome.{statusOf, encoded, sentInto, frameSize, transmitters}
+use Rattle.rules.specs.Outcome.{statusOf, encoded, sentInto, mostData, mostFrames, frameSize, transmitters}
 use Rattle.rules.specs.Sound.{sound}
 use Rattle.rules.specs.Calls.{Call, powerUpCall, frameCall, eventCall, Decision, refuses, does as performs, decided, Outcome, answer, outputLength}
+use Rattle.rules.specs.Calls.{refusalNumber}
 use Rattle.rules.specs.Scripts.{Answers, givenBy}
-use Rattle.rules.specs.Examples.{examples}
+use Rattle.rules.specs.Examples.{request, examples}
 
 -- ---- a run: an accepted power-up, and then calls in any number, refused ones included, each handed the state and the dictionary that the
 -- one before handed back, with output of any length
@@ -95,8 +96,12 @@ pub record Run : Type 0 where
   pub steps : List Step
   pub given : allOctets steps
 
+-- where it stands after its power-up, and after all its calls
+abbrev pub begun : Run → Stand
+begun r = left (record { call = powerUpCall (r .node); output = r .output }) (r .found)
+
 abbrev pub reached : Run → Stand
-reached r = after (r .steps) (left (record { call = powerUpCall (r .node); output = r .output }) (r .found))
+reached r = after (r .steps) (begun r)
 
 -- ---- demand 1, "A refused call sends nothing and changes nothing.": of every state, dictionary and output, sound or not
 
@@ -124,18 +129,38 @@ DroppedFrameChangesNothing = (r : Run) (p i : ℕ) (bs o : List ℕ) → areByte
 abbrev pub isOn : ℕ → Frame → Bool
 isOn i f = eqb (f .identifier) i
 
--- a list of frames in the paper's order; `sending` says which transmit PDOs are sent
-pub record Ordered (a : Stand) (sent : List Frame) : Type 0 where
+-- the code of an emergency
+abbrev pub codeOf : Frame → ℕ
+codeOf f = value (part 0 2 (f .content))
+
+-- "emergencies in order of cause": there are two only where a process frame is too long, and its value is refused or it resets a fault
+abbrev pub inOrderOfCause : List ℕ → Bool
+inOrderOfCause [] = true
+inOrderOfCause (a ∷ []) = true
+inOrderOfCause (a ∷ b ∷ []) = eqb a pdoTooLong && (eqb b valueRefused || eqb b faultGone)
+inOrderOfCause (a ∷ b ∷ c ∷ cs) = false
+
+-- what a service of node n sends itself
+pub record Spoken (n : ℕ) (sent : List Frame) : Type 0 where
   pub replies : List Frame
   pub emergencies : List Frame
   pub beats : List Frame
-  pub sending : ℕ → Bool
-  pub whole : sent ≡ replies ++ (emergencies ++ (beats ++
-      map (λ t. transmitted (a .dictionary) (eachWay + t) (getD (a .state .axis .ready) t noData)) (filter sending transmitters)))
-  pub onReply : all (isOn (replyBase + a .state .node .id)) replies ≡ true
-  pub onEmergency : all (isOn (emergencyBase + a .state .node .id)) emergencies ≡ true
-  pub onBeat : all (isOn (heartbeatBase + a .state .node .id)) beats ≡ true
+  pub whole : sent ≡ replies ++ (emergencies ++ beats)
+  pub onReply : all (isOn (replyBase + n)) replies ≡ true
+  pub onEmergency : all (isOn (emergencyBase + n)) emergencies ≡ true
+  pub onBeat : all (isOn (heartbeatBase + n)) beats ≡ true
+  pub caused : inOrderOfCause (map codeOf emergencies) ≡ true
+  pub oneReply : length replies ≤ 1
+  pub oneBeat : length beats ≤ 1
   pub few : length replies + (length emergencies + length beats) ≤ 2
+
+-- a list of frames in the paper's order: the transmit PDOs behind what is spoken; `sending` says which of them are sent
+pub record Ordered (a : Stand) (sent : List Frame) : Type 0 where
+  pub own : List Frame
+  pub spoken : Spoken (a .state .node .id) own
+  pub sending : ℕ → Bool
+  pub whole : sent ≡ own
+      ++ map (λ t. transmitted (a .dictionary) (eachWay + t) (getD (a .state .axis .ready) t noData)) (filter sending transmitters)
 
 unfoldable pub laid : List Frame → List ℕ
 laid [] = []
@@ -145,7 +170,8 @@ laid (f ∷ fs) = encoded f ++ laid fs
 pub record FramesOf (u : Outcome) (o : List ℕ) : Type 0 where
   pub sent : List Frame
   pub counted : u .frames ≡ length sent
-  pub most : length sent ≤ 6
+  pub most : length sent ≤ mostFrames
+  pub short : (f : Frame) → In f sent → length (f .content) ≤ mostData
   pub inOrder : Ordered (record { state = u .state; dictionary = u .dictionary }) sent
   pub output : u .output ≡ laid sent ++ drop (frameSize * length sent) o
 
@@ -156,43 +182,47 @@ abbrev pub ElevenBytes : Type 0
 ElevenBytes = (f : Frame) → length (encoded f) ≡ frameSize
 
 -- ---- "Shut out by demand 2: a node that refuses everything, one with a constant reply, one that does nothing, one that reports six frames
--- always. One idle after power-up falls to 2 and 3.": the ten examples hold of the rules, and of none of these
+-- always. One idle after power-up falls to 2 and 3.": the ten examples hold of the rules, and of no node that is of one of these kinds, whatever
+-- else it does
 
 abbrev pub keepsExamples : Answers → Bool
 keepsExamples node = all (givenBy node) examples
 
-unfoldable pub refusesEverything : Answers
-refusesEverything c s d o = record { refusal = DictionaryLength; frames = 0; state = s; dictionary = d; output = o }
+-- for whatever reason
+abbrev pub RefusesEverything : Answers → Type 0
+RefusesEverything node = (c : Call) (s : State) (d o : List ℕ) → refusalNumber (node c s d o .refusal) ≡ 0 → ⊥
 
-unfoldable pub doesNothing : Answers
-doesNothing c s d o = record { refusal = Accepted; frames = 0; state = s; dictionary = d; output = o }
+-- the same frames to every request to node 5, of which the examples speak, whatever these frames are
+abbrev pub RepliesAlike : Answers → List Frame → Type 0
+RepliesAlike node fs = (bs : List ℕ) (s : State) (d o : List ℕ) → node (request bs) s d o .output ≡ sentInto o fs
 
-unfoldable pub constantReply : Answers
-constantReply (frameCall i bs) s d o =
-    record {
-      refusal = Accepted;
-      frames = 1;
-      state = s;
-      dictionary = d;
-      output = sentInto o (frame (replyBase + s .node .id) (0x60 ∷ 0x40 ∷ 0x60 ∷ 0x00 ∷ 0x00 ∷ 0x00 ∷ 0x00 ∷ 0x00 ∷ []) ∷ []);
-    }
-constantReply (powerUpCall n) s d o = answer (powerUpCall n) s d o
-constantReply (eventCall k xs) s d o = answer (eventCall k xs) s d o
+-- so many frames to every call
+abbrev pub SendsAlways : Answers → ℕ → Type 0
+SendsAlways node n = (c : Call) (s : State) (d o : List ℕ) → node c s d o .frames ≡ n
 
-unfoldable pub sixFramesAlways : Answers
-sixFramesAlways c s d o =
-    let u = answer c s d o in
-    record { refusal = u .refusal; frames = 6; state = u .state; dictionary = u .dictionary; output = u .output }
+-- a call that is no power-up
+abbrev pub isLater : Call → Bool
+isLater (powerUpCall n) = false
+isLater (frameCall i bs) = true
+isLater (eventCall k xs) = true
 
-unfoldable pub idleAfterPowerUp : Answers
-idleAfterPowerUp (powerUpCall n) s d o = answer (powerUpCall n) s d o
-idleAfterPowerUp (frameCall i bs) s d o = record { refusal = Accepted; frames = 0; state = s; dictionary = d; output = o }
-idleAfterPowerUp (eventCall k xs) s d o = record { refusal = Accepted; frames = 0; state = s; dictionary = d; output = o }
+-- idle after power-up: it sends nothing, ..
+abbrev pub SendsNothingLater : Answers → Type 0
+SendsNothingLater node = (c : Call) (s : State) (d o : List ℕ) → isLater c ≡ true → node c s d o .frames ≡ 0
+
+-- .. or it changes nothing
+abbrev pub ChangesNothingLater : Answers → Type 0
+ChangesNothingLater node = (c : Call) (s : State) (d o : List ℕ) → isLater c ≡ true → node c s d o .dictionary ≡ d
 
 abbrev pub ShutsOut : Type 0
 ShutsOut =
-    (keepsExamples answer ≡ true) × (keepsExamples refusesEverything ≡ false) × (keepsExamples constantReply ≡ false)
-    × (keepsExamples doesNothing ≡ false) × (keepsExamples sixFramesAlways ≡ false) × (keepsExamples idleAfterPowerUp ≡ false)
+    (keepsExamples answer ≡ true)
+    × ((node : Answers) → RefusesEverything node → keepsExamples node ≡ false)
+    × ((node : Answers) (fs : List Frame) → RepliesAlike node fs → keepsExamples node ≡ false)
+    × ((node : Answers) → SendsAlways node 0 → keepsExamples node ≡ false)
+    × ((node : Answers) → SendsAlways node mostFrames → keepsExamples node ≡ false)
+    × ((node : Answers) → SendsNothingLater node → keepsExamples node ≡ false)
+    × ((node : Answers) → ChangesNothingLater node → keepsExamples node ≡ false)
 
 -- ---- demand 3, "After each call the dictionary is the one demand 2's rules give": sound in every clause of document 01
 
@@ -230,6 +260,9 @@ NothingStale = (r : Run) → FreshAt (reached r)
 abbrev pub covers : ℕ → Row → Bool
 covers i x = leb (placeOf x) i && ltb i (placeOf x + sizeOf x)
 
+abbrev pub decidedAt : Step → Stand → Decision
+decidedAt k a = decided (k .call) (a .state) (a .dictionary) (k .output)
+
 -- the writes of a call
 abbrev pub writesOf : Decision → List Write
 writesOf (refuses x) = []
@@ -245,7 +278,7 @@ andSettled xs = statusWord ∷ modeDisplay ∷ xs
 -- byte for byte, of every state and dictionary: a byte of no row that the call writes, and not of 6041h or 6061h, stays
 abbrev pub ChangesOnlyItsWrites : Type 0
 ChangesOnlyItsWrites = (k : Step) (a : Stand) (i : ℕ) →
-    any (covers i) (andSettled (rowsOf (writesOf (decided (k .call) (a .state) (a .dictionary) (k .output))))) ≡ false →
+    any (covers i) (andSettled (rowsOf (writesOf (decidedAt k a)))) ≡ false →
     getD (does k a .dictionary) i 0 ≡ getD (a .dictionary) i 0
 
 -- which rows these are, as document 01 lists them. "What a call writes: an SDO or PDO write its objects; event 5 6064h and 606Ch; 82h the
@@ -358,7 +391,7 @@ ChangesNoOther = (k : Step) (a : Stand) (i : ℕ) → any (covers i) (mayChange 
 abbrev pub ListsWhatIsWritten : Type 0
 ListsWhatIsWritten = (k : Step) (a : Stand) → does k a .refusal ≡ Accepted →
     mayChange (k .call) (a .state) (a .dictionary)
-    ≡ andSettled (rowsOf (writesOf (decided (k .call) (a .state) (a .dictionary) (k .output))))
+    ≡ andSettled (rowsOf (writesOf (decidedAt k a)))
 
 -- "and no ready frame but of a transmit PDO that maps a changed object or had its mapping written"
 abbrev pub ReadyFrameStays : Type 0
@@ -399,7 +432,8 @@ SameStatusWord = (r : Run) (o : List ℕ) → outputLength ≤ length o → isSt
     ≡ sentInto o (frame (replyBase + reached r .state .node .id)
     (0x4B ∷ 0x41 ∷ 0x60 ∷ 0x00 ∷ (field (reached r .dictionary) statusWord ++ (0x00 ∷ 0x00 ∷ []))) ∷ []))
 
--- "set-points taken twice because somebody looked at the level of a bit and missed its edge"
+-- "set-points taken twice because somebody looked at the level of a bit and missed its edge": by counting, so that one which is taken again
+-- with the same numbers counts too
 
 abbrev pub points : Store → List SetPoint
 points Empty = []
@@ -407,28 +441,89 @@ points (Rested t) = []
 points (Moving a) = a ∷ []
 points (Queued a b) = a ∷ b ∷ []
 
+-- the set-points that are held where a run stands
+abbrev pub heldAt : Stand → List SetPoint
+heldAt a = points (a .state .axis .drive .store)
+
+-- 6040h after a write, where that word stood before it
+abbrev pub wordAfter : ℕ → Write → ℕ
+wordAfter word w = cond (same controlWord (w .row)) (w .value) word
+
+-- 1 where bit 4 rose
+abbrev pub rise : ℕ → ℕ → ℕ
+rise old word = cond (not (bit newSetPointBit old) && bit newSetPointBit word) 1 0
+
+-- how often bit 4 of 6040h rises along those writes, in order, where that word stood before them
+unfoldable pub edges : ℕ → List Write → ℕ
+edges word [] = 0
+edges word (w ∷ ws) = rise word (wordAfter word w) + edges (wordAfter word w) ws
+
+-- .. and along the writes of those calls: 6040h written twice by one call counts along both
+unfoldable pub edgesIn : List Step → Stand → ℕ
+edgesIn [] a = 0
+edgesIn (k ∷ ks) a = edges (read (a .dictionary) controlWord) (writesOf (decidedAt k a)) + edgesIn ks (left k a)
+
+-- event 6
+abbrev pub isReached : Told → Bool
+isReached badEvent = false
+isReached (event started) = false
+isReached (event quickStopDone) = false
+isReached (event reactionDone) = false
+isReached (event setPointReached) = true
+isReached (event tick) = false
+isReached (event causeGone) = false
+isReached (event (fault code register)) = false
+isReached (event (feedback at speed)) = false
+isReached (event (voltage b)) = false
+
+abbrev pub tellsReached : Call → Bool
+tellsReached (powerUpCall n) = false
+tellsReached (frameCall i bs) = false
+tellsReached (eventCall k xs) = isReached (eventOf k xs)
+
+abbrev pub isAccepted : Decision → Bool
+isAccepted (refuses x) = false
+isAccepted (performs e) = true
+
+-- how many of those calls are an accepted event 6
+unfoldable pub reachedIn : List Step → Stand → ℕ
+reachedIn [] a = 0
+reachedIn (k ∷ ks) a = cond (isAccepted (decidedAt k a) && tellsReached (k .call)) 1 0 + reachedIn ks (left k a)
+
+-- from the set-points held before to those held now: some were taken behind them, one at the most for each edge, and of all these the first
+-- ones are gone, one at the least for each that was reached
+pub record Passed (edges reached : ℕ) (before now : List SetPoint) : Type 0 where
+  pub taken : List SetPoint
+  pub gone : ℕ
+  pub rest : now ≡ drop gone (before ++ taken)
+  pub few : length taken ≤ edges
+  pub counted : reached ≤ gone
+  pub inside : gone ≤ length (before ++ taken)
+
+abbrev pub OneEdgeTakesOne : Type 0
+OneEdgeTakesOne = (r : Run) (ks : List Step) → allOctets ks →
+    Passed (edgesIn ks (reached r)) (reachedIn ks (reached r)) (heldAt (reached r)) (heldAt (after ks (reached r)))
+
+-- so that since power-up the set-points reached and those held are never more than the edges
+abbrev pub NeverMoreThanEdges : Type 0
+NeverMoreThanEdges = (r : Run) → reachedIn (r .steps) (begun r) + length (heldAt (reached r)) ≤ edgesIn (r .steps) (begun r)
+
 -- the call writes no 6040h with bit 4 zero
 abbrev pub keepsBitFour : Step → Stand → Bool
-keepsBitFour k a =
-    all (λ w. not (same controlWord (w .row)) || bit newSetPointBit (w .value)) (writesOf (decided (k .call) (a .state) (a .dictionary) (k .output)))
+keepsBitFour k a = all (λ w. not (same controlWord (w .row)) || bit newSetPointBit (w .value)) (writesOf (decidedAt k a))
 
 -- bit 4 of 6040h is 1 before each of these calls, and none of them writes it zero
 unfoldable pub HoldsBitFour : List Step → Stand → Type 0
 HoldsBitFour [] a = Unit
 HoldsBitFour (k ∷ ks) a = (bit newSetPointBit (read (a .dictionary) controlWord) ≡ true) × (keepsBitFour k a ≡ true) × HoldsBitFour ks (left k a)
 
--- while bit 4 stays 1, over any calls, no set-point is taken: those in the store are the last ones of those before
+-- while bit 4 stays 1, over any calls, no set-point is taken, not even with the same numbers: those held are the last ones of those before, and
+-- every one that was reached is gone
 abbrev pub HeldBitTakesNothing : Type 0
 HeldBitTakesNothing = (r : Run) (ks : List Step) → allOctets ks → HoldsBitFour ks (reached r) →
-    (n : ℕ) × (points (after ks (reached r) .state .axis .drive .store) ≡ drop n (points (reached r .state .axis .drive .store)))
-
--- and one control word takes at most one, where bit 4 rose
-abbrev pub OneEdgeTakesOne : Type 0
-OneEdgeTakesOne = (d : List ℕ) (old : ℕ) (v : Drive) →
-    (n : ℕ) × (xs : List SetPoint) × (points (controlWritten d old v .drive .store) ≡ drop n (points (v .store)) ++ xs) × (length xs ≤ 1)
-    × ((xs ≡ []) ⊎ ((bit newSetPointBit old ≡ false) × (bit newSetPointBit (read d controlWord) ≡ true)))
+    (n : ℕ) × (heldAt (after ks (reached r)) ≡ drop n (heldAt (reached r))) × (reachedIn ks (reached r) ≤ n) × (n ≤ length (heldAt (reached r)))
 
 -- opens every definition of this module, where a proof computes
 unfoldable pub open-promises : Unit {0}
-unfolding after byPdo bySync applies written byNmt byFrame mayChange
+unfolding after allOctets byPdo bySync applies written byNmt byFrame mayChange laid edges edgesIn reachedIn HoldsBitFour
 open-promises = tt
