@@ -11,7 +11,9 @@ pub mod PdoKept
 pub mod Services
 pub mod Runs
 pub mod Changes
+pub mod Still
 pub mod Demands
+pub mod Aborted
 pub mod Sent
 pub mod Taken
 pub mod ShutOut
