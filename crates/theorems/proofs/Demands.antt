@@ -34,7 +34,7 @@ use Rattle.theorems.specs.Promises.{ShortFrameChangesNothing, NoOldMappi
 
 -- ---- what is stored again
 
-field-length : (x : Row) (d : List ℕ) → placeOf x + sizeOf x ≤ length d → length (field d x) ≡ sizeOf x
+pub field-length : (x : Row) (d : List ℕ) → placeOf x + sizeOf x ≤ length d → length (field d x) ≡ sizeOf x
 field-length x d h = length-take-le (sizeOf x) (drop (placeOf x) d) (rw length-drop (omega arith))
 
 pub store-self : (x : Row) (d : List ℕ) → areBytes d ≡ true → placeOf x + sizeOf x ≤ length d → store x (read d x) d ≡ d
@@ -186,12 +186,12 @@ frame-decided i bs s d o l room h k m =
 
 -- ---- a receive PDO: its identifier is its own
 
-record Hears (m : NmtState) (d : List ℕ) (p i : ℕ) : Type 0 where
-  operational : isOperational m ≡ true
-  valid : isValid (read d (identifier p)) ≡ true
-  on : frameIdentifier (read d (identifier p)) ≡ i
+pub record Hears (m : NmtState) (d : List ℕ) (p i : ℕ) : Type 0 where
+  pub operational : isOperational m ≡ true
+  pub valid : isValid (read d (identifier p)) ≡ true
+  pub on : frameIdentifier (read d (identifier p)) ≡ i
 
-hears : (m : NmtState) (d : List ℕ) (p i : ℕ) → listens i m d p ≡ true → Hears m d p i
+pub hears : (m : NmtState) (d : List ℕ) (p i : ℕ) → listens i m d p ≡ true → Hears m d p i
 unfolding listens works
 hears m d p i h =
     let k = simp and-eq-true-iff at h in
@@ -203,7 +203,7 @@ module _ (n : ℕ) (d : List ℕ) (ok : DictionaryOk n d) (m : NmtState) where
   fit {p} i = fits (λ q. read d (identifier q)) (read d (identifier p)) i (ok .named p i)
 
   -- two that listen on one identifier are one
-  one-listener : (p q i : ℕ) → In p pdos → In q pdos → listens i m d p ≡ true → listens i m d q ≡ true → q ≡ p
+  pub one-listener : (p q i : ℕ) → In p pdos → In q pdos → listens i m d p ≡ true → listens i m d q ≡ true → q ≡ p
   one-listener p q i j k h g =
       let a = hears m d p i h in
       let b = hears m d q i g in
@@ -213,7 +213,7 @@ module _ (n : ℕ) (d : List ℕ) (ok : DictionaryOk n d) (m : NmtState) where
             (fit j .unlike k e (a .valid) (b .valid))
       ]
 
-  identifier-range : (p i : ℕ) → In p pdos → listens i m d p ≡ true → (firstIdentifier ≤ i) × (i ≤ lastPdoIdentifier)
+  pub identifier-range : (p i : ℕ) → In p pdos → listens i m d p ≡ true → (firstIdentifier ≤ i) × (i ≤ lastPdoIdentifier)
   unfolding badAlone
   identifier-range p i j h =
       let w = read d (identifier p) in

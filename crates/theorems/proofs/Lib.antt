@@ -15,6 +15,7 @@ pub mod Still
 pub mod Demands
 pub mod Aborted
 pub mod Sent
+pub mod SameWord
 pub mod Taken
 pub mod ShutOut
 pub mod Telling

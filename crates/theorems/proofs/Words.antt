@@ -12,7 +12,7 @@ pub use borrow.Author.Tests.{eqb-true, eq-eqb, leb-false, ltb-false, ne-eqb, leb
 pub use lib.Dec.{eqb, leb, ltb}
 pub use lib.ListN.{drop-of-length-le, length, getD, set, drop, take-append-drop, length-drop, take, length-append, length-take}
 pub use lib.Seq.{sets, getD-set-other, sets-eq, length-take-le, drop-drop, take-take, take-nil}
-pub use lib.Seq.{take-at}
+pub use lib.Seq.{take-at, drop-at}
 pub use lib.Bits.{bitOr, or-lt}
 pub use Rattle.drive.specs.declared.Command.the-variants.{DisableVoltage}
 pub use Rattle.drive.specs.declared.DriveState.the-variants.{SwitchOnDisabled, FaultReactionActive, Fault}
@@ -40,6 +40,7 @@ pub use Rattle.rules_dictionary.proofs.Members.{in-append, in-map, in-left, wor
 pub use Rattle.rules_dictionary.proofs.Members.{entry-in, type-in, in-right}
 pub use Rattle.rules_dictionary.proofs.Rows.{bytes-value, part-bytes, read-fits, read-apart, read-same, length-store, length-stored, stored-bytes}
 pub use Rattle.rules_dictionary.proofs.Rows.{store-bytes, all-drop, all-take, bytes-are, field-stored, value-take}
+pub use Rattle.rules_dictionary.proofs.Rows.{value-bytes}
 pub use Rattle.rules_dictionary.proofs.{LookUp.found-in, Packing.within, Packing.same-or-apart, Packing.apart, Packing.same-self}
 pub use Rattle.rules_dictionary.proofs.{Padded.length-padded, Padded.take-padded, Plans.joined-same}
 pub use Rattle.drive.proofs.Every.{on-states, on-ways}
