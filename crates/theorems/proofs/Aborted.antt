@@ -3,15 +3,14 @@
 -- Assumes nothing.
 use Rattle.theorems.proofs.Words.{ℕ, _+_, arith, _≡_, refl, _∙_, ap, subst, inl, inr, Bool, true, false, cond, not, _&&_, List, [], _∷_}
 use Rattle.theorems.proofs.Words.{ne-eqb, eq-eqb, eqb-true, leb, leb-true, eqb, length, take-at, State, SdoCommand, Download, Upload}
-use Rattle.theorems.proofs.Words.{ClientAbort, Unknown, here, there, and-right, and-false-if, isStopped, either, _≤_, sym, _||_, true≢false}
-use Rattle.theorems.proofs.Words.{In}
+use Rattle.theorems.proofs.Words.{ClientAbort, Unknown, and-right, and-false-if, isStopped, either, _≤_, sym, _||_, true≢false}
 use Rattle.theorems.proofs.Lawful.{sound-lawful}
 use Rattle.theorems.proofs.{Runs.Holds, Runs.run-holds, Demands.said-keeps, Demands.framed-says, Demands.says-answer, Demands.frame-decided}
 use Rattle.rules_dictionary.specs.Table.{Row, Found, found, noObject, noSubindex, lookup}
 use Rattle.rules_dictionary.specs.Aborts.{Abort, abortCode, Verdict, good, bad, test, firstOf, unknownCommand, noObject as absent}
 use Rattle.rules_dictionary.specs.Aborts.{noSubindex as absentSub, noWriting, tooLong, tooShort, wrongTime, belowRange, aboveRange, badValue}
 use Rattle.rules_dictionary.specs.Aborts.{notMappable, overLength}
-use Rattle.rules_dictionary.specs.{Numbers.bytes, Numbers.bit, Values.read, Values.write, TheNode.firstNode, TheNode.lastNode}
+use Rattle.rules_dictionary.specs.{Numbers.bytes, Numbers.bit, Numbers.any, Values.read, Values.write, TheNode.firstNode, TheNode.lastNode}
 use Rattle.rules_services.specs.Effects.{Effect, becomes, sends}
 use Rattle.rules_services.specs.Sdo.{commandOf, commandByte, commandNumber, expeditedBit, askedIndex, askedSubindex, downloadVerdict, judged, toRow}
 use Rattle.rules_services.specs.Sdo.{toObject, asked, sdo, abort, aborted, downloaded, uploaded, dataSize, reply, requestBase, requestLength}
@@ -19,8 +18,8 @@ use Rattle.rules_services.specs.{PdoTraffic.syncBase, Nmt.nmtIdentifier, Sdo.as
 use Rattle.rules.specs.Outcome.{ended, sentInto, frameSize}
 use Rattle.rules.specs.Calls.{frameCall, does as performs, framed, decided, answered, accepted, answer, outputLength}
 use Rattle.rules.proofs.Encoded.{length-encoded}
-use Rattle.theorems.specs.Promises.{Stand, reached, objectVerdict, requestVerdict, RefusedWriteChangesNothing, AbortSaysWhy, aborts}
-use Rattle.theorems.specs.Promises.{TwelveCodes, Served, GoodIsServed}
+use Rattle.theorems.specs.Promises.{Stand, reached, objectVerdict, requestVerdict, RefusedWriteChangesNothing, AbortSaysWhy, codes, TwelveCodes}
+use Rattle.theorems.specs.Promises.{Served, GoodIsServed}
 
 -- ---- the request's identifier is no other's
 
@@ -96,8 +95,9 @@ module _ (rq : List ℕ) (s : State) (d : List ℕ) where
   meets =
       let k = commandNumber (commandByte rq) in
       let other : (j : ℕ) → (j ≡ 4 → ⊥) → (eqb k j && eqb k 4) ≡ false =
-      λ j apart. and-false-if (eqb k j) (eqb k 4) (λ e. ne-eqb k 4 (λ f. apart (sym (eqb-true k j e) ∙ f))) in
-      command-meets (eqb k 1) (eqb k 2) (eqb k 4) (bit expeditedBit (commandByte rq)) (other 1 (λ q. omega (arith, q))) (other 2 (λ q. omega (arith, q)))
+      λ j differs. and-false-if (eqb k j) (eqb k 4) (λ e. ne-eqb k 4 (λ f. differs (sym (eqb-true k j e) ∙ f))) in
+      command-meets (eqb k 1) (eqb k 2) (eqb k 4) (bit expeditedBit (commandByte rq)) (other 1 (λ q. omega (arith, q)))
+      (other 2 (λ q. omega (arith, q)))
 
   pub aborts-it : (c : Abort) → requestVerdict rq (s .node .nmt) d ≡ bad c →
       sdo rq s d ≡ sends (reply aborted rq s (bytes dataSize (abortCode c))) (becomes s)
@@ -129,19 +129,19 @@ abort-says-why r rq o c long awake-now room verdict =
 pub twelve-codes : TwelveCodes
 twelve-codes = (refl, among)
   where
-    among : (c : Abort) → In c aborts
-    among unknownCommand = here
-    among absent = there here
-    among absentSub = there (there here)
-    among noWriting = there (there (there here))
-    among tooLong = there (there (there (there here)))
-    among tooShort = there (there (there (there (there here))))
-    among wrongTime = there (there (there (there (there (there here)))))
-    among belowRange = there (there (there (there (there (there (there here))))))
-    among aboveRange = there (there (there (there (there (there (there (there here)))))))
-    among badValue = there (there (there (there (there (there (there (there (there here))))))))
-    among notMappable = there (there (there (there (there (there (there (there (there (there here)))))))))
-    among overLength = there (there (there (there (there (there (there (there (there (there (there here))))))))))
+    among : (c : Abort) → any (eqb (abortCode c)) codes ≡ true
+    among unknownCommand = refl
+    among absent = refl
+    among absentSub = refl
+    among noWriting = refl
+    among tooLong = refl
+    among tooShort = refl
+    among wrongTime = refl
+    among belowRange = refl
+    among aboveRange = refl
+    among badValue = refl
+    among notMappable = refl
+    among overLength = refl
 
 -- ---- served
 
@@ -149,9 +149,8 @@ module _ (a : Stand) (h : Holds a) (rq o : List ℕ) where
   serves : (k : SdoCommand) → Meets good k rq (a .state) (a .dictionary) →
       Served k rq a o (answered (performs (asked k rq (a .state) (a .dictionary))) (a .state) (a .dictionary) o)
   unfolding answered accepted ended sentInto reply bytes
-  serves Download (e , is) =
-      rw is (refl, take-at _ _ frameSize (length-encoded _))
-  serves Upload (x , looked , is) =
+  serves Download (e, is) = rw is (refl, take-at _ _ frameSize (length-encoded _))
+  serves Upload (x, looked, is) =
       (x, looked, says-answer a o _ (reply (uploaded (x .type)) rq (a .state) (bytes dataSize (read (a .dictionary) x))) h (ap performs is))
   serves ClientAbort is = says-answer a o _ [] h (ap performs is)
   serves Unknown none = none

@@ -1,11 +1,11 @@
 -- The statements of specs/Promises.antt that follow from the invariant: nothing stale, refused means nothing, and what a call that only says
 -- something leaves.
 -- Assumes nothing.
-use Rattle.theorems.proofs.Words.{ℕ, _+_, _<_, _≤_, arith, _≡_, refl, sym, _∙_, ap, _⊎_, inl, inr, Bool, true, false, cond, not, _&&_, _||_}
-use Rattle.theorems.proofs.Words.{Bool·beq, and-not-self, and-eq-true-iff, Bool·not-not, List, _∷_, map, append-assoc, append-nil, eq-eqb}
-use Rattle.theorems.proofs.Words.{eqb-true, ne-eqb, leb-true, lt-ltb, le-leb, eqb, leb, ltb, length, getD, drop, take-append-drop, length-drop}
-use Rattle.theorems.proofs.Words.{sets, sets-eq, length-take-le, drop-drop, NmtState, PreOperational, Operational, Stopped, State, Accepted}
-use Rattle.theorems.proofs.Words.{In, here, there, and-both, each-in, none-in, within, in-map, in-left, words-read, bytes-value, part-bytes}
+use Rattle.theorems.proofs.Words.{ℕ, _+_, _<_, _≤_, arith, _≡_, refl, sym, _∙_, ap, _⊎_, inl, inr, true, false, not, _&&_, _||_, Bool·beq}
+use Rattle.theorems.proofs.Words.{and-not-self, and-eq-true-iff, Bool·not-not, List, _∷_, map, append-assoc, append-nil, eq-eqb, eqb-true}
+use Rattle.theorems.proofs.Words.{ne-eqb, leb-true, lt-ltb, le-leb, eqb, leb, ltb, length, getD, drop, take-append-drop, length-drop, sets}
+use Rattle.theorems.proofs.Words.{sets-eq, length-take-le, drop-drop, NmtState, PreOperational, Operational, Stopped, State, Accepted, In}
+use Rattle.theorems.proofs.Words.{here, there, and-both, each-in, none-in, within, in-map, in-left, words-read, bytes-value, part-bytes}
 use Rattle.theorems.proofs.Words.{isStopped, isOperational, either, by-match, false-not, clash, or-false-right, and-then-false, joined-same}
 use Rattle.theorems.proofs.Words.{and-left, []}
 use Rattle.theorems.proofs.Dictionary.{DictionaryOk, map-same, Fits, fits, badAlone}
@@ -149,7 +149,7 @@ refused-means-nothing k a h =
 
 -- ---- calls that only say something
 
-abbrev Says : State → Decision → Type 0
+abbrev pub Says : State → Decision → Type 0
 Says s (refuses r) = Unit
 Says s (performs e) = (fs : List Frame) × (e ≡ sends fs (becomes s))
 

@@ -45,19 +45,34 @@ frame-in (f ∷ fs) o (suc n) h =
 
 -- ---- the frames of a call: its own, and those of transmit PDOs that work
 
-pdo-frame : (d : List ℕ) (ready : List PdoData) (paces : ℕ → Paced) (ts : List ℕ) (f : Frame) → In f (transmissions d ready paces ts) →
-    (t : ℕ) × In t ts × (paces t .send ≡ true) × (f ≡ transmitted d (eachWay + t) (getD ready t noData))
-unfolding transmissions
-pdo-frame d ready paces [] f i = absurd (none-in i)
-pdo-frame d ready paces (t ∷ ts) f i =
-    let own = transmitted d (eachWay + t) (getD ready t noData) in
-    elim (in-append (cond (paces t .send) (own ∷ []) []) i) [
-      | inl j ↦ by-test (λ fs. In f fs → (u : ℕ) × In u (t ∷ ts) × (paces u .send ≡ true) × (f ≡ transmitted d (eachWay + u) (getD ready u noData)))
-          (paces t .send) (λ e k. (t, here, e, elim (in-cons {y = own} {ys = []} k) [ inl q ↦ q | inr l ↦ absurd (none-in l) ])) (λ e k. absurd (none-in k)) j
-      | inr j ↦
-          let r = pdo-frame d ready paces ts f j in
-          (r .0, there (r .1), r .2, r .3)
-    ]
+module _ (d : List ℕ) (ready : List PdoData) (paces : ℕ → Paced) where
+  abbrev pdoFrame : ℕ → Frame
+  pdoFrame t = transmitted d (eachWay + t) (getD ready t noData)
+
+  -- the frame is that of one of those transmit PDOs, whose pace sends it
+  record OfPdo (ts : List ℕ) (f : Frame) : Type 0 where
+    which : ℕ
+    among : In which ts
+    sends : paces which .send ≡ true
+    is : f ≡ pdoFrame which
+
+  pdo-sent : (ts : List ℕ) (f : Frame) → In f (transmissions d ready paces ts) → OfPdo ts f
+  unfolding transmissions
+  pdo-sent [] f i = absurd (none-in i)
+  pdo-sent (t ∷ ts) f i =
+      elim (in-append (cond (paces t .send) (pdoFrame t ∷ []) []) i) [
+        | inl j ↦ by-test (λ fs. In f fs → OfPdo (t ∷ ts) f) (paces t .send)
+            (λ e k. record {
+              which = t;
+              among = here;
+              sends = e;
+              is = elim (in-cons {y = pdoFrame t} {ys = []} k) [ inl q ↦ q | inr l ↦ absurd (none-in l) ];
+            })
+            (λ e k. absurd (none-in k)) j
+        | inr j ↦
+            let r = pdo-sent ts f j in
+            record { which = r .which; among = there (r .among); sends = r .sends; is = r .is }
+      ]
 
 sent-works : (s s′ : State) (o : Occasion) (d : List ℕ) (ready : List PdoData) (t : ℕ) → paceFor s s′ o d ready t .send ≡ true →
     works (s′ .node .nmt) d (eachWay + t) ≡ true
@@ -130,16 +145,17 @@ carries s d o e w h t n i working few on =
           let same = same-identifier (f .identifier) own (k .0) (identifier-small (read d′ (identifier (eachWay + t)))) named in
           absurd (k .1 (rw same (range .0)) (rw same (range .1)))
       | inr j ↦
-          let k = pdo-frame d′ (readyOf d′) paces transmitters f j in
-          let v = k .0 in
-          let is : f ≡ transmitted d′ (eachWay + v) (readyFor d′ (eachWay + v)) = k .3 ∙ ap (transmitted d′ (eachWay + v)) (ready-at d′ (k .1)) in
+          let k = pdo-sent d′ (readyOf d′) paces transmitters f j in
+          let v = k .which in
+          let is : f ≡ transmitted d′ (eachWay + v) (readyFor d′ (eachWay + v)) =
+          k .is ∙ ap (transmitted d′ (eachWay + v)) (ready-at d′ (k .among)) in
           let same : pdoIdentifier d′ (eachWay + v) ≡ own =
           same-identifier (pdoIdentifier d′ (eachWay + v)) own (identifier-small (read d′ (identifier (eachWay + v))))
           (identifier-small (read d′ (identifier (eachWay + t)))) (ap (λ (g : Frame). bytes 2 (g .identifier)) (sym is) ∙ named) in
           let one : eachWay + v ≡ eachWay + t =
-          one-listener id d′ (law .dictionary) m (eachWay + t) (eachWay + v) own (transmitter-in i) (transmitter-in (k .1))
+          one-listener id d′ (law .dictionary) m (eachWay + t) (eachWay + v) own (transmitter-in i) (transmitter-in (k .among))
           (heard m d′ (eachWay + t) own working refl)
-          (heard m d′ (eachWay + v) own (sent-works s s′ (e .occasion) d′ (readyOf d′) v (k .2)) same) in
+          (heard m d′ (eachWay + v) own (sent-works s s′ (e .occasion) d′ (readyOf d′) v (k .sends)) same) in
           q .2 ∙ ap encoded is ∙ ap (λ (p : ℕ). encoded (transmitted d′ p (readyFor d′ p))) one
     ]
 
@@ -150,7 +166,8 @@ unfolding joined
 joined-both d [] ys = refl
 joined-both d (x ∷ xs) ys = rw (joined-both d xs ys) (sym (append-assoc (field d x) (joined d xs) (joined d ys)))
 
-length-joined : (d : List ℕ) (xs : List Row) → length d ≡ dictionaryLength → ((x : Row) → In x xs → In x table) → length (joined d xs) ≡ mappedLength xs
+length-joined : (d : List ℕ) (xs : List Row) → length d ≡ dictionaryLength → ((x : Row) → In x xs → In x table) →
+    length (joined d xs) ≡ mappedLength xs
 unfolding joined mappedLength
 length-joined d [] l h = refl
 length-joined d (x ∷ xs) l h =
@@ -229,7 +246,7 @@ sent-carries a o (Decides.serves {e} xs q law v) k h g t n i working few on =
     carries (a .state) (a .dictionary) o e (subst (λ (j : ℕ). Spoken j (e .sent)) (sym (w .0)) (w .1)) g t n i working few on
 
 pub same-status-word : SameStatusWord
-unfolding answer works
+unfolding answer
 same-status-word r k t n xs ys o given i room working maps few on =
     let a = left k (reached r) in
     let s = a .state in
@@ -238,8 +255,8 @@ same-status-word r k t n xs ys o given i room working maps few on =
     let law = sound-lawful s d (h .at .long) (h .at .sound) in
     let own = pdoIdentifier d (eachWay + t) in
     let on-now = hears (s .node .nmt) d (eachWay + t) own (heard (s .node .nmt) d (eachWay + t) own working refl) .operational in
-    let sent = sent-carries (reached r) (k .output) (decides (reached r .state) (reached r .dictionary) (k .call) (k .output)) given (run-holds r) h t n i
-    working few on in
+    let decided-on = decides (reached r .state) (reached r .dictionary) (k .call) (k .output) in
+    let sent = sent-carries (reached r) (k .output) decided-on given (run-holds r) h t n i working few on in
     let word = ap (part (dataFrom + mappedLength xs) 2) sent
     ∙ mapped-at (s .node .id) d (eachWay + t) xs ys statusWord (law .dictionary) (h .at .long) (transmitter-in i) maps in
     rw word (status-read a o h (awake (s .node .nmt) on-now) room)

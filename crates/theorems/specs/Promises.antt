@@ -157,18 +157,20 @@ AbortSaysWhy = (r : Run) (rq o : List ℕ) (c : Abort) → length rq ≡ request
     does (requested rq o (reached r)) (reached r)
     ≡ onlySends (frame (replyBase + reached r .state .node .id) (0x80 ∷ part 1 3 rq ++ bytes dataSize (abortCode c)) ∷ []) (reached r) o
 
--- the codes, as the paper prints them; there are no others
-abbrev pub aborts : List Abort
-aborts =
-    unknownCommand ∷ absent ∷ absentSub ∷ noWriting ∷ tooLong ∷ tooShort ∷ wrongTime ∷ belowRange ∷ aboveRange ∷ badValue ∷ notMappable ∷ overLength
-    ∷ []
+-- the codes as the paper prints them
+abbrev pub codes : List ℕ
+codes =
+    0x05040001 ∷ 0x06020000 ∷ 0x06090011 ∷ 0x06010002 ∷ 0x06070012 ∷ 0x06070013 ∷ 0x08000022 ∷ 0x06090032 ∷ 0x06090031 ∷ 0x06090030
+    ∷ 0x06040041 ∷ 0x06040042 ∷ []
 
+-- each has its name, and no abort has another code
 abbrev pub TwelveCodes : Type 0
 TwelveCodes =
-    (map abortCode aborts
-    ≡ 0x05040001 ∷ 0x06020000 ∷ 0x06090011 ∷ 0x06010002 ∷ 0x06070012 ∷ 0x06070013 ∷ 0x08000022 ∷ 0x06090032 ∷ 0x06090031 ∷ 0x06090030
-    ∷ 0x06040041 ∷ 0x06040042 ∷ [])
-    × ((c : Abort) → In c aborts)
+    (map abortCode
+    (unknownCommand ∷ absent ∷ absentSub ∷ noWriting ∷ tooLong ∷ tooShort ∷ wrongTime ∷ belowRange ∷ aboveRange ∷ badValue
+    ∷ notMappable ∷ overLength ∷ [])
+    ≡ codes)
+    × ((c : Abort) → any (eqb (abortCode c)) codes ≡ true)
 
 -- and a request that the paper has no fault of is not aborted: a download has 60h, first of all that is sent; an upload the object's value,
 -- and that is the whole answer; a client abort none
