@@ -259,4 +259,5 @@ same-status-word r k t n xs ys o given i room working maps few on =
     let sent = sent-carries (reached r) (k .output) decided-on given (run-holds r) h t n i working few on in
     let word = ap (part (dataFrom + mappedLength xs) 2) sent
     ∙ mapped-at (s .node .id) d (eachWay + t) xs ys statusWord (law .dictionary) (h .at .long) (transmitter-in i) maps in
-    rw word (status-read a o h (awake (s .node .nmt) on-now) room)
+    status-read a o h (awake (s .node .nmt) on-now) room
+    ∙ ap (λ (l : List ℕ). onlySends (frame (replyBase + s .node .id) (0x4B ∷ 0x41 ∷ 0x60 ∷ 0x00 ∷ l ++ (0x00 ∷ 0x00 ∷ [])) ∷ []) a o) (sym word)

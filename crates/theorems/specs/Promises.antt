@@ -113,7 +113,7 @@ abbrev pub RefusedMeansNothing : Type 0
 RefusedMeansNothing = (k : Step) (a : Stand) → (does k a .refusal ≡ Accepted → ⊥) →
     does k a ≡ record { refusal = does k a .refusal; frames = 0; state = a .state; dictionary = a .dictionary; output = k .output }
 
--- ---- 'SDO': what document 01 says of a request, in its order
+-- ---- demand 1, "A refused SDO write gives the abort code that document 01 names": what it names for a request, in its order
 
 -- "Command bits 7-5: 1 download, 2 upload, 4 client abort (no reply)"
 abbrev pub isDownload : ℕ → Bool
@@ -145,12 +145,7 @@ requestVerdict rq nmt d =
 abbrev pub requested : List ℕ → List ℕ → Stand → Step
 requested rq o a = record { call = frameCall (requestBase + a .state .node .id) rq; output = o }
 
--- "a refused write .. changes no object", nor anything of the state: whatever is aborted, and where it is not served or has no room as well
-abbrev pub RefusedWriteChangesNothing : Type 0
-RefusedWriteChangesNothing = (r : Run) (rq o : List ℕ) (c : Abort) →
-    requestVerdict rq (reached r .state .node .nmt) (reached r .dictionary) ≡ bad c → left (requested rq o (reached r)) (reached r) ≡ reached r
-
--- ".. 80h and code. Index and subindex are echoed": whatever is aborted gives the code that the paper names for it, and that is the whole answer
+-- "80h and code. Index and subindex are echoed": whatever is aborted gives the code of its verdict, and this is the whole answer
 abbrev pub AbortSaysWhy : Type 0
 AbortSaysWhy = (r : Run) (rq o : List ℕ) (c : Abort) → length rq ≡ requestLength → isStopped (reached r .state .node .nmt) ≡ false →
     outputLength ≤ length o → requestVerdict rq (reached r .state .node .nmt) (reached r .dictionary) ≡ bad c →
@@ -172,8 +167,8 @@ TwelveCodes =
     ≡ codes)
     × ((c : Abort) → any (eqb (abortCode c)) codes ≡ true)
 
--- and a request that the paper has no fault of is not aborted: a download has 60h, first of all that is sent; an upload the object's value,
--- and that is the whole answer; a client abort none
+-- and a request with no fault is not aborted. Its reply is 60h to a download, before all else that is sent; to an upload the object's value,
+-- and this is the whole answer; to a client abort there is none
 abbrev pub Served : Command → List ℕ → Stand → List ℕ → Outcome → Type 0
 Served download rq a o u =
     (u .refusal ≡ Accepted)
@@ -189,7 +184,12 @@ GoodIsServed = (r : Run) (rq o : List ℕ) → length rq ≡ requestLength → i
     requestVerdict rq (reached r .state .node .nmt) (reached r .dictionary) ≡ good →
     Served (commandOf (commandByte rq)) rq (reached r) o (does (requested rq o (reached r)) (reached r))
 
--- ---- 'PDO traffic': dropped process frames
+-- "and a refused write .. changes no object": whatever is aborted leaves the dictionary and the state as they were, where it is not served as well
+abbrev pub RefusedWriteChangesNothing : Type 0
+RefusedWriteChangesNothing = (r : Run) (rq o : List ℕ) (c : Abort) →
+    requestVerdict rq (reached r .state .node .nmt) (reached r .dictionary) ≡ bad c → left (requested rq o (reached r)) (reached r) ≡ reached r
+
+-- ---- "or a dropped process frame changes no object"
 
 -- "EMCY on 80h+N: code, 1001h just after its cause, five zeros", where the cause changes nothing
 abbrev pub alarm : Stand → ℕ → Frame
@@ -201,8 +201,8 @@ alarm a code =
 abbrev pub dropCodes : ℕ → ℕ → List ℕ
 dropCodes n asked = cond (ltb n asked) (pdoTooShort ∷ []) (cond (ltb asked n) (pdoTooLong ∷ valueRefused ∷ []) (valueRefused ∷ []))
 
--- "or a dropped process frame changes no object", nor anything of the state: one that is too short, or that holds a value SDO would refuse.
--- Where there is room it is answered by its emergencies, and that is the whole answer
+-- a frame that is too short, or that holds a value SDO would refuse, leaves the dictionary and the state as they were. Where there is room it is
+-- answered by its emergencies, and this is the whole answer
 abbrev pub DroppedFrameChangesNothing : Type 0
 DroppedFrameChangesNothing = (r : Run) (p i : ℕ) (bs o : List ℕ) → In p receivePdos →
     listens i (reached r .state .node .nmt) (reached r .dictionary) p ≡ true →
