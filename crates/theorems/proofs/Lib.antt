@@ -10,8 +10,11 @@ pub mod SdoKept
 pub mod PdoKept
 pub mod Services
 pub mod Runs
+pub mod Still
 pub mod Demands
+pub mod Aborted
 pub mod Sent
+pub mod SameWord
 pub mod Taken
 pub mod Listed
 pub mod Changes

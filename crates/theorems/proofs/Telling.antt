@@ -2,13 +2,14 @@
 -- a wrong rule of docs/PROMISES.md shows.
 -- Assumes nothing.
 use Rattle.theorems.proofs.Words.{ℕ, zero, suc, _+_, _≡_, refl, Bool, true, not, _&&_, List, [], _∷_, _++_, map, eqb, ltb, length, getD}
-use Rattle.theorems.proofs.Words.{PdoData, ap, arith, drop, and-eq-true-iff, false, false≢true, Refusal, Accepted, OutOfPlace, SetPoint}
-use Rattle.rules_dictionary.specs.Plans.{mapped, plansOf, joined, pdoData}
+use Rattle.theorems.proofs.Words.{PdoData, ap, arith, drop, and-eq-true-iff, false, false≢true, Refusal, Accepted, OutOfPlace, SetPoint, _*_}
+use Rattle.theorems.proofs.Words.{cond, Empty, Rested, Moving, Queued, Store, isStopped, Pace, State}
+use Rattle.rules_dictionary.specs.Plans.{mapped, plansOf}
 use Rattle.rules_dictionary.specs.Numbers.{all, areBytes, value, part, bit}
-use Rattle.rules_dictionary.specs.Table.{Row, statusWord, eachWay, controlWord, mode}
-use Rattle.rules_dictionary.specs.Values.{write, read, stored}
+use Rattle.rules_dictionary.specs.Table.{Row, statusWord, eachWay, controlWord, mode, same, modeDisplay}
+use Rattle.rules_dictionary.specs.Values.{write, read, stored, unpacked}
 use Rattle.rules_services.specs.Effects.{frame, Frame}
-use Rattle.rules_services.specs.PdoTraffic.{listens, mappedLength, noData}
+use Rattle.rules_services.specs.PdoTraffic.{listens, mappedLength, noData, works, areLegal}
 use Rattle.rules.specs.Outcome.{statusOf, sameBy, samePlan, sameData, encoded, frameSize, sentInto}
 use Rattle.rules.specs.Calls.{Call, powerUpCall, frameCall, eventCall, Outcome, refusalNumber, answer}
 use Rattle.rules.specs.Sound.{sound}
@@ -16,8 +17,13 @@ use Rattle.rules.specs.Scripts.{blank, nothing, zeros, open-rules, Answers, giv
 use Rattle.rules.specs.Examples.{request, nmt, reply, example4, open-examples}
 use Rattle.theorems.specs.Promises.{Step, Stand, does, left, after, mayChange, open-promises, inOrderOfCause, heldAt, edges, edgesIn, reachedIn}
 use Rattle.theorems.specs.Promises.{Passed, keepsBitFour, HoldsBitFour, keepsExamples, RefusesEverything, RepliesAlike, SendsAlways}
-use Rattle.theorems.specs.Promises.{SendsNothingLater, ChangesNothingLater}
+use Rattle.theorems.specs.Promises.{SendsNothingLater, ChangesNothingLater, requestVerdict, frameAt, dataFrom, uploadStatus}
 use Rattle.drive.specs.SetPoints.{newSetPointBit}
+use Rattle.rules_dictionary.specs.Aborts.{Verdict, abortCode, good, bad}
+use Rattle.rules_dictionary.specs.Legal.{modeNumber}
+use Rattle.drive.specs.DriveStates.{stateWord}
+use Rattle.rules_services.specs.Nmt.{stateByte}
+use Rattle.theorems.proofs.Runs.{standing}
 
 -- ---- the calls of the runs
 
@@ -31,6 +37,10 @@ ran cs = after (map step (powerUpCall 5 ∷ cs)) (record { state = nothing; dict
 -- the call at the end of such a run
 abbrev answers : Call → List Call → Outcome
 answers c cs = does (step c) (ran cs)
+
+-- a test of a stand or an outcome, which is then worked out once
+abbrev seen : {A : Type 0} → A → (A → Bool) → Bool
+seen a test = test a
 
 abbrev started : Call
 started = eventCall 1 []
@@ -187,16 +197,187 @@ refused-keeps-output : isRefused (answers (eventCall 10 []) []) ≡ true
 unfolding open-rules open-promises
 refused-keeps-output = refl
 
--- ---- RefusedWriteChangesNothing: a write of the constant 1000h
-abbrev keepsAll : Call → Stand → Bool
-keepsAll c a = sameBy eqb (does (step c) a .dictionary) (a .dictionary)
+-- ---- two stands, part by part
 
-refused-write-stores-nothing : keepsAll (request (0x23 ∷ 0x00 ∷ 0x10 ∷ 0x00 ∷ 0x01 ∷ 0x00 ∷ 0x00 ∷ 0x00 ∷ [])) (ran []) ≡ true
+abbrev flag : Bool → ℕ
+flag b = cond b 1 0
+
+abbrev pointNumbers : SetPoint → List ℕ
+pointNumbers p = p .target ∷ p .velocity ∷ p .acceleration ∷ p .deceleration ∷ []
+
+abbrev storeNumbers : Store → List ℕ
+storeNumbers Empty = []
+storeNumbers (Rested t) = t ∷ []
+storeNumbers (Moving p) = pointNumbers p
+storeNumbers (Queued p q) = pointNumbers p ++ pointNumbers q
+
+-- the node's part and the drive
+abbrev stateNumbers : State → List ℕ
+stateNumbers s =
+    let v = s .axis .drive in
+    s .node .id
+    ∷ stateByte (s .node .nmt)
+    ∷ flag (s .node .voltage)
+    ∷ s .node .heartbeat
+    ∷ stateWord (v .state)
+    ∷ modeNumber (v .mode)
+    ∷ flag (v .taken)
+    ∷ flag (v .limit)
+    ∷ flag (v .cause)
+    ∷ storeNumbers (v .store)
+
+abbrev samePace : Pace → Pace → Bool
+samePace k l = eqb (k .count) (l .count) && eqb (flag (k .due)) (flag (l .due))
+
+abbrev sameStand : Stand → Stand → Bool
+sameStand a b =
+    let x = a .state .axis in
+    let y = b .state .axis in
+    sameBy eqb (stateNumbers (a .state)) (stateNumbers (b .state))
+    && sameBy samePlan (x .plans) (y .plans)
+    && sameBy sameData (x .ready) (y .ready)
+    && sameBy sameData (x .held) (y .held)
+    && sameBy samePace (x .paces) (y .paces)
+    && sameBy eqb (a .dictionary) (b .dictionary)
+
+-- the call is accepted, sends so many frames, which are these bytes, and leaves the stand as it was: its whole answer
+abbrev onlySays : Call → Stand → ℕ → List ℕ → Bool
+onlySays c a n bs =
+    let u = does (step c) a in
+    eqb (refusalNumber (u .refusal)) 0
+    && eqb (u .frames) n
+    && sameStand (standing u) a
+    && sameBy eqb (u .output) (bs ++ drop (frameSize * n) blank)
+
+-- a stand with much to lose: transmit PDO 3 of type 0 is due, transmit PDO 2 of type 3 and the heartbeat are counted once, and receive PDO 4
+-- of type 1 holds a frame
+abbrev busy : List Call
+busy =
+    write1 0x02 0x18 0x02 0x00
+    ∷ write1 0x01 0x18 0x02 0x03
+    ∷ write1 0x03 0x14 0x02 0x01
+    ∷ request (0x2B ∷ 0x17 ∷ 0x10 ∷ 0x00 ∷ 0x05 ∷ 0x00 ∷ 0x00 ∷ 0x00 ∷ [])
+    ∷ operational
+    ∷ frameCall 0x080 []
+    ∷ eventCall 5 (0x01 ∷ 0x02 ∷ 0x03 ∷ 0x04 ∷ 0x05 ∷ 0x06 ∷ 0x07 ∷ 0x08 ∷ [])
+    ∷ frameCall 0x505 (0x06 ∷ 0x00 ∷ 0x01 ∷ 0x02 ∷ 0x03 ∷ 0x04 ∷ [])
+    ∷ eventCall 7 []
+    ∷ []
+
+abbrev isBusy : Stand → Bool
+isBusy a =
+    let x = a .state .axis in
+    sameBy eqb (map (λ k. k .count) (x .paces)) (0 ∷ 1 ∷ 0 ∷ 0 ∷ [])
+    && sameBy eqb (map (λ k. flag (k .due)) (x .paces)) (0 ∷ 0 ∷ 1 ∷ 0 ∷ [])
+    && sameBy eqb (map (λ f. f .length) (x .held)) (0 ∷ 0 ∷ 0 ∷ 6 ∷ [])
+    && eqb (a .state .node .heartbeat) 1
+
+-- ---- RefusedWriteChangesNothing: a write of the constant 1000h
+
+-- the code of a verdict; good is 0
+abbrev verdictCode : Verdict → ℕ
+verdictCode good = 0
+verdictCode (bad c) = abortCode c
+
+abbrev verdictAt : Stand → List ℕ → ℕ
+verdictAt a rq = verdictCode (requestVerdict rq (a .state .node .nmt) (a .dictionary))
+
+abbrev writeConstant : List ℕ
+writeConstant = 0x23 ∷ 0x00 ∷ 0x10 ∷ 0x00 ∷ 0x01 ∷ 0x00 ∷ 0x00 ∷ 0x00 ∷ []
+
+refused-write-stores-nothing :
+    seen (ran busy) (λ a. isBusy a && eqb (verdictAt a writeConstant) 0x06010002 && sameStand (left (step (request writeConstant)) a) a) ≡ true
 unfolding open-rules open-promises
 refused-write-stores-nothing = refl
 
--- ---- DroppedFrameChangesNothing: receive PDO 2 with mode 7, which 6060h does not take
-bad-value-dropped : keepsAll (frameCall 0x305 (0x06 ∷ 0x00 ∷ 0x07 ∷ [])) (ran (started ∷ operational ∷ [])) ≡ true
+-- ---- AbortSaysWhy, TwelveCodes: each of the twelve, from one stand: transmit PDO 1 is invalid and maps nothing, with nine bytes in its entries
+abbrev unmapped : List Call
+unmapped =
+    request (0x23 ∷ 0x00 ∷ 0x18 ∷ 0x01 ∷ 0x85 ∷ 0x01 ∷ 0x00 ∷ 0xC0 ∷ [])
+    ∷ write1 0x00 0x1A 0x00 0x00
+    ∷ request (0x23 ∷ 0x00 ∷ 0x1A ∷ 0x01 ∷ 0x20 ∷ 0x00 ∷ 0x64 ∷ 0x60 ∷ [])
+    ∷ request (0x23 ∷ 0x00 ∷ 0x1A ∷ 0x02 ∷ 0x20 ∷ 0x00 ∷ 0x6C ∷ 0x60 ∷ [])
+    ∷ request (0x23 ∷ 0x00 ∷ 0x1A ∷ 0x03 ∷ 0x08 ∷ 0x00 ∷ 0x61 ∷ 0x60 ∷ [])
+    ∷ []
+
+-- a request, the code of its verdict, and the bytes of its reply
+record Why : Type 0 where
+  code : ℕ
+  request : List ℕ
+  reply : List ℕ
+
+abbrev why : ℕ → List ℕ → List ℕ → Why
+why code rq bs = record { code = code; request = rq; reply = bs }
+
+-- the verdict is that code, and the reply is the whole answer
+abbrev saysWhy : Stand → Why → Bool
+saysWhy a w =
+    not (isStopped (a .state .node .nmt)) && eqb (verdictAt a (w .request)) (w .code) && onlySays (request (w .request)) a 1 (w .reply)
+
+twelve-told :
+    all (saysWhy (ran unmapped))
+    (
+    why 0x05040001 (0xE0 ∷ 0x40 ∷ 0x60 ∷ 0x00 ∷ 0x06 ∷ 0x00 ∷ 0x00 ∷ 0x00 ∷ [])
+    (0x85 ∷ 0x05 ∷ 0x08 ∷ 0x80 ∷ 0x40 ∷ 0x60 ∷ 0x00 ∷ 0x01 ∷ 0x00 ∷ 0x04 ∷ 0x05 ∷ [])
+    ∷ why 0x05040001 (0x21 ∷ 0x40 ∷ 0x60 ∷ 0x00 ∷ 0x06 ∷ 0x00 ∷ 0x00 ∷ 0x00 ∷ [])
+    (0x85 ∷ 0x05 ∷ 0x08 ∷ 0x80 ∷ 0x40 ∷ 0x60 ∷ 0x00 ∷ 0x01 ∷ 0x00 ∷ 0x04 ∷ 0x05 ∷ [])
+    ∷ why 0x06020000 (0x40 ∷ 0x00 ∷ 0x20 ∷ 0x00 ∷ 0x00 ∷ 0x00 ∷ 0x00 ∷ 0x00 ∷ [])
+    (0x85 ∷ 0x05 ∷ 0x08 ∷ 0x80 ∷ 0x00 ∷ 0x20 ∷ 0x00 ∷ 0x00 ∷ 0x00 ∷ 0x02 ∷ 0x06 ∷ [])
+    ∷ why 0x06090011 (0x40 ∷ 0x00 ∷ 0x10 ∷ 0x01 ∷ 0x00 ∷ 0x00 ∷ 0x00 ∷ 0x00 ∷ [])
+    (0x85 ∷ 0x05 ∷ 0x08 ∷ 0x80 ∷ 0x00 ∷ 0x10 ∷ 0x01 ∷ 0x11 ∷ 0x00 ∷ 0x09 ∷ 0x06 ∷ [])
+    ∷ why 0x06010002 (0x23 ∷ 0x00 ∷ 0x10 ∷ 0x00 ∷ 0x01 ∷ 0x00 ∷ 0x00 ∷ 0x00 ∷ [])
+    (0x85 ∷ 0x05 ∷ 0x08 ∷ 0x80 ∷ 0x00 ∷ 0x10 ∷ 0x00 ∷ 0x02 ∷ 0x00 ∷ 0x01 ∷ 0x06 ∷ [])
+    ∷ why 0x06070012 (0x2B ∷ 0x60 ∷ 0x60 ∷ 0x00 ∷ 0x01 ∷ 0x00 ∷ 0x00 ∷ 0x00 ∷ [])
+    (0x85 ∷ 0x05 ∷ 0x08 ∷ 0x80 ∷ 0x60 ∷ 0x60 ∷ 0x00 ∷ 0x12 ∷ 0x00 ∷ 0x07 ∷ 0x06 ∷ [])
+    ∷ why 0x06070013 (0x2F ∷ 0x40 ∷ 0x60 ∷ 0x00 ∷ 0x06 ∷ 0x00 ∷ 0x00 ∷ 0x00 ∷ [])
+    (0x85 ∷ 0x05 ∷ 0x08 ∷ 0x80 ∷ 0x40 ∷ 0x60 ∷ 0x00 ∷ 0x13 ∷ 0x00 ∷ 0x07 ∷ 0x06 ∷ [])
+    ∷ why 0x08000022 (0x2F ∷ 0x01 ∷ 0x16 ∷ 0x00 ∷ 0x00 ∷ 0x00 ∷ 0x00 ∷ 0x00 ∷ [])
+    (0x85 ∷ 0x05 ∷ 0x08 ∷ 0x80 ∷ 0x01 ∷ 0x16 ∷ 0x00 ∷ 0x22 ∷ 0x00 ∷ 0x00 ∷ 0x08 ∷ [])
+    ∷ why 0x06090032 (0x23 ∷ 0x83 ∷ 0x60 ∷ 0x00 ∷ 0x00 ∷ 0x00 ∷ 0x00 ∷ 0x00 ∷ [])
+    (0x85 ∷ 0x05 ∷ 0x08 ∷ 0x80 ∷ 0x83 ∷ 0x60 ∷ 0x00 ∷ 0x32 ∷ 0x00 ∷ 0x09 ∷ 0x06 ∷ [])
+    ∷ why 0x06090031 (0x23 ∷ 0x67 ∷ 0x60 ∷ 0x00 ∷ 0x00 ∷ 0x00 ∷ 0x00 ∷ 0x80 ∷ [])
+    (0x85 ∷ 0x05 ∷ 0x08 ∷ 0x80 ∷ 0x67 ∷ 0x60 ∷ 0x00 ∷ 0x31 ∷ 0x00 ∷ 0x09 ∷ 0x06 ∷ [])
+    ∷ why 0x06090030 (0x2F ∷ 0x60 ∷ 0x60 ∷ 0x00 ∷ 0x07 ∷ 0x00 ∷ 0x00 ∷ 0x00 ∷ [])
+    (0x85 ∷ 0x05 ∷ 0x08 ∷ 0x80 ∷ 0x60 ∷ 0x60 ∷ 0x00 ∷ 0x30 ∷ 0x00 ∷ 0x09 ∷ 0x06 ∷ [])
+    ∷ why 0x06040041 (0x23 ∷ 0x00 ∷ 0x1A ∷ 0x04 ∷ 0x10 ∷ 0x00 ∷ 0x40 ∷ 0x60 ∷ [])
+    (0x85 ∷ 0x05 ∷ 0x08 ∷ 0x80 ∷ 0x00 ∷ 0x1A ∷ 0x04 ∷ 0x41 ∷ 0x00 ∷ 0x04 ∷ 0x06 ∷ [])
+    ∷ why 0x06040042 (0x2F ∷ 0x00 ∷ 0x1A ∷ 0x00 ∷ 0x03 ∷ 0x00 ∷ 0x00 ∷ 0x00 ∷ [])
+    (0x85 ∷ 0x05 ∷ 0x08 ∷ 0x80 ∷ 0x00 ∷ 0x1A ∷ 0x00 ∷ 0x42 ∷ 0x00 ∷ 0x04 ∷ 0x06 ∷ [])
+    ∷ []) ≡ true
+unfolding open-rules open-promises
+twelve-told = refl
+
+-- ---- GoodIsServed: a download of 6040h, whose 60h goes before the transmit PDOs; an upload of 6041h; a client abort
+abbrev shutdownRequest : List ℕ
+shutdownRequest = 0x2B ∷ 0x40 ∷ 0x60 ∷ 0x00 ∷ 0x06 ∷ 0x00 ∷ 0x00 ∷ 0x00 ∷ []
+
+abbrev clientAborts : List ℕ
+clientAborts = 0x80 ∷ 0x40 ∷ 0x60 ∷ 0x00 ∷ 0x00 ∷ 0x00 ∷ 0x04 ∷ 0x05 ∷ []
+
+good-served :
+    seen (ran (started ∷ operational ∷ []))
+    (λ a. sameBy eqb (map (verdictAt a) (shutdownRequest ∷ uploadStatus ∷ clientAborts ∷ [])) (0 ∷ 0 ∷ 0 ∷ [])
+    && sameBy eqb (frameAt 0 (does (step (request shutdownRequest)) a .output))
+    (0x85 ∷ 0x05 ∷ 0x08 ∷ 0x60 ∷ 0x40 ∷ 0x60 ∷ 0x00 ∷ 0x00 ∷ 0x00 ∷ 0x00 ∷ 0x00 ∷ [])
+    && onlySays (request uploadStatus) a 1 (0x85 ∷ 0x05 ∷ 0x08 ∷ 0x4B ∷ 0x41 ∷ 0x60 ∷ 0x00 ∷ 0x40 ∷ 0x02 ∷ 0x00 ∷ 0x00 ∷ [])
+    && onlySays (request clientAborts) a 0 [])
+    ≡ true
+unfolding open-rules open-promises
+good-served = refl
+
+-- ---- DroppedFrameChangesNothing: receive PDO 2, three bytes long, with mode 7, which 6060h does not take; and the same with a byte too many
+abbrev modeSeven : List ℕ
+modeSeven = 0x06 ∷ 0x00 ∷ 0x07 ∷ []
+
+bad-value-dropped :
+    seen (ran (operational ∷ []))
+    (λ a. listens 0x305 (a .state .node .nmt) (a .dictionary) 1
+    && not (areLegal (a .dictionary) (unpacked (mapped (a .dictionary) 1) modeSeven))
+    && onlySays (frameCall 0x305 modeSeven) a 1 (0x85 ∷ 0x00 ∷ 0x08 ∷ 0x00 ∷ 0x82 ∷ 0x00 ∷ 0x00 ∷ 0x00 ∷ 0x00 ∷ 0x00 ∷ 0x00 ∷ [])
+    && onlySays (frameCall 0x305 (modeSeven ++ (0x00 ∷ []))) a 2
+    (0x85 ∷ 0x00 ∷ 0x08 ∷ 0x20 ∷ 0x82 ∷ 0x00 ∷ 0x00 ∷ 0x00 ∷ 0x00 ∷ 0x00 ∷ 0x00
+    ∷ 0x85 ∷ 0x00 ∷ 0x08 ∷ 0x00 ∷ 0x82 ∷ 0x00 ∷ 0x00 ∷ 0x00 ∷ 0x00 ∷ 0x00 ∷ 0x00 ∷ []))
+    ≡ true
 unfolding open-rules open-promises
 bad-value-dropped = refl
 
@@ -251,12 +432,14 @@ one-data-byte = refl
 
 -- ---- ShortFrameChangesNothing: receive PDO 3 with five bytes of six
 short-dropped :
-    let a = ran (started ∷ operational ∷ []) in
-    (listens 0x405 (a .state .node .nmt) (a .dictionary) 2 ≡ true)
-    × (ltb 5 (mappedLength (mapped (a .dictionary) 2)) ≡ true)
-    × (keepsAll (frameCall 0x405 (0x06 ∷ 0x00 ∷ 0x39 ∷ 0x05 ∷ 0x00 ∷ [])) a ≡ true)
+    seen (ran busy)
+    (λ a. isBusy a && listens 0x405 (a .state .node .nmt) (a .dictionary) 2
+    && ltb 5 (mappedLength (mapped (a .dictionary) 2))
+    && onlySays (frameCall 0x405 (0x06 ∷ 0x00 ∷ 0x39 ∷ 0x05 ∷ 0x00 ∷ [])) a 1
+    (0x85 ∷ 0x00 ∷ 0x08 ∷ 0x10 ∷ 0x82 ∷ 0x00 ∷ 0x00 ∷ 0x00 ∷ 0x00 ∷ 0x00 ∷ 0x00 ∷ []))
+    ≡ true
 unfolding open-rules open-promises
-short-dropped = (refl, refl, refl)
+short-dropped = refl
 
 -- ---- NoOldMapping: receive PDO 1 made invalid, and its mapping emptied
 abbrev newMapping : List Call
@@ -266,9 +449,29 @@ no-old-plan : (isFresh (ran newMapping) ≡ true) × (mapped (ran newMapping .di
 unfolding open-rules open-promises
 no-old-plan = (refl, refl)
 
--- ---- SameStatusWord: the ready frame of transmit PDO 1 after a control word
+-- ---- SameStatusWord: transmit PDO 1 maps 6061h and then 6041h; a control word changes 6041h to 0221h, and the frame on 185h is the second sent
+abbrev wordBehindMode : List Call
+wordBehindMode =
+    request (0x23 ∷ 0x00 ∷ 0x18 ∷ 0x01 ∷ 0x85 ∷ 0x01 ∷ 0x00 ∷ 0xC0 ∷ [])
+    ∷ write1 0x00 0x1A 0x00 0x00
+    ∷ request (0x23 ∷ 0x00 ∷ 0x1A ∷ 0x01 ∷ 0x08 ∷ 0x00 ∷ 0x61 ∷ 0x60 ∷ [])
+    ∷ request (0x23 ∷ 0x00 ∷ 0x1A ∷ 0x02 ∷ 0x10 ∷ 0x00 ∷ 0x41 ∷ 0x60 ∷ [])
+    ∷ write1 0x00 0x1A 0x00 0x02
+    ∷ request (0x23 ∷ 0x00 ∷ 0x18 ∷ 0x01 ∷ 0x85 ∷ 0x01 ∷ 0x00 ∷ 0x40 ∷ [])
+    ∷ started
+    ∷ operational
+    ∷ []
+
 same-word :
-    let a = ran (started ∷ control 0x06 ∷ []) in sameData (readyAt 0 a) (pdoData (joined (a .dictionary) (mapped (a .dictionary) eachWay))) ≡ true
+    seen (answers (control 0x06) wordBehindMode)
+    (λ u. works (u .state .node .nmt) (u .dictionary) eachWay
+    && sameBy same (mapped (u .dictionary) eachWay) (modeDisplay ∷ statusWord ∷ [])
+    && eqb (dataFrom + mappedLength (modeDisplay ∷ [])) 4
+    && eqb (u .frames) 5
+    && sameBy eqb (frameAt 1 (u .output)) (0x85 ∷ 0x01 ∷ 0x03 ∷ 0x00 ∷ 0x21 ∷ 0x02 ∷ 0x00 ∷ 0x00 ∷ 0x00 ∷ 0x00 ∷ 0x00 ∷ [])
+    && onlySays (request uploadStatus) (standing u) 1
+    (0x85 ∷ 0x05 ∷ 0x08 ∷ 0x4B ∷ 0x41 ∷ 0x60 ∷ 0x00 ∷ 0x21 ∷ 0x02 ∷ 0x00 ∷ 0x00 ∷ []))
+    ≡ true
 unfolding open-rules open-promises
 same-word = refl
 

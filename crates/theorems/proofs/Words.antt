@@ -6,12 +6,13 @@ pub use native.Mathlib.Nat.{zero-add, suc-add}
 pub use mathlib.Core.Path.{_≡_, refl, sym, _∙_, ap, subst, ap₂}
 pub use mathlib.Core.Logic.{_⊎_, inl, inr}
 pub use mathlib.Core.Bool.{Bool, true, false, cond, not, _&&_, _||_, false≢true, Bool·beq, and-not-self, and-eq-true-iff, Bool·not-not}
-pub use mathlib.Core.Bool.{or-true}
+pub use mathlib.Core.Bool.{or-true, and-false, or-false, true≢false}
 pub use mathlib.Core.List.{List, [], _∷_, _++_, append-nil, map, append-assoc}
 pub use borrow.Author.Tests.{eqb-true, eq-eqb, leb-false, ltb-false, ne-eqb, leb-true, lt-ltb, le-leb, ltb-true, eqb-false, le-ltb, not-true}
 pub use lib.Dec.{eqb, leb, ltb}
 pub use lib.ListN.{drop-of-length-le, length, getD, set, drop, take-append-drop, length-drop, take, length-append, length-take}
 pub use lib.Seq.{sets, getD-set-other, sets-eq, length-take-le, drop-drop, take-take, take-nil}
+pub use lib.Seq.{take-at, drop-at}
 pub use lib.Bits.{bitOr, or-lt}
 pub use Rattle.drive.specs.declared.Command.the-variants.{DisableVoltage}
 pub use Rattle.drive.specs.declared.DriveState.the-variants.{SwitchOnDisabled, FaultReactionActive, Fault}
@@ -39,6 +40,7 @@ pub use Rattle.rules_dictionary.proofs.Members.{in-append, in-map, in-left, wor
 pub use Rattle.rules_dictionary.proofs.Members.{entry-in, type-in, in-right}
 pub use Rattle.rules_dictionary.proofs.Rows.{bytes-value, part-bytes, read-fits, read-apart, read-same, length-store, length-stored, stored-bytes}
 pub use Rattle.rules_dictionary.proofs.Rows.{store-bytes, all-drop, all-take, bytes-are, field-stored, value-take}
+pub use Rattle.rules_dictionary.proofs.Rows.{value-bytes}
 pub use Rattle.rules_dictionary.proofs.{LookUp.found-in, Packing.within, Packing.same-or-apart, Packing.apart, Packing.same-self}
 pub use Rattle.rules_dictionary.proofs.{Padded.length-padded, Padded.take-padded, Plans.joined-same}
 pub use Rattle.drive.proofs.Every.{on-states, on-ways}

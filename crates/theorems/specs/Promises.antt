@@ -13,15 +13,17 @@ use Rattle.drive.specs.declared.Store.{Store}
 use Rattle.drive.specs.declared.Store.the-variants.{Empty, Rested, Moving, Queued}
 use Rattle.state.specs.declared.State.{State}
 use Rattle.state.specs.declared.Refusal.the-variants.{Accepted, NotSound}
-use Rattle.rules_dictionary.specs.Numbers.{all, any, areBytes, filter, bit, value, part}
+use Rattle.rules_dictionary.specs.Numbers.{all, any, areBytes, filter, bit, value, part, bytes}
 use Rattle.rules_dictionary.specs.TheNode.{isNodeId}
 use Rattle.rules_dictionary.specs.Table.{Row, table, sizeOf, same, dictionaryLength, placeOf, isReset, Found, found, noObject, noSubindex, lookup}
 use Rattle.rules_dictionary.specs.Table.{statusWord, mode, modeDisplay, controlWord, errorCode, errorRegister, position, velocity, identifier}
 use Rattle.rules_dictionary.specs.Table.{mappingRows, eachWay, pdos, receivePdos, transmitPdos}
 use Rattle.rules_dictionary.specs.Values.{Write, write, read, field, stored, unpacked}
-use Rattle.rules_dictionary.specs.Aborts.{Abort, bad, isGood}
-use Rattle.rules_dictionary.specs.Legal.{isSynchronous}
-use Rattle.rules_dictionary.specs.Plans.{mapped, planFor, readyFor, plansOf, readyOf, joined, pdoData}
+use Rattle.rules_dictionary.specs.Aborts.{Abort, bad, isGood, abortCode, Verdict, good, test, firstOf, unknownCommand, noObject as absent}
+use Rattle.rules_dictionary.specs.Aborts.{noSubindex as absentSub, noWriting, tooLong, tooShort, wrongTime, belowRange, aboveRange, badValue}
+use Rattle.rules_dictionary.specs.Aborts.{notMappable, overLength}
+use Rattle.rules_dictionary.specs.Legal.{isSynchronous, frameIdentifier}
+use Rattle.rules_dictionary.specs.Plans.{mapped, planFor, readyFor, plansOf, readyOf}
 use Rattle.rules_dictionary.specs.Members.{In}
 use Rattle.rules_dictionary.specs.declared.PdoData.{PdoData}
 use Rattle.drive.specs.DriveStates.{isFault, faultResetBit}
@@ -34,10 +36,11 @@ use Rattle.rules_services.specs.declared.SdoCommand.{SdoCommand as Command}
 use Rattle.rules_services.specs.declared.SdoCommand.the-variants.{Download as download, Upload as upload, ClientAbort as clientAbort}
 use Rattle.rules_services.specs.declared.SdoCommand.the-variants.{Unknown as unknown}
 use Rattle.rules_services.specs.Sdo.{commandOf, commandByte, askedIndex, askedSubindex, askedValue, downloadVerdict, requestBase, requestLength}
-use Rattle.rules_services.specs.Sdo.{replyBase}
-use Rattle.rules_services.specs.PdoTraffic.{listens, typeOf, mappedLength, areLegal, transmitted, noData, isHeld, syncBase}
+use Rattle.rules_services.specs.Sdo.{replyBase, commandNumber, expeditedBit, uploaded, dataSize}
+use Rattle.rules_services.specs.PdoTraffic.{listens, typeOf, mappedLength, areLegal, transmitted, noData, isHeld, syncBase, works}
 use Rattle.rules_services.specs.Nmt.{nmtIdentifier, nmtLength, everyNode, heartbeatBase, commandOf as nmtCommandOf, NmtCommand, start, stop}
 use Rattle.rules_services.specs.Nmt.{enterPreOperational, resetNode, resetCommunication, unknown as unknownNmt}
+use Rattle.state.specs.declared.NmtState.{NmtState}
 use Rattle.rules_services.specs.declared.Told.{Told}
 use Rattle.rules_services.specs.declared.Told.the-variants.{Happened as event, Bad as badEvent}
 use Rattle.rules_services.specs.Events.{eventOf}
@@ -103,25 +106,119 @@ begun r = left (record { call = powerUpCall (r .node); output = r .output }) (r 
 abbrev pub reached : Run → Stand
 reached r = after (r .steps) (begun r)
 
+-- the whole answer of an accepted call that changes nothing and sends those frames
+abbrev pub onlySends : List Frame → Stand → List ℕ → Outcome
+onlySends fs a o = record { refusal = Accepted; frames = length fs; state = a .state; dictionary = a .dictionary; output = sentInto o fs }
+
+-- the eleven bytes of an output's frame of that number, from 0 on
+abbrev pub frameAt : ℕ → List ℕ → List ℕ
+frameAt n o = part (frameSize * n) frameSize o
+
 -- ---- demand 1, "A refused call sends nothing and changes nothing.": of every state, dictionary and output, sound or not
 
 abbrev pub RefusedMeansNothing : Type 0
 RefusedMeansNothing = (k : Step) (a : Stand) → (does k a .refusal ≡ Accepted → ⊥) →
     does k a ≡ record { refusal = does k a .refusal; frames = 0; state = a .state; dictionary = a .dictionary; output = k .output }
 
--- "a refused write .. changes no object"
-abbrev pub RefusedWriteChangesNothing : Type 0
-RefusedWriteChangesNothing = (r : Run) (rq o : List ℕ) (x : Row) (c : Abort) → areBytes rq ≡ true → commandOf (commandByte rq) ≡ download →
-    lookup (askedIndex rq) (askedSubindex rq) ≡ found x → downloadVerdict rq (reached r .state .node .nmt) (reached r .dictionary) x ≡ bad c →
-    does (record { call = frameCall (requestBase + reached r .state .node .id) rq; output = o }) (reached r) .dictionary ≡ reached r .dictionary
+-- ---- demand 1, "A refused SDO write gives the abort code that document 01 names": what it names for a request, in its order
 
--- "or a dropped process frame changes no object": one that is too short, or that holds a value SDO would refuse
+-- "Command bits 7-5: 1 download, 2 upload, 4 client abort (no reply)"
+abbrev pub isDownload : ℕ → Bool
+isDownload c = eqb (commandNumber c) 1
+
+abbrev pub isUpload : ℕ → Bool
+isUpload c = eqb (commandNumber c) 2
+
+abbrev pub isClientAbort : ℕ → Bool
+isClientAbort c = eqb (commandNumber c) 4
+
+-- "Then, in order: no object 06020000h; no subindex 06090011h; download to c or o ..": what follows is a download's
+unfoldable pub objectVerdict : Bool → List ℕ → NmtState → List ℕ → Found → Verdict
+objectVerdict writing rq nmt d noObject = bad absent
+objectVerdict writing rq nmt d noSubindex = bad absentSub
+objectVerdict writing rq nmt d (found x) = cond writing (downloadVerdict rq nmt d x) good
+
+-- ".. else abort 05040001h. Download: bit 1 must be 1, else 05040001h"
+unfoldable pub requestVerdict : List ℕ → NmtState → List ℕ → Verdict
+requestVerdict rq nmt d =
+    let c = commandByte rq in
+    firstOf
+    (test (not (isDownload c || isUpload c || isClientAbort c)) unknownCommand
+    ∷ test (isDownload c && not (bit expeditedBit c)) unknownCommand
+    ∷ [])
+    (cond (isClientAbort c) good (objectVerdict (isDownload c) rq nmt d (lookup (askedIndex rq) (askedSubindex rq))))
+
+-- a request to the node that stands there
+abbrev pub requested : List ℕ → List ℕ → Stand → Step
+requested rq o a = record { call = frameCall (requestBase + a .state .node .id) rq; output = o }
+
+-- "80h and code. Index and subindex are echoed": whatever is aborted gives the code of its verdict, and this is the whole answer
+abbrev pub AbortSaysWhy : Type 0
+AbortSaysWhy = (r : Run) (rq o : List ℕ) (c : Abort) → length rq ≡ requestLength → isStopped (reached r .state .node .nmt) ≡ false →
+    outputLength ≤ length o → requestVerdict rq (reached r .state .node .nmt) (reached r .dictionary) ≡ bad c →
+    does (requested rq o (reached r)) (reached r)
+    ≡ onlySends (frame (replyBase + reached r .state .node .id) (0x80 ∷ part 1 3 rq ++ bytes dataSize (abortCode c)) ∷ []) (reached r) o
+
+-- the codes as the paper prints them
+abbrev pub codes : List ℕ
+codes =
+    0x05040001 ∷ 0x06020000 ∷ 0x06090011 ∷ 0x06010002 ∷ 0x06070012 ∷ 0x06070013 ∷ 0x08000022 ∷ 0x06090032 ∷ 0x06090031 ∷ 0x06090030
+    ∷ 0x06040041 ∷ 0x06040042 ∷ []
+
+-- each has its name, and no abort has another code
+abbrev pub TwelveCodes : Type 0
+TwelveCodes =
+    (map abortCode
+    (unknownCommand ∷ absent ∷ absentSub ∷ noWriting ∷ tooLong ∷ tooShort ∷ wrongTime ∷ belowRange ∷ aboveRange ∷ badValue
+    ∷ notMappable ∷ overLength ∷ [])
+    ≡ codes)
+    × ((c : Abort) → any (eqb (abortCode c)) codes ≡ true)
+
+-- and a request with no fault is not aborted. Its reply is 60h to a download, before all else that is sent; to an upload the object's value,
+-- and this is the whole answer; to a client abort there is none
+abbrev pub Served : Command → List ℕ → Stand → List ℕ → Outcome → Type 0
+Served download rq a o u =
+    (u .refusal ≡ Accepted)
+    × (frameAt 0 (u .output) ≡ encoded (frame (replyBase + a .state .node .id) (0x60 ∷ part 1 3 rq ++ (0x00 ∷ 0x00 ∷ 0x00 ∷ 0x00 ∷ []))))
+Served upload rq a o u =
+    (x : Row) × (lookup (askedIndex rq) (askedSubindex rq) ≡ found x)
+    × (u ≡ onlySends (frame (replyBase + a .state .node .id) (uploaded (x .type) ∷ part 1 3 rq ++ bytes dataSize (read (a .dictionary) x)) ∷ []) a o)
+Served clientAbort rq a o u = u ≡ onlySends [] a o
+Served unknown rq a o u = ⊥
+
+abbrev pub GoodIsServed : Type 0
+GoodIsServed = (r : Run) (rq o : List ℕ) → length rq ≡ requestLength → isStopped (reached r .state .node .nmt) ≡ false → outputLength ≤ length o →
+    requestVerdict rq (reached r .state .node .nmt) (reached r .dictionary) ≡ good →
+    Served (commandOf (commandByte rq)) rq (reached r) o (does (requested rq o (reached r)) (reached r))
+
+-- "and a refused write .. changes no object": whatever is aborted leaves the dictionary and the state as they were, where it is not served as well
+abbrev pub RefusedWriteChangesNothing : Type 0
+RefusedWriteChangesNothing = (r : Run) (rq o : List ℕ) (c : Abort) →
+    requestVerdict rq (reached r .state .node .nmt) (reached r .dictionary) ≡ bad c → left (requested rq o (reached r)) (reached r) ≡ reached r
+
+-- ---- "or a dropped process frame changes no object"
+
+-- "EMCY on 80h+N: code, 1001h just after its cause, five zeros", where the cause changes nothing
+abbrev pub alarm : Stand → ℕ → Frame
+alarm a code =
+    frame (emergencyBase + a .state .node .id) (bytes 2 code ++ read (a .dictionary) errorRegister ∷ 0x00 ∷ 0x00 ∷ 0x00 ∷ 0x00 ∷ 0x00 ∷ [])
+
+-- "too short, dropped with emergency 8210h; too long, 8220h ..; then any value SDO would refuse drops the whole frame with 8200h, after 8220h
+-- if both": the codes of a dropped frame of n bytes, by the length that its mapping asks for
+abbrev pub dropCodes : ℕ → ℕ → List ℕ
+dropCodes n asked = cond (ltb n asked) (pdoTooShort ∷ []) (cond (ltb asked n) (pdoTooLong ∷ valueRefused ∷ []) (valueRefused ∷ []))
+
+-- a frame that is too short, or that holds a value SDO would refuse, leaves the dictionary and the state as they were. Where there is room it is
+-- answered by its emergencies, and this is the whole answer
 abbrev pub DroppedFrameChangesNothing : Type 0
-DroppedFrameChangesNothing = (r : Run) (p i : ℕ) (bs o : List ℕ) → areBytes bs ≡ true → In p receivePdos →
+DroppedFrameChangesNothing = (r : Run) (p i : ℕ) (bs o : List ℕ) → In p receivePdos →
     listens i (reached r .state .node .nmt) (reached r .dictionary) p ≡ true →
     (length bs < mappedLength (mapped (reached r .dictionary) p))
     ⊎ (areLegal (reached r .dictionary) (unpacked (mapped (reached r .dictionary) p) bs) ≡ false) →
-    does (record { call = frameCall i bs; output = o }) (reached r) .dictionary ≡ reached r .dictionary
+    (left (record { call = frameCall i bs; output = o }) (reached r) ≡ reached r)
+    × (outputLength ≤ length o → length bs ≤ mostData →
+    does (record { call = frameCall i bs; output = o }) (reached r)
+    ≡ onlySends (map (alarm (reached r)) (dropCodes (length bs) (mappedLength (mapped (reached r .dictionary) p)))) (reached r) o)
 
 -- ---- demand 1 and 2, the frames: "eleven bytes a frame, one after another", "At most 6 frames. Order: SDO reply; emergencies in order of
 -- cause; boot-up or heartbeat; TPDOs rising", "Bytes past the frames reported stay"
@@ -402,16 +499,13 @@ ReadyFrameStays = (r : Run) (k : Step) (t : ℕ) → octets (k .call) ≡ true �
 
 -- ---- his complaints
 
--- "A receive path that was never tested on a short frame read missing bytes as zero": a process frame shorter than its mapping changes no
--- object and sends 8210h, and nothing else
+-- "A receive path that was never tested on a short frame read missing bytes as zero": a process frame shorter than its mapping changes
+-- nothing and sends 8210h alone; this is the whole answer
 abbrev pub ShortFrameChangesNothing : Type 0
 ShortFrameChangesNothing = (r : Run) (p i : ℕ) (bs o : List ℕ) → In p receivePdos →
     listens i (reached r .state .node .nmt) (reached r .dictionary) p ≡ true →
     length bs < mappedLength (mapped (reached r .dictionary) p) → outputLength ≤ length o →
-    (does (record { call = frameCall i bs; output = o }) (reached r) .dictionary ≡ reached r .dictionary)
-    × (does (record { call = frameCall i bs; output = o }) (reached r) .frames ≡ 1)
-    × (does (record { call = frameCall i bs; output = o }) (reached r) .output
-    ≡ sentInto o (emergency pdoTooShort (reached r .state) (reached r .dictionary)))
+    does (record { call = frameCall i bs; output = o }) (reached r) ≡ onlySends (alarm (reached r) pdoTooShort ∷ []) (reached r) o
 
 -- "mappings edited while a packed copy of the old one was still in use": after any call, so after any accepted mapping write, the plan and
 -- the ready frame of each PDO are those of the mapping that the dictionary now holds
@@ -420,17 +514,27 @@ NoOldMapping = (r : Run) (k : Step) → octets (k .call) ≡ true →
     (does k (reached r) .state .axis .plans ≡ map (λ p. planFor (mapped (does k (reached r) .dictionary) p)) pdos)
     × (does k (reached r) .state .axis .ready ≡ map (λ p. readyFor (does k (reached r) .dictionary) p) transmitPdos)
 
--- "a status word in a sent frame that differs from the one read by SDO a moment later": every transmit PDO carries, of each mapped object, the
--- bytes that the dictionary holds; and an upload of 6041h made right after the call answers with those very bytes
-abbrev pub uploadStatus : ℕ → Call
-uploadStatus n = frameCall (requestBase + n) (0x40 ∷ 0x41 ∷ 0x60 ∷ 0x00 ∷ 0x00 ∷ 0x00 ∷ 0x00 ∷ 0x00 ∷ [])
+-- "a status word in a sent frame that differs from the one read by SDO a moment later": of any call, take a frame on the identifier of a
+-- working transmit PDO that maps 6041h. An upload of 6041h right after the call answers with the very two bytes that stand in that frame, and
+-- changes nothing
+
+-- the place of a frame's data in its eleven bytes: behind the identifier (2) and the length
+abbrev pub dataFrom : ℕ
+dataFrom = 3
+
+abbrev pub uploadStatus : List ℕ
+uploadStatus = 0x40 ∷ 0x41 ∷ 0x60 ∷ 0x00 ∷ 0x00 ∷ 0x00 ∷ 0x00 ∷ 0x00 ∷ []
 
 abbrev pub SameStatusWord : Type 0
-SameStatusWord = (r : Run) (o : List ℕ) → outputLength ≤ length o → isStopped (reached r .state .node .nmt) ≡ false →
-    (reached r .state .axis .ready ≡ map (λ p. pdoData (joined (reached r .dictionary) (mapped (reached r .dictionary) p))) transmitPdos)
-    × (does (record { call = uploadStatus (reached r .state .node .id); output = o }) (reached r) .output
-    ≡ sentInto o (frame (replyBase + reached r .state .node .id)
-    (0x4B ∷ 0x41 ∷ 0x60 ∷ 0x00 ∷ (field (reached r .dictionary) statusWord ++ (0x00 ∷ 0x00 ∷ []))) ∷ []))
+SameStatusWord = (r : Run) (k : Step) (t n : ℕ) (xs ys : List Row) (o : List ℕ) → octets (k .call) ≡ true → In t transmitters →
+    outputLength ≤ length o →
+    let u = does k (reached r) in
+    let a = left k (reached r) in
+    works (a .state .node .nmt) (a .dictionary) (eachWay + t) ≡ true → mapped (a .dictionary) (eachWay + t) ≡ xs ++ statusWord ∷ ys →
+    n < u .frames → part 0 2 (frameAt n (u .output)) ≡ bytes 2 (frameIdentifier (read (a .dictionary) (identifier (eachWay + t)))) →
+    does (requested uploadStatus o a) a
+    ≡ onlySends (frame (replyBase + a .state .node .id)
+    (0x4B ∷ 0x41 ∷ 0x60 ∷ 0x00 ∷ part (dataFrom + mappedLength xs) 2 (frameAt n (u .output)) ++ (0x00 ∷ 0x00 ∷ [])) ∷ []) a o
 
 -- "set-points taken twice because somebody looked at the level of a bit and missed its edge": by counting, so that one which is taken again
 -- with the same numbers counts too
@@ -525,5 +629,5 @@ HeldBitTakesNothing = (r : Run) (ks : List Step) → allOctets ks → HoldsBitFo
 
 -- opens every definition of this module, where a proof computes
 unfoldable pub open-promises : Unit {0}
-unfolding after allOctets byPdo bySync applies written byNmt byFrame mayChange laid edges edgesIn reachedIn HoldsBitFour
+unfolding after allOctets objectVerdict requestVerdict byPdo bySync applies written byNmt byFrame mayChange laid edges edgesIn reachedIn HoldsBitFour
 open-promises = tt
