@@ -31,8 +31,8 @@ use Rattle.rules.specs.Outcome.{ended, settled, paceFor, transmissions, transmi
 use Rattle.rules.specs.Calls.{Call, Decision, refuses, does as performs, refused, accepted, answered, answer}
 use Rattle.rules_dictionary.proofs.Defaults.{length-bytes}
 use Rattle.rules.proofs.Encoded.{length-encoded}
-use Rattle.theorems.specs.Promises.{octets, reached, Spoken, laid, FramesOf, AtMostSixInOrder, OutputOfBytes, isOn, codeOf, inOrderOfCause}
-use Rattle.theorems.specs.Promises.{ElevenBytes}
+use Rattle.theorems.specs.Promises.{octets, reached, mostSpoken, Spoken, laid, FramesOf, AtMostSixInOrder, OutputOfBytes, isOn, codeOf}
+use Rattle.theorems.specs.Promises.{inOrderOfCause, ElevenBytes}
 
 -- ---- eleven bytes
 
@@ -159,7 +159,7 @@ reset-coded s d = whichever (λ fs. all goesBehind fs ≡ true) (isStopped (s .n
 -- ---- what is spoken
 
 says : (n a b c : ℕ) (rs es bs : List Frame) → On (replyBase + n) a rs → On (emergencyBase + n) b es → On (heartbeatBase + n) c bs →
-    inOrderOfCause (map codeOf es) ≡ true → (a ≤ 1) × (c ≤ 1) × (a + (b + c) ≤ 2) → Says n (rs ++ (es ++ bs))
+    inOrderOfCause (map codeOf es) ≡ true → (a ≤ 1) × (c ≤ 1) × (a + (b + c) ≤ mostSpoken) → Says n (rs ++ (es ++ bs))
 says n a b c rs es bs r e h order most =
     record {
       spoken = record {
@@ -443,7 +443,7 @@ frames-of (performs e) s d o w b =
     let pdo = transmissions d′ (readyOf d′) paces transmitters in
     let risen = rising d′ (readyOf d′) paces transmitters in
     let four : length pdo ≤ 4 = rw risen (few-of (λ t. paces t .send) (pdoFrame d′ (readyOf d′) paces) transmitters) in
-    let two : length (e .sent) ≤ 2 = rw (w .spoken .whole, length-append, length-append) (w .spoken .few) in
+    let two : length (e .sent) ≤ mostSpoken = rw (w .spoken .whole, length-append, length-append) (w .spoken .few) in
     record {
       sent = e .sent ++ pdo;
       counted = refl;

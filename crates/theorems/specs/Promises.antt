@@ -237,6 +237,10 @@ inOrderOfCause (a ∷ []) = true
 inOrderOfCause (a ∷ b ∷ []) = eqb a pdoTooLong && (eqb b valueRefused || eqb b faultGone)
 inOrderOfCause (a ∷ b ∷ c ∷ cs) = false
 
+-- the most that a service sends itself: a reply and an emergency, or two emergencies
+abbrev pub mostSpoken : ℕ
+mostSpoken = 2
+
 -- what a service of node n sends itself
 pub record Spoken (n : ℕ) (sent : List Frame) : Type 0 where
   pub replies : List Frame
@@ -249,7 +253,7 @@ pub record Spoken (n : ℕ) (sent : List Frame) : Type 0 where
   pub caused : inOrderOfCause (map codeOf emergencies) ≡ true
   pub oneReply : length replies ≤ 1
   pub oneBeat : length beats ≤ 1
-  pub few : length replies + (length emergencies + length beats) ≤ 2
+  pub few : length replies + (length emergencies + length beats) ≤ mostSpoken
 
 -- a list of frames in the paper's order: the transmit PDOs behind what is spoken; `sending` says which of them are sent
 pub record Ordered (a : Stand) (sent : List Frame) : Type 0 where
