@@ -2,4 +2,3 @@ pub mod Opening
 pub mod Answers
 pub mod Ending
 pub mod Frames
-pub mod Traces

@@ -1,2 +1,5 @@
 pub mod Ways
 pub mod Unique
+pub mod Typed
+pub mod Traces
+pub mod Runs

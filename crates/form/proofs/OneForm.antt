@@ -46,7 +46,7 @@ are-same (x ∷ xs) (y ∷ ys) h =
 
 -- ---- what is read is typed
 
-resting-typed : (t : ℕ) → t < 2 ^ 32 → SetPointTyped (resting t)
+pub resting-typed : (t : ℕ) → t < 2 ^ 32 → SetPointTyped (resting t)
 resting-typed t h = record { target = h; velocity = lit< tt; acceleration = lit< tt; deceleration = lit< tt }
 
 store-typed : (a b c : Bool) (t : ℕ) (p q : SetPoint) → t < 2 ^ 32 → SetPointTyped p → SetPointTyped q →
