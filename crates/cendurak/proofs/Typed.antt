@@ -47,7 +47,6 @@ use Rattle.rules.specs.Sound.{pairwise, heartbeatSound, waitingSound, paceSound
 use Rattle.rules.specs.Calls.{Call, Decision, refused, accepted, answered, answer}
 use Rattle.rules.proofs.AtEnd.{at-end}
 use Rattle.theorems.specs.Promises.{Step, Stand, octets}
-use Rattle.theorems.specs.Promises as Promises
 use Rattle.theorems.proofs.Booleans.{by-test, whichever, or-either}
 use Rattle.theorems.proofs.Lawful.{clauses}
 use Rattle.theorems.proofs.Services.{Serves, Releases}
@@ -55,6 +54,7 @@ use Rattle.theorems.proofs.Runs.{Holds, Decides, decides, step-holds}
 use Rattle.form.specs.Form.{half, resting}
 use Rattle.form.specs.Typed.{Many, none, more, SetPointTyped, StoreTyped, DataTyped, AnyPace, MoveTyped, PlanTyped, Typed}
 use Rattle.form.proofs.OneForm.{are-same, resting-typed}
+use Rattle.theorems.specs.Promises as Promises
 
 -- ---- rows of things
 
@@ -219,32 +219,32 @@ applied-typed ws s d b t =
     let controlled = control-typed d1 (stored-bytes ws d b) (read d controlWord) (u .axis .drive) moded in
     whichever FitsBy (wrote controlWord ws) (whichever FitsBy (c .reset) controlled controlled) moded
 
-releases-typed : {xs : List Row} {s : State} {d : List ℕ} {e : Effect} → Releases xs s d e → areBytes d ≡ true → Fits (s .axis .drive) → FitsBy e
+releases-typed : {s : State} {d : List ℕ} {e : Effect} → Releases s d e → areBytes d ≡ true → Fits (s .axis .drive) → FitsBy e
 unfolding andThen
 releases-typed Releases.none b t = t
 releases-typed (Releases.skips rest) b t = releases-typed rest b t
-releases-typed {s = s} {d = d} (Releases.next h ws cleared may inside rest) b t =
+releases-typed {s = s} {d = d} (Releases.next h ws cleared may rest) b t =
     releases-typed rest (stored-bytes (applied ws (withHeld h s) d .writes) d b) (applied-typed ws (withHeld h s) d b t)
 
-served-typed : {K : Type 0} {s : State} {d : List ℕ} {xs : List Row} {e : Effect} → Serves K s d xs e → areBytes d ≡ true →
+served-typed : {K : Type 0} {s : State} {d : List ℕ} {e : Effect} → Serves K s d e → areBytes d ≡ true →
     Fits (s .axis .drive) → FitsBy e
 unfolding commanded powerUp freshState voltageDisabled left faulted
 served-typed Serves.nothing b t = t
 served-typed (Serves.replies c v rq small octet) b t = t
 served-typed (Serves.alarms l code) b t = t
-served-typed {s = s} {d = d} (Serves.applies ws before may inside) b t = applied-typed ws s d b t
+served-typed {s = s} {d = d} (Serves.applies ws before may) b t = applied-typed ws s d b t
 served-typed (Serves.holds bs l i on synchronous long legal) b t = t
 served-typed (Serves.releases r) b t = releases-typed r b t
 served-typed (Serves.starts h idle) b t = t
 served-typed Serves.leaves b t = t
 served-typed {s = s} Serves.stops b t = enters-typed _ (s .axis .drive) t
-served-typed {s = s} (Serves.resets inside) b t = enters-typed _ (s .axis .drive) t
-served-typed (Serves.begins inside) b t = empty-typed
+served-typed {s = s} Serves.resets b t = enters-typed _ (s .axis .drive) t
+served-typed Serves.begins b t = empty-typed
 served-typed {s = s} (Serves.moves q h) b t = enters-typed q (s .axis .drive) t
 served-typed {s = s} (Serves.reaches h) b t = reached-typed (s .axis .drive .store) t
 served-typed Serves.recovers b t = t
-served-typed {s = s} (Serves.faults code register fits inside) b t = enters-typed _ (s .axis .drive) t
-served-typed (Serves.feeds at speed fits inside) b t = t
+served-typed {s = s} (Serves.faults code register fits) b t = enters-typed _ (s .axis .drive) t
+served-typed (Serves.feeds at speed fits) b t = t
 served-typed (Serves.powers v) b t = t
 served-typed Serves.rests b t = t
 served-typed (Serves.counts e) b t = t
@@ -289,8 +289,8 @@ answered-typed : {c : Call} {x : Decision} {s : State} {d : List ℕ} (o : List 
     Fits (answered x s d o .state .axis .drive)
 unfolding answered refused accepted
 answered-typed o (Decides.refuses r q) b t = t
-answered-typed {s = s} {d = d} o (Decides.begins n q legal long) b t = fresh-typed n s d
-answered-typed {s = s} {d = d} o (Decides.serves {e} xs q law v) b t = ended-typed s d e (served-typed v b t)
+answered-typed {s = s} {d = d} o (Decides.begins n legal long) b t = fresh-typed n s d
+answered-typed {s = s} {d = d} o (Decides.serves {e} law v) b t = ended-typed s d e (served-typed v b t)
 
 pub step-kept : (k : Step) (a : Stand) → octets (k .call) ≡ true → Kept a → Kept (Promises.left k a)
 unfolding answer
