@@ -3,9 +3,10 @@
 use Prim.Native.Nat.{ℕ, _+_}
 use native.Mathlib.Omega.{arith}
 use mathlib.Core.Path.{_≡_, sym, _∙_, ap}
-use mathlib.Core.Bool.{Bool, false}
+use mathlib.Core.Bool.{Bool, true, false}
 use mathlib.Core.List.{List}
 use Rattle.rules_dictionary.specs.declared.PdoData.{PdoData}
+use Rattle.rules_dictionary.specs.Numbers.{areBytes}
 use Rattle.rules_dictionary.specs.Table.{eachWay}
 use Rattle.rules_dictionary.specs.Plans.{plansOf, readyOf}
 use Rattle.rules_dictionary.proofs.Members.{pdo-in}
@@ -22,8 +23,8 @@ use Rattle.output.proofs.Frames.{emitted-none}
 use Rattle.output.specs.declared.Done.{Done}
 use Rattle.tpdo.specs.declared.Sent.{Sent}
 use Rattle.tpdo.specs.Sending.{turn, MaySend, SentBy}
-use Rattle.calls.specs.Ending.{settledBy, turnsOf, endWith, Still, MayFinish, MayReady, Stepped, Renews}
-use Rattle.calls.proofs.StatusMade.{AlikeInPdos, plans-alike, plannable-alike, made-long, made-alike}
+use Rattle.calls.specs.Ending.{settledBy, writtenBy, turnsOf, endWith, Still, MayFinish, MayReady, Stepped, Renews}
+use Rattle.calls.proofs.StatusMade.{AlikeInPdos, plans-alike, plannable-alike, made-long, made-alike, unwritten}
 use Rattle.calls.proofs.Plannable.{data-at}
 
 -- ---- nothing left to do
@@ -77,12 +78,14 @@ module _ {was : Bool} {bs : List ℕ} {r : Done} {d o : List ℕ} (h : MayFinish
   alike : AlikeInPdos d d″
   alike y i k = rw made (made-alike (stateOf bs) d y i k)
 
-  pub may-ready : (written : Bool) → (written ≡ false → (r .touched ≡ false) × (d″ ≡ d)) → MayReady written (stateOf bs) d″
-  may-ready written w =
+  pub may-ready : (written : Bool) → written ≡ writtenBy (r .touched) (stateOf bs .node) (stateOf bs .axis .drive) d → areBytes d ≡ true →
+      MayReady written (stateOf bs) d″
+  may-ready written w b =
+      let u = unwritten (r .touched) (stateOf bs .node) (stateOf bs .axis .drive) d b (h .plannable .0) in
       record {
         plannable = still-plannable (stateOf bs) d d″ made (h .plannable);
         plans = h .plans q ∙ sym (plans-alike d d″ alike);
-        ready = λ n. h .ready q (w n .0) ∙ ap readyOf (sym (w n .1));
+        ready = λ n. h .ready q (u (sym w ∙ n) .0) ∙ ap readyOf (u (sym w ∙ n) .1 ∙ sym made);
       }
 
   pub may-send : (ready : List PdoData) → ready ≡ readyOf d″ → MaySend (stateOf bs .node .nmt) (stateOf bs .axis .paces) ready d″

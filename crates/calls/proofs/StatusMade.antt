@@ -3,9 +3,11 @@
 use Prim.Native.Nat.{ℕ}
 use native.Mathlib.Omega.{arith}
 use mathlib.Core.Path.{_≡_, refl, sym, _∙_, ap}
-use mathlib.Core.Bool.{true}
+use mathlib.Core.Bool.{Bool, true, false, true≢false, not, _||_}
 use mathlib.Core.List.{List}
+use lib.Dec.{eqb}
 use lib.ListN.{length}
+use borrow.Author.Tests.{eqb-true, eq-eqb, ne-eqb}
 use Rattle.drive.specs.declared.Drive.{Drive}
 use Rattle.state.specs.declared.Node.{Node}
 use Rattle.rules_dictionary.specs.Numbers.{areBytes}
@@ -16,6 +18,7 @@ use Rattle.rules_dictionary.specs.Legal.{modeNumber}
 use Rattle.rules_dictionary.specs.Plans.{mapped, planFor, plansOf}
 use Rattle.rules_dictionary.proofs.Packing.{within}
 use Rattle.rules_dictionary.proofs.Members.{pdo-in}
+use Rattle.rules_dictionary.proofs.Tests.{and-left, and-right}
 use Rattle.rules.specs.Outcome.{settled, statusOf}
 use Rattle.rules.specs.Sound.{mappingLegal}
 use Rattle.theorems.proofs.Dictionary.{isPdo, mapped-alike, words-alike, count-alike, map-same}
@@ -23,7 +26,7 @@ use Rattle.theorems.proofs.Demands.{store-self}
 use Rattle.theorems.proofs.Settled.{status-in, display-in, settled-length, settled-pdo}
 use Rattle.mapping.specs.Afresh.{GivesPlans}
 use Rattle.state.specs.declared.State.{State}
-use Rattle.calls.specs.Ending.{statusBy, settledBy}
+use Rattle.calls.specs.Ending.{statusBy, settledBy, isSettled, writtenBy}
 
 module _ (node : Node) (drive : Drive) (d : List ℕ) (word shown : ℕ) (w : word ≡ statusBy node drive d) (m : shown ≡ modeNumber (drive .mode)) where
   -- written, they are made
@@ -41,6 +44,35 @@ module _ (node : Node) (drive : Drive) (d : List ℕ) (word shown : ℕ) (w : wo
       let second : store modeDisplay (modeNumber (drive .mode)) d ≡ d =
       ap (λ (v : ℕ). store modeDisplay v d) (sym (q ∙ m)) ∙ store-self modeDisplay d b (omega (arith, within display-in)) in
       sym (ap (store modeDisplay (modeNumber (drive .mode))) first ∙ second)
+
+  -- whether both stand there
+  pub settled-both : read d statusWord ≡ word → read d modeDisplay ≡ shown → isSettled node drive d ≡ true
+  unfolding isSettled
+  settled-both p q = rw (eq-eqb _ _ (p ∙ w), eq-eqb _ _ (q ∙ m))
+
+  pub unsettled-word : (read d statusWord ≡ word → ⊥) → isSettled node drive d ≡ false
+  unfolding isSettled
+  unsettled-word n = rw (ne-eqb _ _ (λ e. n (e ∙ sym w)))
+
+  pub unsettled-display : read d statusWord ≡ word → (read d modeDisplay ≡ shown → ⊥) → isSettled node drive d ≡ false
+  unfolding isSettled
+  unsettled-display p n = rw (eq-eqb _ _ (p ∙ w), ne-eqb _ _ (λ e. n (e ∙ sym m)))
+
+neither : (s t : Bool) → (not s || t) ≡ false → (s ≡ true) × (t ≡ false)
+neither true t h = (refl, h)
+neither false t h = absurd (true≢false h)
+
+-- where nothing that may be mapped is written then, nothing was, and nothing is made
+pub unwritten : (touched : Bool) (node : Node) (drive : Drive) (d : List ℕ) → areBytes d ≡ true → length d ≡ dictionaryLength →
+    writtenBy touched node drive d ≡ false → (touched ≡ false) × (d ≡ settledBy node drive d)
+unfolding isSettled
+unwritten touched node drive d b l h =
+    let n = neither (isSettled node drive d) touched h in
+    let p = eqb (read d statusWord) (statusBy node drive d) in
+    let q = eqb (read d modeDisplay) (modeNumber (drive .mode)) in (
+      n .1,
+      both-stand node drive d _ _ refl refl b l (eqb-true _ _ (and-left p q (n .0))) (eqb-true _ _ (and-right p q (n .0))),
+    )
 
 -- ---- dictionaries that are alike in the rows of the PDOs
 

@@ -3,7 +3,8 @@
 use Prim.Native.Nat.{ℕ, _+_, _<_, _≤_}
 use mathlib.Core.Path.{_≡_}
 use mathlib.Core.List.{List, [], map}
-use mathlib.Core.Bool.{Bool, true, false, not}
+use mathlib.Core.Bool.{Bool, true, false, not, _&&_, _||_}
+use lib.Dec.{eqb}
 use lib.ListN.{length, getD}
 use Rattle.drive.specs.declared.Drive.{Drive}
 use Rattle.state.specs.declared.Node.{Node}
@@ -11,7 +12,7 @@ use Rattle.state.specs.declared.State.{State}
 use Rattle.state.specs.declared.Occasion.{Occasion}
 use Rattle.state.specs.NmtStates.{isOperational, isStopped}
 use Rattle.rules_dictionary.specs.Table.{dictionaryLength, eachWay, statusWord, modeDisplay}
-use Rattle.rules_dictionary.specs.Values.{store}
+use Rattle.rules_dictionary.specs.Values.{read, store}
 use Rattle.rules_dictionary.specs.Legal.{isCyclic, modeNumber}
 use Rattle.rules_dictionary.specs.Plans.{plansOf, readyOf}
 use Rattle.drive.specs.StatusWord.{status}
@@ -43,6 +44,14 @@ statusBy node drive d = status (not (isStopped (node .nmt))) (node .voltage) dri
 
 unfoldable pub settledBy : Node → Drive → List ℕ → List ℕ
 settledBy node drive d = store modeDisplay (modeNumber (drive .mode)) (store statusWord (statusBy node drive d) d)
+
+-- both stand as they are made
+unfoldable pub isSettled : Node → Drive → List ℕ → Bool
+isSettled node drive d = eqb (read d statusWord) (statusBy node drive d) && eqb (read d modeDisplay) (modeNumber (drive .mode))
+
+-- an object that may be mapped to transmit is written once they are made; `touched` is whether one was before
+abbrev pub writtenBy : Bool → Node → Drive → List ℕ → Bool
+writtenBy touched node drive d = not (isSettled node drive d) || touched
 
 -- the turns of the transmit PDOs, with 6041h and 6061h made; t still has the ready frames and the paces of the call's start
 abbrev pub turnsOf : Bool → State → Occasion → List ℕ → ℕ → Paced

@@ -16,7 +16,8 @@ renewed-requires c κs =
     let p = start .pre in
     let s = settle .settle .ensures in
     let made = rw (read-node .read-node .ensures, read-drive .read-drive .ensures) at (s .0) in
-    (p .0 .own, may-ready (p .0) (p .1) _ made _ (s .1))
+    let written = rw (read-node .read-node .ensures, read-drive .read-drive .ensures) at (s .1 .0) in
+    (p .0 .own, may-ready (p .0) (p .1) _ made _ written (s .1 .1))
 
 transmit-all-requires : tie.Need-transmit-all-requires
 transmit-all-requires c κs =
@@ -53,7 +54,8 @@ returns c =
     let s = settle .settle .ensures in
     let node = read-node .read-node .ensures in
     let made = rw (node, read-drive .read-drive .ensures) at (s .0) in
-    let may = may-ready (p .0) (p .1) _ made _ (s .1) in
+    let written = rw (node, read-drive .read-drive .ensures) at (s .1 .0) in
+    let may = may-ready (p .0) (p .1) _ made _ written (s .1 .1) in
     let r = renewed .renewed .ensures in
     let paces = read-paces .read-paces .ensures ∙ ap (λ (t : State). t .axis .paces) (held-state (r .0)) in
     let ready = ap (λ (t : State). t .axis .ready) (held-state (r .0)) in
