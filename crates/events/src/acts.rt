@@ -10,8 +10,9 @@ ghost use Rattle.rules_services.specs.Events.{faulted, happens};
 ghost use Rattle.rules.specs.Outcome.{frameSize};
 ghost use Rattle.form.specs.Form.{stateLength};
 ghost use Rattle.form.specs.Holding.{Puts};
-ghost use Rattle.output.specs.Leaves.{Lent, nothingDone, LeavesIn};
+ghost use Rattle.output.specs.Leaves.{Lent, nothingDone, LeavesIn, never};
 ghost use Rattle.events.specs.Feeding.{Feeds};
+ghost use Rattle.events.specs.Resting.{isTick};
 use dictionary::objects;
 use drive::Drive;
 use drive::DriveState;
@@ -53,7 +54,7 @@ fn reaction_from(state: DriveState) -> DriveState
 // A fault: "603Fh is the code, 1001h gains the register and bit 0, cause present, emergency".
 fn faulted(code: u16, register: u8, state: &mut [u8], d: &mut [u8], output: &mut [u8]) -> Done
     requires { ⌜ Lent frameSize (now state) (now d) (now output) ⌝ }
-    ensures { λ r. ⌜ LeavesIn (faulted code register) (now (state .entry)) (now (d .entry)) (now (output .entry))
+    ensures { λ r. ⌜ LeavesIn (faulted code register) never (now (state .entry)) (now (d .entry)) (now (output .entry))
         r (now (state .exit)) (now (d .exit)) (now (output .exit)) ⌝ }
 {
     let node = read_node(state);
@@ -92,7 +93,7 @@ fn fed_back(at: u32, speed: u32, d: &mut [u8]) -> Done
 // What an event does. Only a tick is quiet.
 pub fn happens(e: Event, state: &mut [u8], d: &mut [u8], output: &mut [u8]) -> Done
     requires { ⌜ Lent frameSize (now state) (now d) (now output) ⌝ }
-    ensures { λ r. ⌜ LeavesIn (happens e) (now (state .entry)) (now (d .entry)) (now (output .entry))
+    ensures { λ r. ⌜ LeavesIn (happens e) (isTick e) (now (state .entry)) (now (d .entry)) (now (output .entry))
         r (now (state .exit)) (now (d .exit)) (now (output .exit)) ⌝ }
 {
     match e {

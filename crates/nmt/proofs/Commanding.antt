@@ -26,7 +26,7 @@ use Rattle.output.specs.declared.Done.{Done}
 use Rattle.output.specs.Laying.{IsData, dataOf}
 use Rattle.output.specs.Leaves.{touches, remaps, keeping, Leaves, Rests, nothingDone}
 use Rattle.output.proofs.Frames.{length-data}
-use Rattle.output.proofs.Left.{left-as, loud}
+use Rattle.output.proofs.Left.{left-as, loud, resting}
 use Rattle.nmt.specs.Commanding.{isForNode, PowersUp, ticked}
 
 -- ---- which frames are commands for this node
@@ -51,17 +51,17 @@ module _ (content : PdoData) (is : IsData content) (s : State) where
 -- ---- a service that changes nothing but the state
 
 pub restated : {bs : List ℕ} (s t : State) (d o : List ℕ) → Holds bs (keeping s t) →
-    Leaves s (becomes t) d o (nothingDone false) bs d o × Rests s (becomes t) (nothingDone false)
+    Leaves s (becomes t) d o (nothingDone false) bs d o × Rests false s (becomes t) (nothingDone false)
 restated s t d o h = (left-as s t false d o h, loud s (becomes t) (nothingDone false) refl)
 
 -- a tick that counts, with nothing left to do
 pub counted : {bs : List ℕ} (s : State) (count : ℕ) (fs : List Frame) (d o : List ℕ) → Holds bs (withHeartbeat count s) →
     Leaves s (on Ticked (sends fs (becomes (withHeartbeat count s)))) d o (ticked (length (fs ++ []))) bs d (sentInto o (fs ++ []))
-    × Rests s (on Ticked (sends fs (becomes (withHeartbeat count s)))) (ticked (length (fs ++ [])))
+    × Rests true s (on Ticked (sends fs (becomes (withHeartbeat count s)))) (ticked (length (fs ++ [])))
 unfolding stored
 counted s count fs d o h = (
   record { state = h; frames = refl; touched = refl; remapped = refl; occasion = refl; dictionary = refl; output = refl },
-  λ _. record { writes = refl; occasion = refl; nmt = refl; voltage = refl; drive = refl },
+  resting s _ _ refl (record { writes = refl; occasion = refl; nmt = refl; voltage = refl; drive = refl }),
 )
 
 -- ---- 01h: in Operational already, nothing changes
@@ -115,7 +115,7 @@ starts n d o d′ o′ w b =
 
 -- a start, with its state
 pub started : {bs : List ℕ} (n : ℕ) (s : State) (d o : List ℕ) (r : Done) (d′ o′ : List ℕ) → Holds bs (keeping s (freshState n)) →
-    PowersUp n d o r d′ o′ → Leaves s (powerUp n) d o r bs d′ o′ × Rests s (powerUp n) r
+    PowersUp n d o r d′ o′ → Leaves s (powerUp n) d o r bs d′ o′ × Rests false s (powerUp n) r
 unfolding powerUp
 started n s d o r d′ o′ h st = (
   record {

@@ -3,10 +3,11 @@
 use Prim.Native.Nat.{ℕ, _≤_}
 use mathlib.Core.Path.{_≡_}
 use mathlib.Core.List.{List}
-use mathlib.Core.Bool.{Bool, true, false, _&&_, _||_}
+use mathlib.Core.Bool.{Bool, true, false, not, _&&_, _||_}
 use lib.Dec.{eqb}
 use lib.ListN.{length, getD}
 use Rattle.state.specs.declared.Occasion.the-variants.{Ticked}
+use Rattle.state.specs.declared.State.{State}
 use Rattle.rules_dictionary.specs.declared.PdoData.{PdoData}
 use Rattle.rules_dictionary.specs.Table.{dictionaryLength}
 use Rattle.rules_dictionary.specs.TheNode.{firstNode, lastNode}
@@ -33,6 +34,10 @@ pub record Commandable (bs d o : List ℕ) : Type 0 where
 abbrev pub isForNode : PdoData → ℕ → Bool
 isForNode content n =
     eqb (content .length) nmtLength && (eqb (getD (content .bytes) 1 0) everyNode || eqb (getD (content .bytes) 1 0) n)
+
+-- of another length, or for another node: nothing is left to do after it
+abbrev pub isForOthers : PdoData → State → List ℕ → Bool
+isForOthers content s d = not (isForNode content (s .node .id))
 
 -- THE PROMISE of a start of node n: of power-up all but the state; it is never quiet
 pub record PowersUp (n : ℕ) (d o : List ℕ) (r : Done) (d′ o′ : List ℕ) : Type 0 where

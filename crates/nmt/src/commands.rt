@@ -7,8 +7,8 @@ ghost use Rattle.rules_services.specs.Nmt.{nmt, commandOf, commanded};
 ghost use Rattle.form.specs.Form.{stateLength};
 ghost use Rattle.form.specs.Holding.{Puts};
 ghost use Rattle.output.specs.Laying.{OnBus, dataOf};
-ghost use Rattle.output.specs.Leaves.{LeavesIn};
-ghost use Rattle.nmt.specs.Commanding.{isForNode, Commandable};
+ghost use Rattle.output.specs.Leaves.{LeavesIn, never};
+ghost use Rattle.nmt.specs.Commanding.{isForNode, isForOthers, Commandable};
 use crate::resets::disable_voltage;
 use crate::resets::reset_communication;
 use crate::resets::restart;
@@ -54,7 +54,7 @@ fn leave(state: &mut [u8], nmt: NmtState)
 // A command for this node: "01h Operational, 02h Stopped, 80h Pre-operational, 81h as power-up, 82h ..". One that is unknown changes nothing.
 fn command(c: u8, state: &mut [u8], d: &mut [u8], output: &mut [u8]) -> Done
     requires { ⌜ Commandable (now state) (now d) (now output) ⌝ }
-    ensures { λ r. ⌜ LeavesIn (λ s d. commanded (commandOf c) s) (now (state .entry)) (now (d .entry)) (now (output .entry))
+    ensures { λ r. ⌜ LeavesIn (λ s d. commanded (commandOf c) s) never (now (state .entry)) (now (d .entry)) (now (output .entry))
         r (now (state .exit)) (now (d .exit)) (now (output .exit)) ⌝ }
 {
     match c {
@@ -93,8 +93,8 @@ fn is_for_node(content: PdoData, id: u8) -> bool
 // An NMT frame; one of another length or for another node changes nothing.
 pub fn nmt_frame(content: PdoData, state: &mut [u8], d: &mut [u8], output: &mut [u8]) -> Done
     requires { ⌜ Commandable (now state) (now d) (now output) × OnBus content ⌝ }
-    ensures { λ r. ⌜ LeavesIn (λ s d. nmt (dataOf content) s) (now (state .entry)) (now (d .entry)) (now (output .entry))
-        r (now (state .exit)) (now (d .exit)) (now (output .exit)) ⌝ }
+    ensures { λ r. ⌜ LeavesIn (λ s d. nmt (dataOf content) s) (isForOthers content)
+        (now (state .entry)) (now (d .entry)) (now (output .entry)) r (now (state .exit)) (now (d .exit)) (now (output .exit)) ⌝ }
 {
     let node = read_node(state);
     if is_for_node(content, node.id) {

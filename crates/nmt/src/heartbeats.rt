@@ -8,7 +8,7 @@ ghost use Rattle.rules_dictionary.specs.Plans.{pdoData};
 ghost use Rattle.rules_services.specs.Effects.{frame, on};
 ghost use Rattle.rules_services.specs.Nmt.{heartbeatBase, stateByte, bootUp, tick};
 ghost use Rattle.rules.specs.Outcome.{frameSize, sentInto};
-ghost use Rattle.output.specs.Leaves.{Lent, LeavesIn};
+ghost use Rattle.output.specs.Leaves.{Lent, LeavesIn, ever};
 ghost use Rattle.nmt.specs.Commanding.{ticked};
 use dictionary::objects;
 use form::put_heartbeat;
@@ -78,7 +78,7 @@ fn ticked(frames: usize) -> Done
 // 1 ms on: the heartbeat "each 1017h ticks, in all states".
 pub fn tick(state: &mut [u8], d: &[u8], output: &mut [u8]) -> Done
     requires { ⌜ Lent frameSize (now state) (now d) (now output) ⌝ }
-    ensures { λ r. ⌜ LeavesIn (λ s d. on Ticked (tick s d)) (now (state .entry)) (now (d .entry)) (now (output .entry))
+    ensures { λ r. ⌜ LeavesIn (λ s d. on Ticked (tick s d)) ever (now (state .entry)) (now (d .entry)) (now (output .entry))
         r (now (state .exit)) (now (d .entry)) (now (output .exit)) ⌝ }
 {
     let period = objects::heartbeat_time(d);

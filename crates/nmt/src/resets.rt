@@ -5,7 +5,7 @@ ghost use lib.ListN.{length};
 ghost use Rattle.rules_services.specs.Nmt.{freshState, voltageDisabled, resetNode, resetCommunication, commanded};
 ghost use Rattle.form.specs.Form.{stateLength};
 ghost use Rattle.form.specs.Holding.{Puts};
-ghost use Rattle.output.specs.Leaves.{keeping, LeavesIn};
+ghost use Rattle.output.specs.Leaves.{keeping, LeavesIn, never};
 ghost use Rattle.nmt.specs.Commanding.{MayReset, Commandable, PowersUp};
 use crate::heartbeats::boot_up;
 use dictionary::write_communication_defaults;
@@ -94,7 +94,7 @@ fn renew(state: &mut [u8], n: u8)
 // 81h: as power-up.
 pub fn restart(state: &mut [u8], d: &mut [u8], output: &mut [u8]) -> Done
     requires { ⌜ Commandable (now state) (now d) (now output) ⌝ }
-    ensures { λ r. ⌜ LeavesIn (λ s d. commanded resetNode s) (now (state .entry)) (now (d .entry)) (now (output .entry))
+    ensures { λ r. ⌜ LeavesIn (λ s d. commanded resetNode s) never (now (state .entry)) (now (d .entry)) (now (output .entry))
         r (now (state .exit)) (now (d .exit)) (now (output .exit)) ⌝ }
 {
     let node = read_node(state);
@@ -105,7 +105,7 @@ pub fn restart(state: &mut [u8], d: &mut [u8], output: &mut [u8]) -> Done
 // 82h: the communication objects, mappings among them, to their defaults, Disable voltage, Pre-operational, boot-up.
 pub fn reset_communication(state: &mut [u8], d: &mut [u8], output: &mut [u8]) -> Done
     requires { ⌜ Commandable (now state) (now d) (now output) ⌝ }
-    ensures { λ r. ⌜ LeavesIn (λ s d. commanded resetCommunication s) (now (state .entry)) (now (d .entry)) (now (output .entry))
+    ensures { λ r. ⌜ LeavesIn (λ s d. commanded resetCommunication s) never (now (state .entry)) (now (d .entry)) (now (output .entry))
         r (now (state .exit)) (now (d .exit)) (now (output .exit)) ⌝ }
 {
     let node = read_node(state);

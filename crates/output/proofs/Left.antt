@@ -1,7 +1,7 @@
 -- What a service leaves, under another name of its effect; and what is quiet.
 -- Assumes nothing.
 use Prim.Native.Nat.{ℕ, _≤_}
-use mathlib.Core.Path.{_≡_, refl, sym, _∙_, subst}
+use mathlib.Core.Path.{_≡_, refl, sym, subst}
 use mathlib.Core.List.{List}
 use mathlib.Core.Bool.{Bool, true, false, false≢true}
 use lib.ListN.{length}
@@ -35,9 +35,12 @@ pub as-effect : {s : State} {e e′ : Effect} {d o : List ℕ} {r : Done} {bs′
     Leaves s e′ d o r bs′ d′ o′
 as-effect {s} {e} {e′} {d} {o} {r} {bs′} {d′} {o′} q h = subst (λ (x : Effect). Leaves s x d o r bs′ d′ o′) (sym q) h
 
--- what is not quiet says nothing of rest, and a service that only says something is calm
-pub loud : (s : State) (e : Effect) (r : Done) → r .quiet ≡ false → Rests s e r
-loud s e r n q = absurd (false≢true (sym n ∙ q))
+-- what is not quiet says nothing of rest; what is, and a service that only says something, is calm
+pub loud : (s : State) (e : Effect) (r : Done) → r .quiet ≡ false → Rests false s e r
+loud s e r n = record { told = n; calm = λ q. absurd (false≢true q) }
+
+pub resting : (s : State) (e : Effect) (r : Done) → r .quiet ≡ true → Calm s e → Rests true s e r
+resting s e r n c = record { told = n; calm = λ q. c }
 
 pub calm-said : (s : State) (fs : List Frame) → Calm s (sends fs (becomes s))
 calm-said s fs = record { writes = refl; occasion = refl; nmt = refl; voltage = refl; drive = refl }

@@ -90,11 +90,21 @@ pub record Calm (s : State) (e : Effect) : Type 0 where
   pub voltage : e .state .node .voltage ≡ s .node .voltage
   pub drive : e .state .axis .drive ≡ s .axis .drive
 
--- where it says that it was quiet, it was
-abbrev pub Rests : State → Effect → Done → Type 0
-Rests s e r = r .quiet ≡ true → Calm s e
+-- it says whether it was quiet, and where it was nothing is left to do
+pub record Rests (quiet : Bool) (s : State) (e : Effect) (r : Done) : Type 0 where
+  pub told : r .quiet ≡ quiet
+  pub calm : quiet ≡ true → Calm s e
 
--- ---- both, of a service on the state that the bytes hold
+-- a service that is quiet whatever it finds, and one that never is
+abbrev pub ever : State → List ℕ → Bool
+ever s d = true
 
-abbrev pub LeavesIn : (State → List ℕ → Effect) → List ℕ → List ℕ → List ℕ → Done → List ℕ → List ℕ → List ℕ → Type 0
-LeavesIn f bs d o r bs′ d′ o′ = Leaves (stateOf bs) (f (stateOf bs) d) d o r bs′ d′ o′ × Rests (stateOf bs) (f (stateOf bs) d) r
+abbrev pub never : State → List ℕ → Bool
+never s d = false
+
+-- ---- both, of a service on the state that the bytes hold, and of where it is quiet
+
+abbrev pub LeavesIn : (State → List ℕ → Effect) → (State → List ℕ → Bool) → List ℕ → List ℕ → List ℕ → Done → List ℕ → List ℕ → List ℕ → Type 0
+LeavesIn f quiet bs d o r bs′ d′ o′ =
+    let s = stateOf bs in
+    Leaves s (f s d) d o r bs′ d′ o′ × Rests (quiet s d) s (f s d) r

@@ -20,8 +20,8 @@ use Rattle.dictionary.specs.Entries.{entryOf}
 use Rattle.output.specs.Laying.{IsData, frameOf}
 use Rattle.output.proofs.Frames.{is-data, frame-of-data}
 use Rattle.output.specs.declared.Done.{Done}
-use Rattle.output.specs.Leaves.{LeavesIn}
-use Rattle.output.proofs.Left.{calm-said}
+use Rattle.output.specs.Leaves.{LeavesIn, ever}
+use Rattle.output.proofs.Left.{calm-said, resting}
 use Rattle.sdo.specs.Requests.{replyBytes, replyOf, uploadedBy}
 use Rattle.sdo.specs.Serving.{said, Says}
 
@@ -70,10 +70,10 @@ uploaded-by e x is = ap (λ (y : Entry). uploadedBy (y .size)) is ∙ go (x .typ
 
 -- THE LAW of a reply alone
 pub replied : {c v : ℕ} {rq bs o o′ : List ℕ} {r : Done} (d : List ℕ) → Holds bs (stateOf bs) → Says c v rq (stateOf bs .node .id) o r o′ →
-    LeavesIn (λ s d. said c v rq s) bs d o r bs d o′
+    LeavesIn (λ s d. said c v rq s) ever bs d o r bs d o′
 unfolding reply stored
 replied {c} {v} {rq} {bs} d own h =
     rw (h .done) (
       record { state = own; frames = refl; touched = refl; remapped = refl; occasion = refl; dictionary = refl; output = h .output },
-      λ q. calm-said (stateOf bs) (reply c rq (stateOf bs) (bytes dataSize v)),
+      resting (stateOf bs) _ _ refl (calm-said (stateOf bs) (reply c rq (stateOf bs) (bytes dataSize v))),
     )

@@ -15,7 +15,7 @@ use Rattle.rules_dictionary.specs.Table.{Row, table, dictionaryLength, placeOf,
 use Rattle.rules_dictionary.specs.Values.{write, read, store, stored}
 use Rattle.rules_dictionary.specs.Legal.{suits, valueVerdict}
 use Rattle.rules_dictionary.specs.Members.{In}
-use Rattle.rules_dictionary.specs.Aborts.{Test, Verdict, good, bad, test, firstOf, noWriting}
+use Rattle.rules_dictionary.specs.Aborts.{Test, Verdict, good, bad, isGood, test, firstOf, noWriting}
 use Rattle.rules_dictionary.proofs.Tests.{is-good, all-in}
 use Rattle.rules_services.specs.Effects.{Effect, Frame, becomes, sends, writes, withDrive}
 use Rattle.rules_services.specs.Sdo as sdo
@@ -33,14 +33,14 @@ use Rattle.dictionary.specs.Entries.{entryOf, Stands}
 use Rattle.output.specs.Laying.{emitted}
 use Rattle.output.proofs.Frames.{emitted-then, lent-back}
 use Rattle.output.specs.declared.Done.{Done}
-use Rattle.output.specs.Leaves.{keeping, isMapping, Lent, Leaves, LeavesIn}
+use Rattle.output.specs.Leaves.{keeping, isMapping, Lent, Leaves, LeavesIn, never}
 use Rattle.output.proofs.Left.{lent, loud}
 use Rattle.emergency.specs.Acts.{acts, controlActs, modeActs}
 use Rattle.emergency.proofs.Written.{stored-acted}
 use Rattle.sdo.specs.declared.Offer.{Offer}
 use Rattle.sdo.specs.Verdicts.{verdictCode, roleVerdict, valueVerdictOf}
-use Rattle.sdo.specs.Requests.{objectAsked, replyOf, offeredBy, offerVerdictOf}
-use Rattle.sdo.specs.Serving.{said, Says, Applies, restartedIf}
+use Rattle.sdo.specs.Requests.{objectAsked, isWritten, objectRests, replyOf, offeredBy, offerVerdictOf}
+use Rattle.sdo.specs.Serving.{Says, Applies, restartedIf}
 use Rattle.sdo.proofs.Verdicts.{good-code}
 use Rattle.sdo.proofs.Answering.{replied}
 
@@ -58,11 +58,12 @@ unfolding firstOf
 good-writable true ts v h = refl
 good-writable false ts v h = cc
 
-refused : (v : Verdict) (rq : List ℕ) (t : sdo.Offer) (s : State) (d : List ℕ) → (verdictCode v ≡ 0 → ⊥) →
-    sdo.judged v rq t s d ≡ said sdo.aborted (verdictCode v) rq s
+-- another is an abort, and nothing is left to do
+refused : (v : Verdict) {rq bs d o o′ : List ℕ} {r : Done} (t : sdo.Offer) → (verdictCode v ≡ 0 → ⊥) → Holds bs (stateOf bs) →
+    Says sdo.aborted (verdictCode v) rq (stateOf bs .node .id) o r o′ → LeavesIn (sdo.judged v rq t) (λ s d. not (isGood v)) bs d o r bs d o′
 unfolding sdo.judged sdo.abort
-refused good rq t s d h = absurd (h refl)
-refused (bad a) rq t s d h = refl
+refused good t n own h = absurd (n refl)
+refused (bad a) {d = d} t n own h = replied d own h
 
 -- THE LAWS of a download, by what its verdict's code tells
 module _ (rq bs d : List ℕ) {e : Entry} (st : Stands (sdo.askedIndex rq) (sdo.askedSubindex rq) e)
@@ -73,16 +74,15 @@ module _ (rq bs d : List ℕ) {e : Entry} (st : Stands (sdo.askedIndex rq) (sdo.
   abbrev verdict : Verdict
   verdict = offerVerdictOf (s .node .nmt) d e t
 
-  asked-is : objectAsked true rq s d ≡ sdo.judged verdict rq (sdo.expedited rq (st .row)) s d
-  unfolding sdo.toObject sdo.toRow
-  asked-is =
+  verdict-is : sdo.downloadVerdict rq (s .node .nmt) d (st .row) ≡ verdict
+  verdict-is =
       let over : Entry → Verdict = λ y. offerVerdictOf (s .node .nmt) d y (offeredBy rq (y .size)) in
-      rw (st .finds, ← offer-of-row rq (s .node .nmt) d (st .row), ← ap over (st .is-entry), ← offered)
+      rw (← offer-of-row rq (s .node .nmt) d (st .row), ← ap over (st .is-entry), ← offered)
 
   pub download-refused : {o o′ : List ℕ} {r : Done} → (code ≡ 0 → ⊥) → Holds bs s → Says sdo.aborted code rq (s .node .id) o r o′ →
-      LeavesIn (objectAsked true rq) bs d o r bs d o′
-  download-refused n own h =
-      rw (asked-is, refused verdict rq (sdo.expedited rq (st .row)) s d (λ z. n (is ∙ z)), ← is) (replied d own h)
+      LeavesIn (objectAsked true rq) (objectRests true rq) bs d o r bs d o′
+  unfolding sdo.toObject sdo.toRow isWritten
+  download-refused n own h = rw (st .finds, verdict-is) (refused verdict (sdo.expedited rq (st .row)) (λ z. n (is ∙ z)) own (rw is at h))
 
   module _ (zero : code ≡ 0) where
     fine : verdict ≡ good
@@ -93,11 +93,11 @@ module _ (rq bs d : List ℕ) {e : Entry} (st : Stands (sdo.askedIndex rq) (sdo.
     download-writable = good-writable (isWritable (e .access)) _ _ fine
 
     pub download-applied : {o bs′ d′ o′ : List ℕ} {r : Done} → Applies rq e (t .value) bs d o r bs′ d′ o′ →
-        LeavesIn (objectAsked true rq) bs d o r bs′ d′ o′
-    unfolding sdo.judged sdo.askedValue
+        LeavesIn (objectAsked true rq) (objectRests true rq) bs d o r bs′ d′ o′
+    unfolding sdo.toObject sdo.toRow sdo.judged sdo.askedValue isWritten
     download-applied h =
         let v = ap (λ (u : Offer). u .value) offered ∙ ap (λ (y : Entry). value (part sdo.dataPlace (y .size) rq)) (st .is-entry) in
-        rw (asked-is, fine, ← v) (h st)
+        rw (st .finds, verdict-is, fine, ← v) (h st)
 
 -- ---- a value stored and acted on
 
@@ -185,7 +185,7 @@ module _ (rq bs d o : List ℕ) {e : Entry} (st : Stands (sdo.askedIndex rq) (sd
       Holds bs before → Puts (restartedIf (eqb (e .place) (placeOf heartbeatTime))) bs bs₁ →
       Leaves (stateOf bs₁) (acts old (eqb (e .place) (placeOf mode)) (eqb (e .place) (placeOf controlWord)) (stateOf bs₁) d₁) d₁
       (take (length o₁ - frameSize) (drop frameSize o₁)) r bs′ d′ back →
-      LeavesIn (λ s d. sends (sdo.reply sdo.downloaded rq s (bytes sdo.dataSize 0)) (applied (write (st .row) v ∷ []) s d)) bs d o
+      LeavesIn (λ s d. sends (sdo.reply sdo.downloaded rq s (bytes sdo.dataSize 0)) (applied (write (st .row) v ∷ []) s d)) never bs d o
       (behindReply m r) bs′ d′ (take frameSize o₁ ++ (back ++ drop (length o₁ - frameSize) (drop frameSize o₁)))
   unfolding x stored sdo.reply emitted
   apply-left {m} {old} {r} {d₁} {o₁} {bs₁} {bs′} {d′} {back} named put told was own restarted h =

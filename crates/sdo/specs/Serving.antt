@@ -15,7 +15,7 @@ use Rattle.rules.specs.Outcome.{sentInto}
 use Rattle.dictionary.specs.declared.Entry.{Entry}
 use Rattle.dictionary.specs.Entries.{Stands}
 use Rattle.output.specs.declared.Done.{Done}
-use Rattle.output.specs.Leaves.{LeavesIn}
+use Rattle.output.specs.Leaves.{LeavesIn, never}
 use Rattle.sdo.specs.Requests.{replyOf}
 
 -- a reply with that value, and nothing else
@@ -31,7 +31,7 @@ pub record Says (c v : ℕ) (rq : List ℕ) (id : ℕ) (o : List ℕ) (r : Done)
 abbrev pub Applies : List ℕ → Entry → ℕ → List ℕ → List ℕ → List ℕ → Done → List ℕ → List ℕ → List ℕ → Type 0
 Applies rq e v bs d o r bs′ d′ o′ =
     (st : Stands (askedIndex rq) (askedSubindex rq) e) →
-    LeavesIn (λ s d. sends (reply downloaded rq s (bytes dataSize 0)) (applied (write (st .row) v ∷ []) s d)) bs d o r bs′ d′ o′
+    LeavesIn (λ s d. sends (reply downloaded rq s (bytes dataSize 0)) (applied (write (st .row) v ∷ []) s d)) never bs d o r bs′ d′ o′
 
 -- the heartbeat's count restarted where that is so
 abbrev pub restartedIf : Bool → State → State

@@ -10,7 +10,7 @@ ghost use Rattle.rules.specs.Calls.{outputLength};
 ghost use Rattle.form.specs.Form.{stateLength};
 ghost use Rattle.form.specs.Holding.{Puts};
 ghost use Rattle.output.specs.Leaves.{isMapping, Lent, LeavesIn};
-ghost use Rattle.sdo.specs.Requests.{objectAsked};
+ghost use Rattle.sdo.specs.Requests.{objectAsked, objectRests};
 ghost use Rattle.sdo.specs.Serving.{restartedIf, Applies};
 use crate::aborts::GOOD;
 use crate::offers::offer_verdict;
@@ -101,8 +101,8 @@ pub fn download(
     output: &mut [u8],
 ) -> Done
     requires { ⌜ Lent outputLength (now state) (now d) (now output) × Stands (askedIndex request) (askedSubindex request) e ⌝ }
-    ensures { λ r. ⌜ LeavesIn (objectAsked true request) (now (state .entry)) (now (d .entry)) (now (output .entry))
-        r (now (state .exit)) (now (d .exit)) (now (output .exit)) ⌝ }
+    ensures { λ r. ⌜ LeavesIn (objectAsked true request) (objectRests true request)
+        (now (state .entry)) (now (d .entry)) (now (output .entry)) r (now (state .exit)) (now (d .exit)) (now (output .exit)) ⌝ }
 {
     let offer = expedited(request, e.size);
     let node = read_node(state);

@@ -2,7 +2,7 @@
 ghost use Rattle.rules_services.specs.Sdo.{sdo};
 ghost use Rattle.rules.specs.Calls.{outputLength};
 ghost use Rattle.output.specs.Leaves.{Lent, LeavesIn};
-ghost use Rattle.sdo.specs.Requests.{objectAsked};
+ghost use Rattle.sdo.specs.Requests.{objectAsked, objectRests, sdoRests};
 use crate::aborts::NO_OBJECT;
 use crate::aborts::NO_SUBINDEX;
 use crate::aborts::UNKNOWN_COMMAND;
@@ -31,8 +31,8 @@ fn to_object(
     output: &mut [u8],
 ) -> Done
     requires { ⌜ Lent outputLength (now state) (now d) (now output) ⌝ }
-    ensures { λ r. ⌜ LeavesIn (objectAsked writing request) (now (state .entry)) (now (d .entry)) (now (output .entry))
-        r (now (state .exit)) (now (d .exit)) (now (output .exit)) ⌝ }
+    ensures { λ r. ⌜ LeavesIn (objectAsked writing request) (objectRests writing request)
+        (now (state .entry)) (now (d .entry)) (now (output .entry)) r (now (state .exit)) (now (d .exit)) (now (output .exit)) ⌝ }
 {
     let found = find(read2(&request, INDEX_PLACE), request[SUBINDEX_PLACE]);
     match found {
@@ -50,7 +50,7 @@ fn to_object(
 // One request of eight bytes, served.
 pub fn serve(request: [u8; 8], state: &mut [u8], d: &mut [u8], output: &mut [u8]) -> Done
     requires { ⌜ Lent outputLength (now state) (now d) (now output) ⌝ }
-    ensures { λ r. ⌜ LeavesIn (sdo request) (now (state .entry)) (now (d .entry)) (now (output .entry))
+    ensures { λ r. ⌜ LeavesIn (sdo request) (sdoRests request) (now (state .entry)) (now (d .entry)) (now (output .entry))
         r (now (state .exit)) (now (d .exit)) (now (output .exit)) ⌝ }
 {
     let command = command_of(request[COMMAND_PLACE]);

@@ -3,7 +3,7 @@ use Prim.Native.Nat.{ℕ}
 use native.Mathlib.Omega.{arith}
 use mathlib.Core.Path.{_≡_, refl}
 use mathlib.Core.List.{List, append-nil}
-use mathlib.Core.Bool.{true, false, false≢true}
+use mathlib.Core.Bool.{true, false}
 use lib.Bits.{bitOr}
 use lib.ListN.{length}
 use Rattle.state.specs.declared.Occasion.the-variants.{Plain}
@@ -15,6 +15,7 @@ use Rattle.rules_services.specs.Events.{genericError, faulted}
 use Rattle.rules.specs.Outcome.{sentInto}
 use Rattle.form.specs.Holding.{Holds}
 use Rattle.output.specs.Leaves.{keeping, Leaves}
+use Rattle.output.proofs.Left.{loud}
 use Rattle.emergency.specs.Emergencies.{emergencyOf}
 use borrow.Author.Needs.{needs}
 use Rattle.events.proofs.acts.faulted.Statement.{statement}
@@ -70,7 +71,7 @@ returns c =
     let sent = rw (read-node .read-node .ensures) at (c .before .before .emergency .ensures) in (
       leaves (a .code) (a .register) _ _ _ _ _ _ _ _ (error-register .error-register .ensures) (set-error-code .set-error-code .ensures)
           (set-error-register .set-error-register .ensures) sent held,
-      λ q. absurd (false≢true q),
+      loud _ _ _ refl,
     )
 
 pub faulted-spec : {M : Type 1} → statement M

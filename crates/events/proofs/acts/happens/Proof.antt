@@ -1,9 +1,9 @@
 -- `events::acts::happens` meets its contract. Assumes nothing.
 use mathlib.Core.Path.{refl}
-use mathlib.Core.Bool.{false≢true}
 use Rattle.rules_dictionary.specs.Values.{stored}
 use Rattle.rules_services.specs.Events.{happens}
 use Rattle.rules.specs.Outcome.{sentInto}
+use Rattle.output.proofs.Left.{loud}
 use Rattle.nmt.proofs.Commanding.{restated}
 use borrow.Author.Needs.{needs}
 use Rattle.events.proofs.acts.happens.Statement.{statement}
@@ -62,7 +62,7 @@ returns-5 c =
         dictionary = f .dictionary;
         output = refl;
       },
-      λ q. absurd (false≢true q),
+      loud _ _ _ refl,
     )
 
 returns-6 : tie.Need-returns-6

@@ -1,8 +1,9 @@
 -- `nmt::commands::nmt_frame` meets its contract. Assumes nothing.
+use mathlib.Core.Path.{refl}
 use mathlib.Core.Bool.{true}
 use mathlib.Core.List.{[]}
 use Rattle.form.specs.Form.{stateOf}
-use Rattle.output.proofs.Left.{left-as, calm-said}
+use Rattle.output.proofs.Left.{left-as, calm-said, resting}
 use Rattle.nmt.proofs.Commanding.{by-data}
 use borrow.Author.Needs.{needs}
 use Rattle.nmt.proofs.commands.nmt_frame.Statement.{statement}
@@ -26,7 +27,7 @@ returns-2 c =
     let s = stateOf (at .args .state .now) in
     let for-this = rw (read .read-node .ensures) at (test .before .is-for-node .ensures) in
     rw (c .nothing-done .ensures, by-data (at .args .t1) (at .pre .1 .shape) s, ← for-this, test .if1 .left)
-    (left-as s s true _ _ (at .pre .0 .lent .own), λ _. calm-said s [])
+    (left-as s s true _ _ (at .pre .0 .lent .own), resting s _ _ refl (calm-said s []))
 
 pub nmt-frame-spec : {M : Type 1} → statement M
 nmt-frame-spec =

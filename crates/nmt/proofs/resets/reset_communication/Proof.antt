@@ -1,7 +1,8 @@
 -- `nmt::resets::reset_communication` meets its contract. Assumes nothing.
-use mathlib.Core.Bool.{false≢true}
+use mathlib.Core.Path.{refl}
 use Rattle.rules_services.specs.Nmt.{commanded, left, voltageDisabled}
 use Rattle.form.specs.Form.{stateOf}
+use Rattle.output.proofs.Left.{loud}
 use Rattle.nmt.proofs.Commanding.{set-back}
 use borrow.Author.Needs.{needs}
 use Rattle.nmt.proofs.resets.reset_communication.Statement.{statement}
@@ -29,7 +30,7 @@ returns c =
     let holds = held .put-none-held .ensures _ (drive .disable-voltage .ensures _ (node .put-node .ensures s (at .pre .lent .own))) in (
       set-back (s .node .id) s _ _ _ _ _ (rw is at holds) (rw is at (written .write-communication-defaults .ensures))
           (rw is at (sent .boot-up .ensures)),
-      λ q. absurd (false≢true q),
+      loud s _ _ refl,
     )
 
 pub reset-communication-spec : {M : Type 1} → statement M

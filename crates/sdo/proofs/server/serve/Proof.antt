@@ -1,10 +1,10 @@
 -- By the command. Assumes nothing.
 use borrow.Author.Needs.{needs}
+use mathlib.Core.Path.{refl}
 use mathlib.Core.List.{[]}
-use mathlib.Core.Bool.{true}
 use mathlib.Core.Logic.{⊎-elim}
 use Rattle.rules_services.specs.Sdo.{sdo, asked, abort}
-use Rattle.output.proofs.Left.{left-as, calm-said}
+use Rattle.output.proofs.Left.{left-as, calm-said, resting}
 use Rattle.sdo.proofs.Answering.{replied}
 use Rattle.sdo.proofs.server.serve.Statement.{statement}
 use Rattle.sdo.proofs.server.serve.Tie as tie
@@ -15,7 +15,7 @@ serve-spec =
     tie.close (tie.spec (λ c. search needs) (λ c κs. search needs) (λ c. search needs) (λ c. search needs) (λ c. search needs) (λ c κs. search needs)
     (λ c. let m = c .before .before .before in let s = m .before .before .before .before in let a = s .args in
     rw (← m .command-of .ensures, c .before .enum-told3 .given .1, c .nothing-done .ensures)
-    (left-as _ _ true (a .d .now) (a .output .now) (s .pre .own), λ q. calm-said _ []))
+    (left-as _ _ _ (a .d .now) (a .output .now) (s .pre .own), resting _ _ _ refl (calm-said _ [])))
     (λ c. search needs) (λ c κs. search needs) (λ c κs. search needs) (λ c. search needs) (λ c. search needs)
     (λ c. let k = c .before .before in let n = k .before .before in let g = n .before .before in let m = g .before .before in
     let s = m .before .before .before .before in
