@@ -69,7 +69,7 @@ module _ {plan : Plan} {xs : List Row} (r : Receives plan xs) (bs : List ℕ) wh
       old ≡ read d controlWord → d₁ ≡ storedMoves (movesOf plan) bs d →
       m ≡ hasPlace (placeOf mode) (movesOf plan) → c ≡ hasPlace (placeOf controlWord) (movesOf plan) →
       Leaves s (acts old m c s d₁) d₁ o f bs′ d′ o′ × (f .quiet ≡ false) →
-      Leaves s (applied ws s d) d o f bs′ d′ o′ × Rests s (applied ws s d) f
+      Leaves s (applied ws s d) d o f bs′ d′ o′ × Rests false s (applied ws s d) f
   unfolding emitted sentInto
   applied-by {s} {d = d} {d₁ = d₁} {f = f} old m c e k a b h =
       let at = k ∙ stored-is r bs d in

@@ -4,7 +4,7 @@ use Prim.Native.Nat.{ℕ, zero, suc, _+_, _-_, _*_, _<_, _≤_}
 use native.Mathlib.Numerals.{add-one}
 use native.Mathlib.Omega.{arith}
 use mathlib.Core.Path.{_≡_, refl, sym, _∙_, ap, ap₂}
-use mathlib.Core.Bool.{Bool, true, false, cond}
+use mathlib.Core.Bool.{Bool, true, false, cond, not, _&&_}
 use lib.Dec.{ltb}
 use mathlib.Core.List.{List, [], _∷_, _++_, append-nil}
 use borrow.Author.Tests.{lt-ltb, le-ltb, lt-leb, le-leb}
@@ -35,7 +35,7 @@ use Rattle.output.proofs.Left.{lent}
 use Rattle.emergency.specs.Emergencies.{emergencyOf}
 use Rattle.emergency.proofs.Written.{emergency-by}
 use Rattle.rpdo.specs.Kept.{Serves}
-use Rattle.rpdo.specs.Traffic.{says, judged}
+use Rattle.rpdo.specs.Traffic.{says, judged, judgedRests, receivedRests}
 use Rattle.rpdo.proofs.Leaving.{renamed, left-behind}
 use Rattle.rpdo.proofs.Applied.{one-frame, keeps-applied}
 
@@ -69,6 +69,14 @@ lends k room =
 pub fits-in : {n p : ℕ} {state d o : List ℕ} → Serves n p state d o → PlanFits state p
 fits-in {p = p} {state} k = in-place state p (k .lent .whole) (k .number) (k .receives)
 
+-- ---- what is done with bytes for a PDO, and whether it is quiet
+
+abbrev as-judged : ℕ → List ℕ → State → List ℕ → Effect × Bool
+as-judged p bs s d = (judged p bs s d, judgedRests p bs s d)
+
+abbrev as-received : ℕ → List ℕ → State → List ℕ → Effect × Bool
+as-received p bs s d = (received p bs s d, receivedRests p bs s d)
+
 -- ---- as many bytes as the PDO maps
 
 module _ {needed p : ℕ} {state d o : List ℕ} (k : Serves needed p state d o) {content : PdoData} (shape : IsData content)
@@ -77,19 +85,20 @@ module _ {needed p : ℕ} {state d o : List ℕ} (k : Serves needed p state d o)
   values : unpacked (mapped d p) (dataOf content) ≡ unpacked (mapped d p) (content .bytes)
   values = unpacked-same (mapped d p) _ _ (rw (← is) (take-take (content .length) (content .length) (content .bytes) (omega arith)))
 
-  by-test : (s : State) → judged p (dataOf content) s d ≡ cond legal (heldOrApplied p (dataOf content) s d) (says valueRefused s d)
+  by-test : (s : State) → as-judged p (dataOf content) s d
+      ≡ (cond legal (heldOrApplied p (dataOf content) s d) (says valueRefused s d), not (legal && not (isSynchronous (typeOf d p))))
   unfolding judged
   by-test s = rw (values, ← legal-is (k .receives) d (content .bytes) bytes, ← tested)
 
-  pub refuses : legal ≡ false → (s : State) → judged p (dataOf content) s d ≡ says valueRefused s d
+  pub refuses : legal ≡ false → (s : State) → as-judged p (dataOf content) s d ≡ (says valueRefused s d, true)
   refuses b s = by-test s ∙ rw b
 
   module _ (b : legal ≡ true) {t : ℕ} (type : t ≡ typeOf d p) where
-    pub applies : lastSynchronous < t → (s : State) → judged p (dataOf content) s d ≡ applied (unpacked (mapped d p) (content .bytes)) s d
+    pub applies : lastSynchronous < t → (s : State) → as-judged p (dataOf content) s d ≡ (applied (unpacked (mapped d p) (content .bytes)) s d, false)
     unfolding heldOrApplied
     applies h s = by-test s ∙ rw (b, ← type, lt-leb t lastSynchronous h, values)
 
-    pub holds : t ≤ lastSynchronous → (s : State) → judged p (dataOf content) s d ≡ becomes (withHeld (set (s .axis .held) p content) s)
+    pub holds : t ≤ lastSynchronous → (s : State) → as-judged p (dataOf content) s d ≡ (becomes (withHeld (set (s .axis .held) p content) s), true)
     unfolding heldOrApplied pdoData
     holds h s = by-test s ∙ rw (b, ← type, le-leb t lastSynchronous h, length-data content shape, ← shape .zeros)
 
@@ -109,13 +118,16 @@ module _ {needed p : ℕ} {state d o : List ℕ} (k : Serves needed p state d o)
   is : n ≡ mappedLength (mapped d p)
   is = sized ∙ length-is (k .receives)
 
-  pub too-short : content .length < n → (s : State) → received p (dataOf content) s d ≡ says pdoTooShort s d
+  pub too-short : content .length < n → (s : State) → as-received p (dataOf content) s d ≡ (says pdoTooShort s d, true)
   unfolding received
   too-short h s = rw (← is, length-data content shape, lt-ltb (content .length) n h)
 
   -- not shorter: the leading bytes are used
-  leads : n ≤ content .length → (s : State) → received p (dataOf content) s d
-      ≡ sends (cond (ltb n (content .length)) (emergency pdoTooLong s d) []) (judged p (take n (content .bytes)) s d)
+  leads : n ≤ content .length → (s : State) → as-received p (dataOf content) s d
+      ≡ (
+        sends (cond (ltb n (content .length)) (emergency pdoTooLong s d) []) (judged p (take n (content .bytes)) s d),
+        judgedRests p (take n (content .bytes)) s d,
+      )
   unfolding received judged
   leads h s =
       let front = take-take n (content .length) (content .bytes) h in
@@ -123,7 +135,7 @@ module _ {needed p : ℕ} {state d o : List ℕ} (k : Serves needed p state d o)
       (rw (← is, front, take-take n n (content .bytes) (omega arith))) in
       rw (← is, length-data content shape, le-ltb (content .length) n h, values, front)
 
-  pub fits : n ≡ content .length → (s : State) → received p (dataOf content) s d ≡ judged p (dataOf content) s d
+  pub fits : n ≡ content .length → (s : State) → as-received p (dataOf content) s d ≡ as-judged p (dataOf content) s d
   fits e s = leads (omega arith) s ∙ rw (le-ltb n (content .length) (omega arith), e)
 
   -- longer: those bytes with zeros behind them, after an emergency
@@ -153,8 +165,9 @@ module _ {needed p : ℕ} {state d o : List ℕ} (k : Serves needed p state d o)
           occasion = r .occasion;
           quiet = r .quiet;
         } in
-        Leaves s now d (take (length o₁ - frameSize * m) (drop (frameSize * m) o₁)) r bs d′ part′ × Rests s now r →
-        Leaves s all d o q bs d′ (take (frameSize * m) o₁ ++ (part′ ++ drop (length o₁ - frameSize * m) (drop (frameSize * m) o₁))) × Rests s all q
+        Leaves s now d (take (length o₁ - frameSize * m) (drop (frameSize * m) o₁)) r bs d′ part′ × Rests (judgedRests p (dataOf used) s d) s now r →
+        Leaves s all d o q bs d′ (take (frameSize * m) o₁ ++ (part′ ++ drop (length o₁ - frameSize * m) (drop (frameSize * m) o₁)))
+        × Rests (receivedRests p (dataOf content) s d) s all q
     unfolding stored
     too-long {s} {m} {o₁ = o₁} {part′ = part′} {r} w g =
         let j = judged p (dataOf used) s d in
@@ -165,5 +178,10 @@ module _ {needed p : ℕ} {state d o : List ℕ} (k : Serves needed p state d o)
         ap dataOf uses ∙ ap (λ (x : Frame). x .content) (frame-of-data 0 (take n (content .bytes)) (omega (arith, short, shape .short))) in
         renamed (leads (omega arith) s ∙ rw (lt-ltb n (content .length) h, emergency-by, ← whole)) (
           left-behind [] fs (record { frames = omega (arith, w .0); touched = refl; remapped = refl; occasion = g .0 .occasion }) refl laid (g .0),
-          λ z. let c = g .1 z in record { writes = c .writes; occasion = c .occasion; nmt = c .nmt; voltage = c .voltage; drive = c .drive },
+          record {
+            told = g .1 .told;
+            calm = λ z.
+                let c = g .1 .calm z in
+                record { writes = c .writes; occasion = c .occasion; nmt = c .nmt; voltage = c .voltage; drive = c .drive };
+          },
         )

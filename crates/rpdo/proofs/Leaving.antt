@@ -21,16 +21,17 @@ use Rattle.output.specs.Laying.{emitted}
 use Rattle.output.specs.declared.Done.{Done}
 use Rattle.output.specs.Leaves.{touches, remaps, keeping, Leaves, Rests, nothingDone}
 use Rattle.output.proofs.Frames.{emitted-then}
-use Rattle.output.proofs.Left.{left-as, calm-said}
+use Rattle.output.proofs.Left.{left-as, calm-said, resting}
 use Rattle.emergency.specs.Emergencies.{emergencyOf}
 use Rattle.emergency.proofs.Written.{emergency-by}
 use Rattle.rpdo.specs.Traffic.{says}
 
--- ---- the promise under another name of the effect
+-- ---- the promise under another name of the effect, and of whether it is quiet
 
-pub renamed : {s : State} {e e′ : Effect} {d o : List ℕ} {r : Done} {bs′ d′ o′ : List ℕ} → e′ ≡ e → Leaves s e d o r bs′ d′ o′ × Rests s e r →
-    Leaves s e′ d o r bs′ d′ o′ × Rests s e′ r
-renamed {s} {d = d} {o} {r} {bs′} {d′} {o′} q h = subst (λ (x : Effect). Leaves s x d o r bs′ d′ o′ × Rests s x r) (sym q) h
+pub renamed : {s : State} {e e′ : Effect} {b b′ : Bool} {d o : List ℕ} {r : Done} {bs′ d′ o′ : List ℕ} →
+    _≡_ {A = Effect × Bool} (e′, b′) (e, b) → Leaves s e d o r bs′ d′ o′ × Rests b s e r → Leaves s e′ d o r bs′ d′ o′ × Rests b′ s e′ r
+renamed {s} {d = d} {o} {r} {bs′} {d′} {o′} q h =
+    subst (λ (x : Effect × Bool). Leaves s (x .0) d o r bs′ d′ o′ × Rests (x .1) s (x .0) r) (sym q) h
 
 -- the promise from another state that has the same plans, ready frames and paces
 pub started : {s t : State} {e : Effect} {d o : List ℕ} {r : Done} {bs′ d′ o′ : List ℕ} → keeping s (e .state) ≡ keeping t (e .state) →
@@ -49,13 +50,13 @@ started same h =
 -- ---- nothing done, and an emergency alone
 
 pub left-still : {s : State} {bs : List ℕ} {r : Done} {d o : List ℕ} → Holds bs s → r ≡ nothingDone true →
-    Leaves s (becomes s) d o r bs d o × Rests s (becomes s) r
-left-still {s} {d = d} {o} h is = rw is (left-as s s true d o h, λ q. calm-said s [])
+    Leaves s (becomes s) d o r bs d o × Rests true s (becomes s) r
+left-still {s} {d = d} {o} h is = rw is (left-as s s true d o h, resting s _ _ refl (calm-said s []))
 
 pub left-said : (code : ℕ) {s : State} {bs : List ℕ} {k : ℕ} {d o o′ : List ℕ} → Holds bs s →
     (k ≡ length (emergencyOf code (s .node) d)) × (o′ ≡ sentInto o (emergencyOf code (s .node) d)) →
     let r : Done = record { frames = k; touched = false; remapped = false; occasion = Plain; quiet = true } in
-    Leaves s (says code s d) d o r bs d o′ × Rests s (says code s d) r
+    Leaves s (says code s d) d o r bs d o′ × Rests true s (says code s d) r
 unfolding stored
 left-said code {s} {d = d} held h = (
   record {
@@ -67,7 +68,7 @@ left-said code {s} {d = d} held h = (
     dictionary = refl;
     output = rw (append-nil, emergency-by) (h .1);
   },
-  λ q. calm-said s (emergency code s d),
+  resting s _ _ refl (calm-said s (emergency code s d)),
 )
 
 -- ---- after writes and frames

@@ -4,7 +4,7 @@ use Prim.Native.Nat.{ℕ, zero, suc, _+_, _-_, _*_, _<_, _≤_}
 use native.Mathlib.Omega.{arith}
 use mathlib.Core.Path.{_≡_, refl, sym, _∙_, ap, ap₂}
 use mathlib.Core.Logic.{⊎-elim}
-use mathlib.Core.Bool.{Bool, true, false, _||_}
+use mathlib.Core.Bool.{Bool, true, false, not, _||_}
 use mathlib.Core.List.{List, [], _∷_, _++_, append-nil, append-assoc}
 use borrow.Author.Tests.{lt-ltb}
 use lib.ListN.{length, getD, take, drop, length-append, length-take, length-drop}
@@ -31,10 +31,11 @@ use Rattle.form.proofs.Holding.{held-state}
 use Rattle.mapping.specs.Received.{Receives}
 use Rattle.output.specs.Laying.{emitted}
 use Rattle.output.specs.declared.Done.{Done}
-use Rattle.output.specs.Leaves.{keeping, Leaves, LeavesIn}
+use Rattle.output.specs.Leaves.{keeping, Leaves, LeavesIn, never}
 use Rattle.output.proofs.Frames.{lent-back}
-use Rattle.output.proofs.Left.{as-effect, lent}
+use Rattle.output.proofs.Left.{as-effect, lent, loud}
 use Rattle.rpdo.specs.Kept.{Kept, Serves}
+use Rattle.rpdo.specs.Traffic.{releaseRests}
 use Rattle.rpdo.proofs.Hearing.{receiver}
 use Rattle.rpdo.proofs.Leaving.{renamed, started, behind, Behind, left-behind}
 use Rattle.rpdo.proofs.Applied.{Keeps, keeps-applied, no-mapping}
@@ -42,7 +43,7 @@ use Rattle.rpdo.proofs.Applied.{Keeps, keeps-applied, no-mapping}
 -- ---- one held frame
 
 -- whatever stands for none
-other-none : (f : PdoData → Effect) (a b : PdoData) → f a ≡ f b → (l : List PdoData) (p : ℕ) → f (getD l p a) ≡ f (getD l p b)
+other-none : (f : PdoData → Effect × Bool) (a b : PdoData) → f a ≡ f b → (l : List PdoData) (p : ℕ) → f (getD l p a) ≡ f (getD l p b)
 other-none f a b h [] p = h
 other-none f a b h (x ∷ l) zero = refl
 other-none f a b h (x ∷ l) (suc p) = other-none f a b h l p
@@ -54,6 +55,10 @@ still-serves k held =
     record { lent = lent held (l .long) (l .room) (l .id); number = k .number; receives = rw (held-state held) (k .receives) }
 
 module _ (p : ℕ) (d : List ℕ) where
+  -- what is done, and whether it is quiet
+  abbrev as-released : State → Effect × Bool
+  as-released s = (release p s d, releaseRests p s d)
+
   by : State → PdoData → Bool → Effect
   by s f b = elim b [ true ↦ applied (unpacked (mapped d p) (f .bytes)) (holding p noData s) d | false ↦ becomes s ]
 
@@ -66,27 +71,26 @@ module _ (p : ℕ) (d : List ℕ) where
       (λ h. record { own = refl; id = refl; few = omega arith; quiet = λ w i. absurd (none-in i) })
 
   -- by the held frame as the code reads it
-  by-held : (bs : List ℕ) → release p (stateOf bs) d ≡ by (stateOf bs) (heldIn bs p) (isHeld (heldIn bs p))
+  by-held : (bs : List ℕ) → as-released (stateOf bs) ≡ (by (stateOf bs) (heldIn bs p) (isHeld (heldIn bs p)), not (isHeld (heldIn bs p)))
   unfolding release by
-  by-held bs = other-none (λ f. by (stateOf bs) f (isHeld f)) noData (record { length = 0; bytes = [] }) refl (stateOf bs .axis .held) p
+  by-held bs =
+      other-none (λ f. (by (stateOf bs) f (isHeld f), not (isHeld f))) noData (record { length = 0; bytes = [] }) refl (stateOf bs .axis .held) p
 
   module _ (bs : List ℕ) {frame : PdoData} (is : frame ≡ heldIn bs p) where
-    pub none-held : frame .length ≡ 0 → release p (stateOf bs) d ≡ becomes (stateOf bs)
+    pub none-held : frame .length ≡ 0 → as-released (stateOf bs) ≡ (becomes (stateOf bs), true)
     unfolding by
     none-held n = by-held bs ∙ rw (← is, n)
 
     -- applied to the state without it
     pub one-held : (frame .length ≡ 0 → ⊥) → {bs₁ bs′ o d′ o′ : List ℕ} {r : Done} → Holds bs₁ (holding p noData (stateOf bs)) →
-        LeavesIn (applied (unpacked (mapped d p) (frame .bytes))) bs₁ d o r bs′ d′ o′ → LeavesIn (release p) bs d o r bs′ d′ o′
+        LeavesIn (applied (unpacked (mapped d p) (frame .bytes))) never bs₁ d o r bs′ d′ o′ →
+        LeavesIn (release p) (releaseRests p) bs d o r bs′ d′ o′
     unfolding by
     one-held n held g =
         let h = rw (held-state held) at g in
-        let named : release p (stateOf bs) d ≡ applied (unpacked (mapped d p) (frame .bytes)) (holding p noData (stateOf bs)) d =
+        let named : as-released (stateOf bs) ≡ (applied (unpacked (mapped d p) (frame .bytes)) (holding p noData (stateOf bs)) d, false) =
         by-held bs ∙ rw (← is, lt-ltb 0 (frame .length) (omega (arith, n))) in
-        renamed named (
-          started refl (h .0),
-          λ q. let c = h .1 q in record { writes = c .writes; occasion = c .occasion; nmt = c .nmt; voltage = c .voltage; drive = c .drive },
-        )
+        renamed named (started refl (h .0), loud _ _ _ (h .1 .told))
 
 -- ---- one after another
 
@@ -153,7 +157,7 @@ module _ {bs₀ d₀ o₀ : List ℕ} (k : Kept bs₀ d₀ o₀) {p : ℕ} (l : 
   abbrev left : ℕ
   left = length o - frameSize * frames
 
-  pub one-more : {t : Bool} {r : Done} {bs₁ d₁ part′ : List ℕ} → LeavesIn (release p) bs d (take left (drop at o)) r bs₁ d₁ part′ →
+  pub one-more : {t : Bool} {r : Done} {bs₁ d₁ part′ : List ℕ} → LeavesIn (release p) (releaseRests p) bs d (take left (drop at o)) r bs₁ d₁ part′ →
       length part′ ≡ length (take left (drop at o)) → t ≡ (touched || r .touched) →
       Underway s d₀ o₀ (p + 1) (synced (frames + r .frames) t) bs₁ d₁ (take at o ++ (part′ ++ drop left (drop at o)))
   unfolding andThen releaseAll

@@ -27,7 +27,7 @@ ghost use Rattle.rules.specs.Outcome.{frameSize};
 ghost use Rattle.output.specs.Laying.{IsData, dataOf};
 ghost use Rattle.output.specs.Leaves.{LeavesIn};
 ghost use Rattle.rpdo.specs.Kept.{Kept, Serves};
-ghost use Rattle.rpdo.specs.Traffic.{judged};
+ghost use Rattle.rpdo.specs.Traffic.{judged, judgedRests, receivedRests, receivedByRests};
 
 // Emergency code: a value that SDO would refuse.
 const VALUE_REFUSED: u16 = 0x8200;
@@ -57,8 +57,8 @@ fn leading(content: [u8; 8], n: usize) -> [u8; 8]
 fn judge(state: &mut [u8], d: &mut [u8], output: &mut [u8], p: usize, content: PdoData) -> Done
     requires { ⌜ Serves frameSize p (now state) (now d) (now output)
         × (IsData content × (content .length ≡ mappedLength (mapped (now d) p))) ⌝ }
-    ensures { λ r. ⌜ LeavesIn (judged p (dataOf content)) (now (state .entry)) (now (d .entry)) (now (output .entry))
-        r (now (state .exit)) (now (d .exit)) (now (output .exit)) ⌝ }
+    ensures { λ r. ⌜ LeavesIn (judged p (dataOf content)) (judgedRests p (dataOf content))
+        (now (state .entry)) (now (d .entry)) (now (output .entry)) r (now (state .exit)) (now (d .exit)) (now (output .exit)) ⌝ }
 {
     let bytes = content.bytes;
     if !are_legal(state, p, bytes) {
@@ -74,8 +74,8 @@ fn judge(state: &mut [u8], d: &mut [u8], output: &mut [u8], p: usize, content: P
 // A frame that receive PDO p listens to.
 fn received(state: &mut [u8], d: &mut [u8], output: &mut [u8], p: usize, content: PdoData) -> Done
     requires { ⌜ Serves outputLength p (now state) (now d) (now output) × IsData content ⌝ }
-    ensures { λ r. ⌜ LeavesIn (received p (dataOf content)) (now (state .entry)) (now (d .entry)) (now (output .entry))
-        r (now (state .exit)) (now (d .exit)) (now (output .exit)) ⌝ }
+    ensures { λ r. ⌜ LeavesIn (received p (dataOf content)) (receivedRests p (dataOf content))
+        (now (state .entry)) (now (d .entry)) (now (output .entry)) r (now (state .exit)) (now (d .exit)) (now (output .exit)) ⌝ }
 {
     let needed = length_of(state, p);
     if content.length < needed {
@@ -105,8 +105,8 @@ pub fn receive(
     content: PdoData,
 ) -> Done
     requires { ⌜ Kept (now state) (now d) (now output) × IsData content ⌝ }
-    ensures { λ r. ⌜ LeavesIn (receivedBy receivePdos identifier (dataOf content)) (now (state .entry)) (now (d .entry)) (now (output .entry))
-        r (now (state .exit)) (now (d .exit)) (now (output .exit)) ⌝ }
+    ensures { λ r. ⌜ LeavesIn (receivedBy receivePdos identifier (dataOf content)) (receivedByRests receivePdos identifier (dataOf content))
+        (now (state .entry)) (now (d .entry)) (now (output .entry)) r (now (state .exit)) (now (d .exit)) (now (output .exit)) ⌝ }
 {
     let node = read_node(state);
     let nmt = node.nmt;

@@ -17,9 +17,9 @@ ghost use Rattle.rules_dictionary.specs.Table.{receivePdos};
 ghost use Rattle.rules_services.specs.Effects.{on};
 ghost use Rattle.rules_services.specs.PdoTraffic.{release, releaseAll};
 ghost use Rattle.rules.specs.Outcome.{frameSize};
-ghost use Rattle.output.specs.Leaves.{LeavesIn};
+ghost use Rattle.output.specs.Leaves.{LeavesIn, never};
 ghost use Rattle.rpdo.specs.Kept.{Kept, Serves};
-ghost use Rattle.rpdo.specs.Traffic.{syncOf};
+ghost use Rattle.rpdo.specs.Traffic.{releaseRests, syncOf, syncRests};
 
 // The emergency code of a SYNC with data.
 const SYNC_LENGTH: u16 = 0x8240;
@@ -27,7 +27,7 @@ const SYNC_LENGTH: u16 = 0x8240;
 // The held frame of receive PDO p, if any, applied, and held no more.
 fn release(state: &mut [u8], d: &mut [u8], output: &mut [u8], p: usize) -> Done
     requires { ⌜ Serves frameSize p (now state) (now d) (now output) ⌝ }
-    ensures { λ r. ⌜ LeavesIn (release p) (now (state .entry)) (now (d .entry)) (now (output .entry))
+    ensures { λ r. ⌜ LeavesIn (release p) (releaseRests p) (now (state .entry)) (now (d .entry)) (now (output .entry))
         r (now (state .exit)) (now (d .exit)) (now (output .exit)) ⌝ }
 {
     let frame = read_held_frame(state, p);
@@ -53,8 +53,8 @@ fn either(a: bool, b: bool) -> bool
 // Every held frame released, in rising order: what is left to release from p on is what was at the start, less what is done.
 fn release_all(state: &mut [u8], d: &mut [u8], output: &mut [u8]) -> Done
     requires { ⌜ Kept (now state) (now d) (now output) ⌝ }
-    ensures { λ r. ⌜ LeavesIn (λ s d₀. on Synced (releaseAll receivePdos s d₀)) (now (state .entry)) (now (d .entry)) (now (output .entry))
-        r (now (state .exit)) (now (d .exit)) (now (output .exit)) ⌝ }
+    ensures { λ r. ⌜ LeavesIn (λ s d₀. on Synced (releaseAll receivePdos s d₀)) never
+        (now (state .entry)) (now (d .entry)) (now (output .entry)) r (now (state .exit)) (now (d .exit)) (now (output .exit)) ⌝ }
 {
     let mut frames: usize = 0;
     let mut touched = false;
@@ -77,7 +77,7 @@ fn release_all(state: &mut [u8], d: &mut [u8], output: &mut [u8]) -> Done
 // A SYNC of that many data bytes. One that is not served is quiet.
 pub fn sync(state: &mut [u8], d: &mut [u8], output: &mut [u8], length: u8) -> Done
     requires { ⌜ Kept (now state) (now d) (now output) ⌝ }
-    ensures { λ r. ⌜ LeavesIn (syncOf length) (now (state .entry)) (now (d .entry)) (now (output .entry))
+    ensures { λ r. ⌜ LeavesIn (syncOf length) (syncRests length) (now (state .entry)) (now (d .entry)) (now (output .entry))
         r (now (state .exit)) (now (d .exit)) (now (output .exit)) ⌝ }
 {
     let node = read_node(state);

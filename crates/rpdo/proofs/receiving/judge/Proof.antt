@@ -3,7 +3,7 @@ use mathlib.Core.Path.{refl}
 use mathlib.Core.Bool.{true}
 use borrow.Author.Needs.{needs}
 use borrow.Author.Tests.{not-true, not-false}
-use Rattle.output.proofs.Left.{left-as}
+use Rattle.output.proofs.Left.{left-as, resting}
 use Rattle.rpdo.proofs.Leaving.{renamed}
 use Rattle.rpdo.proofs.Frames.{fits-in, refuses, applies, holds}
 use Rattle.rpdo.proofs.receiving.judge.Statement.{statement}
@@ -43,7 +43,7 @@ returns-3 c =
     rw (c .nothing-done .ensures)
     (renamed (holds (k .0) (k .1 .0) (k .1 .1) (l .0) (l .1) (not-false _ (o .if1 .left)) (t .before .transmission-type .ensures) (t .if2 .left) _) (
       left-as _ _ true (a .d .now) (a .output .now) held,
-      λ q. record { writes = refl; occasion = refl; nmt = refl; voltage = refl; drive = refl },
+      resting _ _ _ refl (record { writes = refl; occasion = refl; nmt = refl; voltage = refl; drive = refl }),
     ))
 
 pub judge-spec : {M : Type 1} → statement M

@@ -9,10 +9,9 @@ use borrow.Author.Tests.{not-true, not-false}
 use lib.ListN.{length, drop}
 use Rattle.state.specs.NmtStates.{isOperational}
 use Rattle.rules_dictionary.specs.Table.{eachWay, receivePdos}
-use Rattle.rules_services.specs.PdoTraffic.{receivedBy}
 use Rattle.form.specs.Form.{stateOf}
 use Rattle.output.specs.Laying.{dataOf}
-use Rattle.rpdo.proofs.Hearing.{receiver, not-served, for-it, for-others, for-none}
+use Rattle.rpdo.proofs.Hearing.{receiver, outcome, not-served, for-it, for-others, for-none}
 use Rattle.rpdo.proofs.Leaving.{renamed, left-still}
 use Rattle.rpdo.proofs.receiving.receive.Statement.{statement}
 use Rattle.rpdo.proofs.receiving.receive.Tie as tie
@@ -20,8 +19,8 @@ use Rattle.rpdo.proofs.receiving.receive.Tie as tie
 abbrev Inv-loop : tie.InvT-loop
 Inv-loop state₀ d₀ output₀ identifier content p₀ state d output p =
     (p ≤ eachWay) × (state ≡ state₀) × (d ≡ d₀) × (output ≡ output₀)
-    × (receivedBy (drop p receivePdos) identifier (dataOf content) (stateOf state₀) d₀
-    ≡ receivedBy receivePdos identifier (dataOf content) (stateOf state₀) d₀)
+    × (outcome identifier (dataOf content) (stateOf state₀) d₀ (drop p receivePdos)
+    ≡ outcome identifier (dataOf content) (stateOf state₀) d₀ receivePdos)
 
 abbrev μ-loop : tie.MeasureT-loop
 μ-loop state₀ d₀ output₀ identifier content p₀ state d output p = eachWay - p

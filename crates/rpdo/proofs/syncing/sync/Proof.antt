@@ -1,20 +1,29 @@
 -- `rpdo::syncing::sync` meets its contract. Assumes nothing.
-use mathlib.Core.Path.{_≡_, sym, _∙_}
-use mathlib.Core.Bool.{false}
+use mathlib.Core.Path.{_≡_, refl, sym, _∙_}
+use mathlib.Core.Bool.{true, false, and-false, false≢true}
 use borrow.Author.Needs.{needs}
 use borrow.Author.Tests.{eq-eqb, ne-eqb}
-use Rattle.state.specs.NmtStates.{isStopped}
+use Rattle.state.specs.declared.NmtState.{NmtState}
+use Rattle.state.specs.declared.NmtState.the-variants.{PreOperational, Operational, Stopped}
+use Rattle.state.specs.NmtStates.{isStopped, isOperational}
 use Rattle.form.specs.Form.{stateOf}
 use Rattle.rpdo.specs.Traffic.{syncOf}
 use Rattle.rpdo.proofs.Leaving.{left-still}
 use Rattle.rpdo.proofs.syncing.sync.Statement.{statement}
 use Rattle.rpdo.proofs.syncing.sync.Tie as tie
 
+-- Stopped is not Operational
+not-served : (m : NmtState) → isStopped m ≡ true → isOperational m ≡ false
+not-served PreOperational h = refl
+not-served Operational h = absurd (false≢true h)
+not-served Stopped h = refl
+
 returns : tie.Need-returns
 unfolding syncOf
 returns c =
     let n = c .before .before .before in
-    rw (sym (rw (n .read-node .ensures) at (c .before .before .is-stopped .ensures)) ∙ c .before .if1 .taken)
+    let stopped = sym (rw (n .read-node .ensures) at (c .before .before .is-stopped .ensures)) ∙ c .before .if1 .taken in
+    rw (stopped, not-served _ stopped)
     (left-still (n .before .before .before .before .before .pre .lent .own) (c .nothing-done .ensures))
 
 -- past the test of the NMT state the node is not Stopped
@@ -27,7 +36,7 @@ returns-2 c =
     let t = c .before .before .before .before .before .before in
     let n = t .before in
     let a = n .before .before .before .before .before .before .before .args in
-    rw (served n, ne-eqb (a .length) 0 (t .if2 .taken)) (c .before .before .refused .ensures)
+    rw (served n, ne-eqb (a .length) 0 (t .if2 .taken), and-false) (c .before .before .refused .ensures)
 
 returns-3 : tie.Need-returns-3
 unfolding syncOf
