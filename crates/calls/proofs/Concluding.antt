@@ -18,8 +18,8 @@ use Rattle.state.specs.declared.State.{State}
 use Rattle.state.specs.NmtStates.{isOperational}
 use Rattle.rules_services.specs.Effects.{Effect, Frame}
 use Rattle.rules_services.specs.PdoTraffic.{works, idle}
-use Rattle.rules.specs.Outcome.{End, ended, settled, statusOf, driveAtEnd, paceFor, entersOperational, changes}
-use Rattle.rules.specs.Outcome.{transmissions, transmitters, frameSize, sentInto}
+use Rattle.rules.specs.Outcome.{End, ended, settled, statusOf, driveAtEnd, paceFor, entersOperational, changes, transmissions, transmitters}
+use Rattle.rules.specs.Outcome.{frameSize, sentInto}
 use Rattle.rules.specs.Calls.{accepted}
 use Rattle.theorems.proofs.Lawful.{Lawful, clauses, sound-lawful}
 use Rattle.theorems.proofs.Runs.{lawful}
@@ -102,7 +102,7 @@ few-spoken n e w =
     subst (λ (l : List Frame). length l ≤ mostBefore) (sym (k .whole)) (rw (length-append, length-append) (k .few))
 
 module _ {s : State} {d o : List ℕ} {e : Effect} {r : Done} {bs′ d′ o′ : List ℕ} (h : Stands s d o) (b : areBytes d ≡ true)
-    (serves : Serves Unit s d e) (left : Leaves s e d o r bs′ d′ o′) (rest : Rests s e r) where
+    (serves : Serves Unit s d e) (left : Leaves s e d o r bs′ d′ o′) {quiet : Bool} (rest : Rests quiet s e r) where
   law : Lawful s d
   law = sound-lawful s d (h .long) (h .sound)
 
@@ -143,7 +143,7 @@ module _ {s : State} {d o : List ℕ} {e : Effect} {r : Done} {bs′ d′ o′ :
   still-at : r .quiet ≡ true → Still (isOperational (s .node .nmt)) (keeping s (e .state)) r d′
   unfolding stored
   still-at q =
-      let c = rest q in
+      let c = rest .calm (sym (rest .told) ∙ q) in
       let none : d′ ≡ d = left .dictionary ∙ rw (c .writes) in
       rw none (end-still s (keeping s (e .state)) (r .occasion) d (h .long) b (h .sound) (c .nmt) (c .voltage) (c .drive)
       (plans-are s d (clauses s d (h .sound) .plans)) fresh refl (rw (left .occasion) (c .occasion)))

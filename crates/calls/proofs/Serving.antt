@@ -4,7 +4,7 @@ use Prim.Native.Nat.{ℕ, _+_}
 use native.Mathlib.Omega.{arith}
 use mathlib.Core.Path.{_≡_, sym, _∙_, ap}
 use mathlib.Core.Bool.{Bool, true, false, cond, and-false}
-use mathlib.Core.List.{List, []}
+use mathlib.Core.List.{List}
 use borrow.Author.Tests.{leb-true, eq-eqb, ne-eqb}
 use lib.Dec.{eqb, leb}
 use lib.ListN.{length}
@@ -25,17 +25,16 @@ use Rattle.theorems.proofs.Lawful.{Lawful, clauses, sound-lawful}
 use Rattle.rules_dictionary.proofs.Padded.{length-padded}
 use Rattle.soundness.proofs.Fresh.{plans-are}
 use Rattle.form.specs.Form.{stateOf}
-use Rattle.form.specs.Holding.{Holds}
-use Rattle.output.specs.declared.Done.{Done}
 use Rattle.output.specs.Laying.{OnBus, dataOf}
 use Rattle.output.proofs.Frames.{length-data}
-use Rattle.output.proofs.Left.{lent, left-as, calm-said}
-use Rattle.output.specs.Leaves.{Lent, nothingDone, Leaves, Rests}
-use Rattle.nmt.specs.Commanding.{Commandable}
+use Rattle.output.proofs.Left.{lent}
+use Rattle.output.specs.Leaves.{Lent}
+use Rattle.nmt.specs.Commanding.{Commandable, isForOthers}
 use Rattle.rpdo.specs.Kept.{Kept}
-use Rattle.rpdo.specs.Traffic.{syncOf}
+use Rattle.sdo.specs.Requests.{sdoRests}
+use Rattle.rpdo.specs.Traffic.{syncOf, syncRests, receivedByRests}
 use Rattle.rpdo.proofs.Callable.{lawful-kept, sync-by-length}
-use Rattle.calls.specs.Frames.{Starts, requested, serviced}
+use Rattle.calls.specs.Frames.{Starts, requested, serviced, requestedRests, servicedRests, framedRests}
 
 -- ---- of a sound state and dictionary
 
@@ -56,56 +55,64 @@ module _ {bs d o : List ℕ} (h : Starts bs d o) where
   pub kept : Kept bs d o
   kept = lawful-kept (h .own) law (plans-are (stateOf bs) d (clauses (stateOf bs) d (h .stands .sound) .plans)) (h .stands .room)
 
--- ---- the effect, by what the code tests
+-- ---- the effect, and where nothing is left to do, by what the code tests
 
-module _ (bs : List ℕ) (s : State) (d : List ℕ) where
-  pub framed-nmt : (i : ℕ) → i ≡ nmtIdentifier → framed i bs s d ≡ nmt bs s
+module _ (content : PdoData) (s : State) (d : List ℕ) where
+  abbrev asFramed : ℕ → Effect × Bool
+  asFramed i = (framed i (dataOf content) s d, framedRests i content s d)
+
+  abbrev asServiced : ℕ → Effect × Bool
+  asServiced i = (serviced i (dataOf content) s d, servicedRests i (dataOf content) s d)
+
+  abbrev asRequested : Effect × Bool
+  asRequested = (requested (dataOf content) s d, requestedRests (dataOf content) s d)
+
+  pub framed-nmt : (i : ℕ) → i ≡ nmtIdentifier → asFramed i ≡ (nmt (dataOf content) s, isForOthers content s d)
   unfolding framed
   framed-nmt i e = rw (eq-eqb i nmtIdentifier e)
 
-  pub framed-serviced : (i : ℕ) → (i ≡ nmtIdentifier → ⊥) → framed i bs s d ≡ serviced i bs s d
+  pub framed-serviced : (i : ℕ) → (i ≡ nmtIdentifier → ⊥) → asFramed i ≡ asServiced i
   unfolding framed
   framed-serviced i n = rw (ne-eqb i nmtIdentifier n)
 
-  pub serviced-sync : (i : ℕ) → i ≡ syncBase → serviced i bs s d ≡ sync bs s d
+  pub serviced-sync : (i : ℕ) → i ≡ syncBase → asServiced i ≡ (sync (dataOf content) s d, syncRests (length (dataOf content)) s d)
   serviced-sync i e = rw (eq-eqb i syncBase e)
 
-  pub serviced-request : (i : ℕ) → (i ≡ syncBase → ⊥) → i ≡ requestBase + s .node .id → serviced i bs s d ≡ requested bs s d
+  pub serviced-request : (i : ℕ) → (i ≡ syncBase → ⊥) → i ≡ requestBase + s .node .id → asServiced i ≡ asRequested
   serviced-request i n e = rw (ne-eqb i syncBase n, eq-eqb i (requestBase + s .node .id) e)
 
   pub serviced-received : (i : ℕ) → (i ≡ syncBase → ⊥) → (i ≡ requestBase + s .node .id → ⊥) →
-      serviced i bs s d ≡ receivedBy receivePdos i bs s d
+      asServiced i ≡ (receivedBy receivePdos i (dataOf content) s d, receivedByRests receivePdos i (dataOf content) s d)
   serviced-received i n k = rw (ne-eqb i syncBase n, ne-eqb i (requestBase + s .node .id) k)
 
--- ---- a frame as data
+  -- ---- a frame as data
 
-module _ (content : PdoData) (c : OnBus content) (s : State) (d : List ℕ) where
-  pub sync-is : sync (dataOf content) s d ≡ syncOf (content .length) s d
-  sync-is = sync-by-length (dataOf content) s d ∙ ap (λ (n : ℕ). syncOf n s d) (length-data content (c .shape))
+  module _ (c : OnBus content) where
+    pub sync-is : _≡_ {A = Effect × Bool} (sync (dataOf content) s d, syncRests (length (dataOf content)) s d)
+        (syncOf (content .length) s d, syncRests (content .length) s d)
+    sync-is =
+        ap (λ (e : Effect). (e, syncRests (length (dataOf content)) s d)) (sync-by-length (dataOf content) s d)
+        ∙ ap (λ (n : ℕ). (syncOf n s d, syncRests n s d)) (length-data content (c .shape))
 
-  whole-data : content .length ≡ requestLength → dataOf content ≡ content .bytes
-  whole-data e =
-      let l : length (content .bytes) ≡ mostData = ap length (c .shape .zeros) ∙ length-padded 0 mostData (dataOf content) in
-      take-all (content .length) (content .bytes) (omega (arith, l, e))
+    whole-data : content .length ≡ requestLength → dataOf content ≡ content .bytes
+    whole-data e =
+        let l : length (content .bytes) ≡ mostData = ap length (c .shape .zeros) ∙ length-padded 0 mostData (dataOf content) in
+        take-all (content .length) (content .bytes) (omega (arith, l, e))
 
-  pub request-served : isStopped (s .node .nmt) ≡ false → content .length ≡ requestLength →
-      requested (dataOf content) s d ≡ sdo (content .bytes) s d
-  request-served on e =
-      let bs = dataOf content in
-      let long : eqb (length bs) requestLength ≡ true = eq-eqb (length bs) requestLength (length-data content (c .shape) ∙ e) in
-      rw (long, on) (ap (λ (x : List ℕ). sdo x s d) (whole-data e))
+    pub request-served : isStopped (s .node .nmt) ≡ false → content .length ≡ requestLength →
+        asRequested ≡ (sdo (content .bytes) s d, sdoRests (content .bytes) s d)
+    request-served on e =
+        let bs = dataOf content in
+        let long : eqb (length bs) requestLength ≡ true = eq-eqb (length bs) requestLength (length-data content (c .shape) ∙ e) in
+        rw (long, on) (ap (λ (x : List ℕ). (sdo x s d, sdoRests x s d)) (whole-data e))
 
-  -- a request that is not served
-  pub request-stopped : isStopped (s .node .nmt) ≡ true → requested (dataOf content) s d ≡ becomes s
-  request-stopped on =
-      rw on (ap (λ (x : Bool). cond x (sdo (dataOf content) s d) (becomes s)) (and-false (eqb (length (dataOf content)) requestLength)))
+    -- a request that is not served
+    pub request-stopped : isStopped (s .node .nmt) ≡ true → asRequested ≡ (becomes s, true)
+    request-stopped on =
+        let bs = dataOf content in
+        rw on (ap (λ (x : Bool). (cond x (sdo bs s d) (becomes s), cond x (sdoRests bs s d) true)) (and-false (eqb (length bs) requestLength)))
 
-  pub request-short : (content .length ≡ requestLength → ⊥) → requested (dataOf content) s d ≡ becomes s
-  request-short n =
-      let other : eqb (length (dataOf content)) requestLength ≡ false = ne-eqb _ _ (λ e. n (sym (length-data content (c .shape)) ∙ e)) in
-      rw other
-
--- a frame that is not served
-pub idle-served : {s : State} {e : Effect} {bs d o : List ℕ} {r : Done} → Holds bs s → e ≡ becomes s → r ≡ nothingDone true →
-    Leaves s e d o r bs d o × Rests s e r
-idle-served {s} {e} {bs} {d} {o} own is q = rw (is, q) (left-as s s true d o own, λ _. calm-said s [])
+    pub request-short : (content .length ≡ requestLength → ⊥) → asRequested ≡ (becomes s, true)
+    request-short n =
+        let other : eqb (length (dataOf content)) requestLength ≡ false = ne-eqb _ _ (λ e. n (sym (length-data content (c .shape)) ∙ e)) in
+        rw other

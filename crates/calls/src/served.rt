@@ -4,7 +4,7 @@ ghost use Rattle.rules_services.specs.Nmt.{nmtIdentifier};
 ghost use Rattle.rules.specs.Calls.{framed};
 ghost use Rattle.output.specs.Laying.{OnBus, dataOf};
 ghost use Rattle.output.specs.Leaves.{LeavesIn};
-ghost use Rattle.calls.specs.Frames.{Starts, requested, serviced};
+ghost use Rattle.calls.specs.Frames.{Starts, requested, serviced, requestedRests, servicedRests, framedRests};
 use form::read_node;
 use nmt::nmt_frame;
 use output::Done;
@@ -26,8 +26,8 @@ const REQUEST_LENGTH: u8 = 8;
 // A frame on the SDO server's identifier: "Served in Pre-operational and Operational, .. length 8".
 fn request(content: PdoData, state: &mut [u8], d: &mut [u8], output: &mut [u8]) -> Done
     requires { ⌜ Starts (now state) (now d) (now output) × OnBus content ⌝ }
-    ensures { λ r. ⌜ LeavesIn (requested (dataOf content)) (now (state .entry)) (now (d .entry)) (now (output .entry))
-        r (now (state .exit)) (now (d .exit)) (now (output .exit)) ⌝ }
+    ensures { λ r. ⌜ LeavesIn (requested (dataOf content)) (requestedRests (dataOf content))
+        (now (state .entry)) (now (d .entry)) (now (output .entry)) r (now (state .exit)) (now (d .exit)) (now (output .exit)) ⌝ }
 {
     let node = read_node(state);
     let nmt = node.nmt;
@@ -50,8 +50,8 @@ fn service(
     output: &mut [u8],
 ) -> Done
     requires { ⌜ Starts (now state) (now d) (now output) × (OnBus content × (identifier ≡ nmtIdentifier → ⊥)) ⌝ }
-    ensures { λ r. ⌜ LeavesIn (serviced identifier (dataOf content)) (now (state .entry)) (now (d .entry)) (now (output .entry))
-        r (now (state .exit)) (now (d .exit)) (now (output .exit)) ⌝ }
+    ensures { λ r. ⌜ LeavesIn (serviced identifier (dataOf content)) (servicedRests identifier (dataOf content))
+        (now (state .entry)) (now (d .entry)) (now (output .entry)) r (now (state .exit)) (now (d .exit)) (now (output .exit)) ⌝ }
 {
     if identifier == SYNC {
         return sync(state, d, output, content.length);
@@ -72,8 +72,8 @@ pub fn serve_frame(
     output: &mut [u8],
 ) -> Done
     requires { ⌜ Starts (now state) (now d) (now output) × OnBus content ⌝ }
-    ensures { λ r. ⌜ LeavesIn (framed identifier (dataOf content)) (now (state .entry)) (now (d .entry)) (now (output .entry))
-        r (now (state .exit)) (now (d .exit)) (now (output .exit)) ⌝ }
+    ensures { λ r. ⌜ LeavesIn (framed identifier (dataOf content)) (framedRests identifier content)
+        (now (state .entry)) (now (d .entry)) (now (output .entry)) r (now (state .exit)) (now (d .exit)) (now (output .exit)) ⌝ }
 {
     if identifier == NMT {
         return nmt_frame(content, state, d, output);

@@ -16,7 +16,7 @@ use Rattle.rules_dictionary.specs.Numbers.{bytes, padded}
 use Rattle.rules_dictionary.specs.Table.{statusWord, modeDisplay, eachWay}
 use Rattle.rules_dictionary.specs.Values.{store, stored}
 use Rattle.rules_dictionary.specs.Legal.{modeNumber}
-use Rattle.rules_dictionary.specs.Plans.{plansOf, readyOf}
+use Rattle.rules_dictionary.specs.Plans.{plansOf, readyOf, mostBytes}
 use Rattle.drive.specs.StatusWord.{status}
 use Rattle.rules_services.specs.Effects.{Frame, Effect, withDrive}
 use Rattle.state.specs.NmtStates.{isStopped, isOperational}
@@ -112,7 +112,7 @@ ended s d e =
 -- zero. Bytes past the frames reported stay."
 
 abbrev pub mostData : ℕ
-mostData = 8
+mostData = mostBytes
 
 -- identifier, length, data
 abbrev pub frameSize : ℕ

@@ -44,9 +44,12 @@ unfoldable pub joined : List ℕ → List Row → List ℕ
 joined d [] = []
 joined d (x ∷ xs) = field d x ++ joined d xs
 
--- data with its unused bytes zero
+-- "eight data bytes, unused ones zero"
+abbrev pub mostBytes : ℕ
+mostBytes = 8
+
 unfoldable pub pdoData : List ℕ → PdoData
-pdoData bs = record { length = length bs; bytes = padded 0 mostMoves bs }
+pdoData bs = record { length = length bs; bytes = padded 0 mostBytes bs }
 
 unfoldable pub readyFor : List ℕ → ℕ → PdoData
 readyFor d p = pdoData (joined d (mapped d p))

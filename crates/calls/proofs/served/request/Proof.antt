@@ -3,8 +3,8 @@ use mathlib.Core.Path.{sym, _∙_, ap}
 use Rattle.state.specs.declared.Node.{Node}
 use Rattle.state.specs.NmtStates.{isStopped}
 use Rattle.form.specs.Form.{stateOf}
-use Rattle.rpdo.proofs.Leaving.{renamed}
-use Rattle.calls.proofs.Serving.{idle-served, lent-all, request-served, request-stopped, request-short}
+use Rattle.rpdo.proofs.Leaving.{renamed, left-still}
+use Rattle.calls.proofs.Serving.{lent-all, request-served, request-stopped, request-short}
 use borrow.Author.Needs.{needs}
 use Rattle.calls.proofs.served.request.Statement.{statement}
 use Rattle.calls.proofs.served.request.Tie as tie
@@ -14,15 +14,15 @@ returns c =
     let start = c .before .before .before .before .before .before .before .before in
     let a = start .args in
     let own = ap (λ (n : Node). isStopped (n .nmt)) (sym (c .before .before .before .read-node .ensures)) in
-    idle-served (start .pre .0 .own) (request-stopped (a .content) (start .pre .1) (stateOf (a .state .now)) (a .d .now)
-    (own ∙ sym (c .before .before .is-stopped .ensures) ∙ c .before .if1 .taken)) (c .nothing-done .ensures)
+    renamed (request-stopped (a .content) (stateOf (a .state .now)) (a .d .now) (start .pre .1)
+    (own ∙ sym (c .before .before .is-stopped .ensures) ∙ c .before .if1 .taken)) (left-still (start .pre .0 .own) (c .nothing-done .ensures))
 
 returns-2 : tie.Need-returns-2
 returns-2 c =
     let start = c .before .before .before .before .before .before .before .before .before .before in
     let a = start .args in
-    idle-served (start .pre .0 .own) (request-short (a .content) (start .pre .1) (stateOf (a .state .now)) (a .d .now) (c .before .if2 .taken))
-    (c .nothing-done2 .ensures)
+    renamed (request-short (a .content) (stateOf (a .state .now)) (a .d .now) (start .pre .1) (c .before .if2 .taken))
+    (left-still (start .pre .0 .own) (c .nothing-done2 .ensures))
 
 serve-requires : tie.Need-serve-requires
 serve-requires c κs =
@@ -39,7 +39,7 @@ returns-3 c =
     let start = read-node .before .before .before .before .before in
     let a = start .args in
     let own = ap (λ (n : Node). isStopped (n .nmt)) (sym (read-node .read-node .ensures)) in
-    renamed (request-served (a .content) (start .pre .1) (stateOf (a .state .now)) (a .d .now)
+    renamed (request-served (a .content) (stateOf (a .state .now)) (a .d .now) (start .pre .1)
     (own ∙ sym (is-stopped .is-stopped .ensures) ∙ first .if1 .left) (second .if2 .left)) (serve .serve .ensures)
 
 pub request-spec : {M : Type 1} → statement M

@@ -1,6 +1,5 @@
 -- `calls::served::serve_frame` meets its contract. Assumes nothing.
 use Rattle.form.specs.Form.{stateOf}
-use Rattle.output.specs.Laying.{dataOf}
 use Rattle.rpdo.proofs.Leaving.{renamed}
 use Rattle.calls.proofs.Serving.{commandable, framed-nmt, framed-serviced}
 use borrow.Author.Needs.{needs}
@@ -13,7 +12,7 @@ returns c =
     let first = nmt-frame .before .before .before .before in
     let start = first .before .before .before .before in
     let a = start .args in
-    renamed (framed-nmt (dataOf (a .content)) (stateOf (a .state .now)) (a .d .now) (a .identifier) (first .if1 .taken))
+    renamed (framed-nmt (a .content) (stateOf (a .state .now)) (a .d .now) (a .identifier) (first .if1 .taken))
     (nmt-frame .nmt-frame .ensures)
 
 returns-2 : tie.Need-returns-2
@@ -22,7 +21,7 @@ returns-2 c =
     let first = service .before .before .before .before in
     let start = first .before .before .before .before in
     let a = start .args in
-    renamed (framed-serviced (dataOf (a .content)) (stateOf (a .state .now)) (a .d .now) (a .identifier) (first .if1 .left))
+    renamed (framed-serviced (a .content) (stateOf (a .state .now)) (a .d .now) (a .identifier) (first .if1 .left))
     (service .service .ensures)
 
 pub serve-frame-spec : {M : Type 1} → statement M

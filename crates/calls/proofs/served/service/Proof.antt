@@ -4,7 +4,6 @@ use mathlib.Core.Path.{sym, _∙_, ap}
 use Rattle.state.specs.declared.Node.{Node}
 use Rattle.rules_services.specs.Sdo.{requestBase}
 use Rattle.form.specs.Form.{stateOf}
-use Rattle.output.specs.Laying.{dataOf}
 use Rattle.rpdo.proofs.Leaving.{renamed}
 use Rattle.calls.proofs.Serving.{kept, serviced-sync, serviced-request, serviced-received, sync-is}
 use borrow.Author.Needs.{needs}
@@ -18,8 +17,8 @@ returns c =
     let start = first .before .before .before .before in
     let a = start .args in
     let s = stateOf (a .state .now) in
-    renamed (serviced-sync (dataOf (a .content)) s (a .d .now) (a .identifier) (first .if1 .taken)
-    ∙ sync-is (a .content) (start .pre .1 .0) s (a .d .now)) (sync .sync .ensures)
+    renamed (serviced-sync (a .content) s (a .d .now) (a .identifier) (first .if1 .taken)
+    ∙ sync-is (a .content) s (a .d .now) (start .pre .1 .0)) (sync .sync .ensures)
 
 returns-2 : tie.Need-returns-2
 returns-2 c =
@@ -30,7 +29,7 @@ returns-2 c =
     let start = first .before .before .before .before in
     let a = start .args in
     let own = ap (λ (n : Node). requestBase + n .id) (read-node .read-node .ensures) in
-    renamed (serviced-request (dataOf (a .content)) (stateOf (a .state .now)) (a .d .now) (a .identifier) (first .if1 .left)
+    renamed (serviced-request (a .content) (stateOf (a .state .now)) (a .d .now) (a .identifier) (first .if1 .left)
     (second .if2 .taken ∙ own)) (request .request .ensures)
 
 returns-3 : tie.Need-returns-3
@@ -42,7 +41,7 @@ returns-3 c =
     let start = first .before .before .before .before in
     let a = start .args in
     let own = ap (λ (n : Node). requestBase + n .id) (read-node .read-node .ensures) in
-    renamed (serviced-received (dataOf (a .content)) (stateOf (a .state .now)) (a .d .now) (a .identifier) (first .if1 .left)
+    renamed (serviced-received (a .content) (stateOf (a .state .now)) (a .d .now) (a .identifier) (first .if1 .left)
     (λ e. second .if2 .left (e ∙ sym own))) (receive .receive .ensures)
 
 pub service-spec : {M : Type 1} → statement M
