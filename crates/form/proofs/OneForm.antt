@@ -9,7 +9,7 @@ use mathlib.Core.List.{List, [], _∷_}
 use borrow.Author.Tests.{eq-eqb, eqb-true}
 use lib.Dec.{eqb, lit<}
 use lib.ListN.{length, getD}
-use Rattle.rules_dictionary.specs.Numbers.{value, bytes, part}
+use Rattle.rules_dictionary.specs.Numbers.{value, part}
 use Rattle.rules_dictionary.specs.Table.{eachWay, mostMoves}
 use Rattle.rules_dictionary.proofs.Tests.{and-left, and-right}
 use Rattle.drive.specs.declared.SetPoint.{SetPoint}

@@ -88,10 +88,6 @@ unfolding open-rules open-promises
 fresh-when-started = refl
 
 -- ---- ChangesNoOther: the list, by indices, and the bytes of all other rows
-abbrev upTo : ℕ → List ℕ
-upTo zero = []
-upTo (suc n) = n ∷ upTo n
-
 -- with zeros in those rows
 abbrev blanked : List Row → List ℕ → List ℕ
 blanked xs d = stored (map (λ x. write x 0) xs) d

@@ -31,7 +31,7 @@ use Rattle.drive.specs.SetPoints.{newSetPointBit}
 use Rattle.drive.specs.declared.Drive.{Drive}
 use Rattle.rules_services.specs.Effects.{Frame, frame}
 use Rattle.state.specs.NmtStates.{isStopped, isOperational}
-use Rattle.rules_services.specs.Emergency.{emergency, emergencyBase, pdoTooShort, faultGone, valueRefused, pdoTooLong}
+use Rattle.rules_services.specs.Emergency.{emergencyBase, pdoTooShort, faultGone, valueRefused, pdoTooLong}
 use Rattle.rules_services.specs.declared.SdoCommand.{SdoCommand as Command}
 use Rattle.rules_services.specs.declared.SdoCommand.the-variants.{Download as download, Upload as upload, ClientAbort as clientAbort}
 use Rattle.rules_services.specs.declared.SdoCommand.the-variants.{Unknown as unknown}
