@@ -151,6 +151,23 @@ due-by-any-call : fromNothing (example1
 unfolding open-rules open-examples
 due-by-any-call = refl
 
+-- "Changed means call end against call start": one SYNC applies a held 06h and then a held 00h, from disabled to Ready and back. No transmit
+-- PDO of type 255 is sent, and the one of type 0 is not due at the next SYNC either
+back-within-one-sync : fromNothing (example1
+    ++ write1 0x00 0x14 0x02 0x00 0x0250 []
+    ∷ write1 0x01 0x14 0x02 0x00 0x0250 []
+    ∷ write1 0x00 0x18 0x02 0x00 0x0250 []
+    ∷ line (nmt 0x01) 0 0x0250
+    (frame 0x285 (0x50 ∷ 0x02 ∷ 0 ∷ []) ∷ frame 0x385 (0x50 ∷ 0x02 ∷ 0 ∷ 0 ∷ 0 ∷ 0 ∷ []) ∷ frame 0x485 (0x50 ∷ 0x02 ∷ 0 ∷ 0 ∷ 0 ∷ 0 ∷ []) ∷ [])
+    ∷ line (frameCall 0x080 []) 0 0x0250 (frame 0x185 (0x50 ∷ 0x02 ∷ []) ∷ [])
+    ∷ line (frameCall 0x205 (0x06 ∷ 0x00 ∷ [])) 0 0x0250 []
+    ∷ line (frameCall 0x305 (0x00 ∷ 0x00 ∷ 0x00 ∷ [])) 0 0x0250 []
+    ∷ line (frameCall 0x080 []) 0 0x0250 []
+    ∷ line (frameCall 0x080 []) 0 0x0250 []
+    ∷ []) ≡ true
+unfolding open-rules open-examples
+back-within-one-sync = refl
+
 -- ---- what counts as the same
 
 abbrev move : ℕ → ℕ → Move
