@@ -22,7 +22,7 @@ extern "C" {
 /* ---- places and lengths: tools/header writes them from the source */
 
 /* The lengths of the three buffers. State and dictionary have just these; output has this many bytes or more. */
-#define CENDURAK_STATE_LEN 387u
+#define CENDURAK_STATE_LEN 397u
 #define CENDURAK_DICT_LEN 389u
 #define CENDURAK_OUT_LEN 66u
 
@@ -53,14 +53,14 @@ extern "C" {
 /* In the state: what the accessors below read. */
 #define CENDURAK_STATE_AT_NMT 1u
 #define CENDURAK_STATE_AT_VOLTAGE 2u
-#define CENDURAK_STATE_AT_DRIVE 5u
-#define CENDURAK_STATE_AT_MODE 6u
-#define CENDURAK_STATE_AT_CAUSE 9u
-#define CENDURAK_STATE_AT_STORE 10u
-#define CENDURAK_STATE_AT_ACTIVE_TARGET 11u
-#define CENDURAK_STATE_AT_ACTIVE_VELOCITY 15u
-#define CENDURAK_STATE_AT_ACTIVE_ACCELERATION 19u
-#define CENDURAK_STATE_AT_ACTIVE_DECELERATION 23u
+#define CENDURAK_STATE_AT_DRIVE 15u
+#define CENDURAK_STATE_AT_MODE 16u
+#define CENDURAK_STATE_AT_CAUSE 19u
+#define CENDURAK_STATE_AT_STORE 20u
+#define CENDURAK_STATE_AT_ACTIVE_TARGET 21u
+#define CENDURAK_STATE_AT_ACTIVE_VELOCITY 25u
+#define CENDURAK_STATE_AT_ACTIVE_ACCELERATION 29u
+#define CENDURAK_STATE_AT_ACTIVE_DECELERATION 33u
 
 /* ---- end of places and lengths */
 

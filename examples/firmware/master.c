@@ -22,6 +22,10 @@ enum {
 
 enum { SDO_READ = 0x40, SDO_WRITTEN = 0x60, SDO_ABORT = 0x80 };
 
+/* Of an SDO upload by segments: the reply that starts it, and the request for a segment. In a segment's first byte bits 7-5 are 0, bit 4 is
+ * the toggle, bits 3-1 tell how many of the seven bytes behind it hold nothing, and bit 0 that it is the last. */
+enum { SDO_SEGMENTS_FOLLOW = 0x41, SDO_READ_SEGMENT = 0x60, SEGMENT_ROOM = 7, SEGMENT_HEAD = 0xF0, SEGMENT_TOGGLE = 0x10, SEGMENT_IS_LAST = 0x01 };
+
 /* ---- sending */
 
 static void send(struct master *master, uint16_t identifier, uint8_t length, uint32_t low, uint32_t high)
@@ -38,7 +42,7 @@ static void send(struct master *master, uint16_t identifier, uint8_t length, uin
 /* An SDO request; the size told in a download is in bits 3-2, as what is missing to four. */
 static void send_sdo(struct master *master, const struct step *step)
 {
-    uint32_t command = step->kind == STEP_READ ? SDO_READ : 0x23u + 4u * (4u - step->size);
+    uint32_t command = step->kind == STEP_WRITE ? 0x23u + 4u * (4u - step->size) : SDO_READ;
 
     send(master, SDO_REQUEST, 8, command + (step->index << 8) + (step->subindex << 24), step->value);
 }
@@ -61,13 +65,14 @@ static void begin(struct master *master, const struct step *step)
     struct heard *heard = &master->heard;
 
     heard->has_reply = heard->has_any = false;
+    master->upload = (struct upload){.is_running = false};
     switch (step->kind) {
     case STEP_NMT: send(master, NMT, 2, step->value + 256 * NODE_ID, 0); break;
     case STEP_SYNC: master->sync_every = step->value; break;
     case STEP_CONTROL: send(master, CONTROL_FRAME, 2, step->value, 0); break;
     case STEP_MOVE: send_target(master, step); break;
     case STEP_PLANT: master->trouble = (enum trouble)step->value; break;
-    case STEP_WRITE: case STEP_READ: send_sdo(master, step); break;
+    case STEP_WRITE: case STEP_READ: case STEP_TEXT: send_sdo(master, step); break;
     default: break;
     }
 }
@@ -134,6 +139,34 @@ static bool is_read(const struct master *master, const struct step *step)
     return is_reply_to(master, step) && (master->heard.reply[0] & 0xE3u) == 0x43 && cendurak_word(master->heard.reply + 4) == step->expected;
 }
 
+/* A segment's bytes, behind those that came before it. What has no room is left out. */
+static void take_segment(struct upload *upload, const uint8_t *reply)
+{
+    uint32_t count = SEGMENT_ROOM - (reply[0] >> 1 & 7u);
+
+    for (uint32_t i = 0; i < count && upload->length < MOST_TEXT; i++)
+        upload->text[upload->length++] = (char)reply[1 + i];
+    upload->toggle ^= SEGMENT_TOGGLE;
+    upload->is_whole = (reply[0] & SEGMENT_IS_LAST) != 0;
+}
+
+/* Takes what was replied, and asks for the next segment; a reply that is not due is not followed. The text, when it is whole, is the right one. */
+static bool is_text(struct master *master, const struct step *step)
+{
+    struct upload *upload = &master->upload;
+    const uint8_t *reply = master->heard.reply;
+    bool starts = is_reply_to(master, step) && reply[0] == SDO_SEGMENTS_FOLLOW;
+    bool goes_on = master->heard.has_reply && upload->is_running && (reply[0] & SEGMENT_HEAD) == upload->toggle;
+
+    if (goes_on)
+        take_segment(upload, reply);
+    upload->is_running |= starts;
+    if ((starts || goes_on) && !upload->is_whole)
+        send(master, SDO_REQUEST, 8, SDO_READ_SEGMENT + upload->toggle, 0);
+    master->heard.has_reply = false;
+    return upload->is_whole && strcmp(upload->text, step->says) == 0;
+}
+
 /* Emergencies and heartbeats count once: a step that met one uses it up. */
 static bool takes(bool *has, bool is_right)
 {
@@ -151,6 +184,7 @@ static bool holds(struct master *master, const struct step *step)
     switch (step->kind) {
     case STEP_WRITE: return is_written(master, step);
     case STEP_READ: return is_read(master, step);
+    case STEP_TEXT: return is_text(master, step);
     case STEP_BOOT_UP: return takes(&heard->has_heartbeat, heard->heartbeat == 0);
     case STEP_HEARTBEAT: return takes(&heard->has_heartbeat, heard->heartbeat == step->expected);
     case STEP_STATUS: return (heard->status & step->mask) == step->expected;
@@ -204,6 +238,7 @@ static void say_checked(const struct step *step)
     switch (step->kind) {
     case STEP_WRITE: say_write(step); break;
     case STEP_READ: printf("%04Xh:%u reads %08Xh\n", step->index, step->subindex, step->expected); break;
+    case STEP_TEXT: printf("%04Xh:%u reads '%s' by segments\n", step->index, step->subindex, step->says); break;
     case STEP_BOOT_UP: printf("boot-up\n"); break;
     case STEP_HEARTBEAT: printf("heartbeat %02X %s\n", step->expected, step->says); break;
     case STEP_STATUS: printf("status word has %04X of %04X %s\n", step->expected, step->mask, step->says); break;

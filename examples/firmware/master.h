@@ -8,7 +8,7 @@
 #include "frame_queue.h"
 #include "script.h"
 
-enum { NODE_ID = 5 };
+enum { NODE_ID = 5, MOST_TEXT = 32 /* characters of a device name */ };
 
 /* What the master last heard of the node. */
 struct heard {
@@ -20,6 +20,14 @@ struct heard {
     bool has_reply, has_emergency, has_heartbeat, has_any;
 };
 
+/* A text that comes by segments. */
+struct upload {
+    char text[MOST_TEXT + 1]; /* ended by 0 */
+    uint32_t length;
+    uint8_t toggle; /* of the segment that is asked for */
+    bool is_running, is_whole;
+};
+
 /* All but the script zero at the start. */
 struct master {
     const struct script *script;
@@ -28,6 +36,7 @@ struct master {
     uint32_t begun;       /* when */
     uint32_t sync_every;  /* ms; 0: no SYNC */
     struct heard heard;
+    struct upload upload;
     struct frame_queue to_bus;
     enum trouble trouble; /* planted by a step, for the simulation to carry out and to clear */
     uint32_t held, failed;

@@ -17,6 +17,7 @@ enum { SOON = 50, A_WHILE = 4000 };
 #define REFUSED(object, sub, bytes, v, abort) \
     {.kind = STEP_WRITE, .index = (object), .subindex = (sub), .size = (bytes), .value = (v), .expected = (abort), .within = SOON}
 #define READ(object, sub, v) {.kind = STEP_READ, .index = (object), .subindex = (sub), .expected = (v), .within = SOON}
+#define TEXT(object, sub, text) {.kind = STEP_TEXT, .says = (text), .index = (object), .subindex = (sub), .within = SOON}
 #define BOOT_UP {.kind = STEP_BOOT_UP, .within = SOON}
 #define HEARTBEAT(nmt) {.kind = STEP_HEARTBEAT, .says = #nmt, .expected = (nmt), .within = 150}
 #define STATUS(bits, v) {.kind = STEP_STATUS, .says = #v, .mask = (bits), .expected = (v), .within = A_WHILE}
@@ -66,7 +67,8 @@ enum { NO_ERROR = 0x0000, OVER_CURRENT = 0x2310, CAN_OVERRUN = 0x8110, VALUE_INV
 
 /* ---- parts */
 
-/* Power-up, who are you, limits and ramps, transmit PDO 3 on SYNC, transmit PDO 4 with position and velocity on SYNC. */
+/* Power-up, what are you, limits and ramps, transmit PDO 3 on SYNC, transmit PDO 4 with position and velocity on SYNC; and, until the first
+ * heartbeat comes, what is your name. */
 static const struct step commission[] = {
     BOOT_UP,
     READ(0x1000, 0, 0x00020192),
@@ -88,6 +90,7 @@ static const struct step commission[] = {
     WRITE(0x1A03, 2, 4, 0x606C0020),
     WRITE(0x1A03, 0, 1, 2),
     WRITE(0x1803, 1, 4, 0x40000485),
+    TEXT(0x1008, 0, "Cendurak servo node"),
     HEARTBEAT(IN_PRE_OPERATIONAL),
     NMT(START),
     SYNC_EVERY(10),

@@ -16,6 +16,7 @@ enum step_kind {
     /* checked: it holds within so many ms, or has failed */
     STEP_WRITE,     /* SDO download; `expected` is the abort code, 0 for none */
     STEP_READ,      /* SDO upload; `expected` is the value */
+    STEP_TEXT,      /* SDO upload by segments; `says` is the text */
     STEP_BOOT_UP,   /* the boot-up frame */
     STEP_HEARTBEAT, /* a heartbeat with the NMT state `expected` */
     STEP_STATUS,    /* the status word under `mask` is `expected` */

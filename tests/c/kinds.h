@@ -7,6 +7,7 @@
 #define KINDS_H
 
 #include "calls.h"
+#include "transfer.h"
 
 /* ---- requests */
 
@@ -132,6 +133,33 @@ static inline void machine_cycle(char maps, uint32_t i)
     }
 }
 
+/* The transfer that was started last. It is put into the state again before each segment, so that all calls of a kind find the same one. */
+static struct transfer started;
+
+static inline void start_transfer(uint8_t command, uint32_t index)
+{
+    sdo(command, index, 0, 0);
+    started = transfer_of(state);
+}
+
+/* The first of the device name's segments. */
+static inline void upload_segment(void)
+{
+    static const uint8_t request[8] = {0x60};
+
+    put_transfer(state, &started);
+    frame(0x605, request, 8);
+}
+
+/* All four bytes of 607Ah in one segment, the last. */
+static inline void last_download_segment(uint32_t i)
+{
+    const uint8_t request[8] = {0x07, 1, 2, 3, (uint8_t)i};
+
+    put_transfer(state, &started);
+    frame(0x605, request, 8);
+}
+
 static inline void prepare(const char *kind)
 {
     ready();
@@ -141,6 +169,8 @@ static inline void prepare(const char *kind)
     case 'c': types(0); operational(); frame(0x80, 0, 0); break;
     case 'f': sdo(0x2F, 0x1402, 2, 1); operational(); break;
     case 'e': case 'g': case 'i': case 'j': case 'l': case 'm': case 'n': operational(); break;
+    case 'p': start_transfer(0x40, 0x1008); break;
+    case 'q': operational(); start_transfer(0x20, 0x607A); break;
     default: break;
     }
 }
@@ -162,6 +192,8 @@ static inline void call(const char *kind, uint32_t i)
     case 'm': event(CENDURAK_TICK, 0, 0); break;
     case 'n': feedback(i); break;
     case 'o': machine_cycle(kind[1], i); break;
+    case 'p': upload_segment(); break;
+    case 'q': last_download_segment(i); break;
     }
 }
 

@@ -3,145 +3,9 @@
  * sound state flipped, and random calls on buffers of all lengths, with guard bytes around each.
  */
 #include <stdio.h>
-#include <string.h>
 
-#include "cendurak.h"
 #include "checks.h"
-
-enum { GUARD = 16, GUARD_BYTE = 0xA5, MOST_BYTES = 512 };
-
-/* A buffer with guard bytes before and behind the bytes that are lent. */
-struct buffer {
-    uint8_t bytes[GUARD + MOST_BYTES + GUARD];
-    uint32_t length;
-};
-
-/* What the node is lent, and its last answer. */
-struct bench {
-    struct buffer state, dict, out;
-    uint32_t answer;
-};
-
-/* ---- buffers */
-
-static uint8_t *lent(struct buffer *b)
-{
-    return b->bytes + GUARD;
-}
-
-static void fill(struct buffer *b, uint32_t length, uint8_t byte)
-{
-    memset(b->bytes, GUARD_BYTE, sizeof b->bytes);
-    memset(lent(b), byte, length);
-    b->length = length;
-}
-
-static int is_guarded(const struct buffer *b)
-{
-    for (uint32_t i = 0; i < GUARD; i++)
-        if (b->bytes[i] != GUARD_BYTE)
-            return 0;
-    for (uint32_t i = GUARD + b->length; i < sizeof b->bytes; i++)
-        if (b->bytes[i] != GUARD_BYTE)
-            return 0;
-    return 1;
-}
-
-static int are_guarded(const struct bench *b)
-{
-    return is_guarded(&b->state) && is_guarded(&b->dict) && is_guarded(&b->out);
-}
-
-static int is_same(const struct buffer *a, const struct buffer *b)
-{
-    return a->length == b->length && memcmp(a->bytes, b->bytes, sizeof a->bytes) == 0;
-}
-
-static int are_same(const struct bench *a, const struct bench *b)
-{
-    return is_same(&a->state, &b->state) && is_same(&a->dict, &b->dict) && is_same(&a->out, &b->out);
-}
-
-/* ---- calls */
-
-static uint32_t power_up(struct bench *b, uint32_t n)
-{
-    return b->answer = cendurak_power_up(lent(&b->state), b->state.length, lent(&b->dict), b->dict.length, lent(&b->out), b->out.length, n);
-}
-
-static uint32_t frame(struct bench *b, uint32_t identifier, const uint8_t *data, uint32_t length)
-{
-    return b->answer = cendurak_frame(lent(&b->state), b->state.length, lent(&b->dict), b->dict.length, lent(&b->out), b->out.length,
-                                      identifier, data, length);
-}
-
-static uint32_t event(struct bench *b, uint32_t number, const uint8_t *args, uint32_t length)
-{
-    return b->answer = cendurak_event(lent(&b->state), b->state.length, lent(&b->dict), b->dict.length, lent(&b->out), b->out.length,
-                                      number, args, length);
-}
-
-static uint16_t status(struct bench *b)
-{
-    return cendurak_status_word(lent(&b->dict));
-}
-
-static uint32_t target_position(struct bench *b)
-{
-    return cendurak_word(lent(&b->dict) + CENDURAK_DICT_AT_TARGET_POSITION);
-}
-
-/* A fresh node of node-ID 5, with room in the output. */
-static void fresh(struct bench *b)
-{
-    fill(&b->state, CENDURAK_STATE_LEN, 0);
-    fill(&b->dict, CENDURAK_DICT_LEN, 0);
-    fill(&b->out, CENDURAK_OUT_LEN, 0);
-    power_up(b, 5);
-}
-
-/* An SDO request to node 5. */
-static uint32_t sdo(struct bench *b, uint8_t command, uint32_t index, uint8_t subindex, uint32_t value)
-{
-    const uint8_t request[8] = {command, (uint8_t)index, (uint8_t)(index >> 8), subindex,
-                                (uint8_t)value, (uint8_t)(value >> 8), (uint8_t)(value >> 16), (uint8_t)(value >> 24)};
-    return frame(b, 0x605, request, 8);
-}
-
-static uint32_t control(struct bench *b, uint32_t word)
-{
-    return sdo(b, 0x2B, 0x6040, 0, word);
-}
-
-/* Whether frame i of the answer is that one. */
-static int sent(struct bench *b, uint32_t i, uint16_t identifier, const uint8_t *data, uint8_t length)
-{
-    const uint8_t *out = lent(&b->out);
-    return i < cendurak_frames(b->answer) && cendurak_identifier(out, i) == identifier && cendurak_length(out, i) == length
-           && memcmp(cendurak_data(out, i), data, length) == 0;
-}
-
-/* The node in Switch on disabled with voltage, and on to Operation enabled. */
-static void started(struct bench *b)
-{
-    const uint8_t on = 1;
-    fresh(b);
-    event(b, CENDURAK_STARTED, 0, 0);
-    event(b, CENDURAK_VOLTAGE, &on, 1);
-}
-
-static void enabled(struct bench *b)
-{
-    started(b);
-    control(b, 0x06);
-    control(b, 0x0F);
-}
-
-static void nmt(struct bench *b, uint8_t command)
-{
-    const uint8_t data[2] = {command, 5};
-    frame(b, 0, data, 2);
-}
+#include "guarded.h"
 
 /* ---- the ten examples of document 01 */
 
@@ -407,6 +271,14 @@ static void all_flips(void)
     check(cendurak_refusal(b.answer) == 0, "a frame held, a count, a due mark");
     flips(&b, &b.state, "state's bytes in Operational");
     flips(&b, &b.dict, "dictionary's bytes in Operational");
+
+    fresh(&b);
+    sdo(&b, 0x40, 0x1008, 0, 0);
+    sdo(&b, 0x60, 0, 0, 0);
+    flips(&b, &b.state, "state's bytes while the device name is read");
+    sdo(&b, 0x21, 0x607D, 2, 4);
+    sdo(&b, 0x0A, 0xFFFF, 0, 0);
+    flips(&b, &b.state, "state's bytes while an object is written by segments");
 }
 
 /* ---- random calls on buffers of all lengths: guards stay, a refusal leaves every byte, six frames at the most */
@@ -428,7 +300,7 @@ static void random_bytes(uint8_t *to, uint32_t count)
 static void random_call(struct bench *b)
 {
     static const uint16_t identifiers[] = {0x000, 0x080, 0x605, 0x205, 0x305, 0x405, 0x505, 0x7FF};
-    static const uint8_t commands[] = {0x01, 0x02, 0x80, 0x81, 0x82, 0x2F, 0x2B, 0x23, 0x40, 0x0F, 0x1F, 0x06};
+    static const uint8_t commands[] = {0x01, 0x02, 0x80, 0x81, 0x82, 0x2F, 0x2B, 0x23, 0x40, 0x0F, 0x1F, 0x06, 0x21, 0x0A, 0x1B, 0x60, 0x70};
     uint8_t data[16];
     uint32_t length = random_below(10);
 
@@ -439,6 +311,8 @@ static void random_call(struct bench *b)
         data[1] = random_below(2) ? 5 : 0x40;
     if (random_below(2))
         data[2] = 0x60;
+    if (random_below(8) == 0)
+        data[1] = 0x08, data[2] = 0x10, data[3] = 0;
     switch (random_below(8)) {
     case 0:
         power_up(b, random_below(16) ? 5 : random_below(300));

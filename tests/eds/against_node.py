@@ -3,14 +3,14 @@ import functools
 from typing import NamedTuple
 
 import bench
-from claims import MODES_OF_OPERATION, NO_OBJECT, NO_SUBINDEX, Claims, Step
+from claims import MODES_OF_OPERATION, NO_OBJECT, NO_SUBINDEX, Claims, Step, default_data
 
 STARTED, FAULT, FEEDBACK, VOLTAGE = 1, 3, 5, 9
 ran = {}  # by node-ID and requests, the replies that replies_to has seen
 
 
 class Scan(NamedTuple):
-    values: dict  # by index and subindex, the bytes of each entry that the node has
+    entries: set  # index and subindex of each entry that the node has
     replies: dict  # by index and subindex, the reply to each upload that was tried
     strays: list  # refusals with another abort than the right one
 
@@ -22,12 +22,12 @@ def scan(node_id):
     there = [place for place, reply in replies.items() if reply != bench.aborted(*place, NO_OBJECT)]
     absent = replies.keys() - set(there)
     replies |= uploads(node_id, [(index, subindex) for index, _ in there for subindex in range(256)])
-    values = {place: value for place, reply in replies.items() if (value := bench.value_of(reply)) is not None}
+    entries = {place for place, reply in replies.items() if bench.has_value(reply)}
     strays = [
         place for place, reply in replies.items()
-        if place not in values and place not in absent and reply != bench.aborted(*place, NO_SUBINDEX)
+        if place not in entries and place not in absent and reply != bench.aborted(*place, NO_SUBINDEX)
     ]
-    return Scan(values, replies, strays)
+    return Scan(entries, replies, strays)
 
 
 def uploads(node_id, places, before=()):
@@ -49,14 +49,15 @@ def check_presence(sheet, node_id, report):
     """The node has the sheet's entries with their defaults, and refuses every other index and subindex."""
     found = scan(node_id)
     for place, entry in sheet.entries.items():
-        due = bench.held(*place, bench.little(entry.default_at(node_id), entry.type.size))
+        data = default_data(entry, node_id)
+        due = bench.held_by_segments(*place, len(data)) if entry.is_text else bench.held(*place, data)
         given = found.replies.get(place, found.replies[place[0], 0])
         report.check(given == due, told(entry.says("DataType", "DefaultValue"), Step(bench.upload(*place), due), node_id, given))
-    for index, subindex in found.values.keys() - sheet.entries.keys():
+    for index, subindex in found.entries - sheet.entries.keys():
         report.check(False, f"node {node_id} has {index:04X}:{subindex:02X}, and the sheet has no such entry")
     for place in found.strays:
-        report.check(False, f"node {node_id} refuses {place[0]:04X}:{place[1]:02X} with {bench.in_words(found.replies[place])}")
-    report.check(found.values.keys() == sheet.entries.keys(), f"node {node_id} has {len(found.values)} entries, and the sheet others")
+        report.check(False, f"node {node_id} refuses {place[0]:04X}:{place[1]:02X} with {bench.reply_in_words(found.replies[place])}")
+    report.check(found.entries == sheet.entries.keys(), f"node {node_id} has {len(found.entries)} entries, and the sheet others")
 
 
 def check_changes(sheet, node_id, report):
@@ -97,5 +98,5 @@ def replies_to(node_id, scripts):
 
 
 def told(claim, step, node_id, given):
-    asked, due, got = (bench.in_words(message) for message in (step.request, step.reply, given))
-    return f"{claim}: {asked} must give {due}, and node {node_id} gave {got}"
+    due, got = bench.reply_in_words(step.reply), bench.reply_in_words(given)
+    return f"{claim}: {bench.request_in_words(step.request)} must give {due}, and node {node_id} gave {got}"

@@ -4,9 +4,10 @@ from typing import NamedTuple
 import bench
 from sheet import MAPPING, PDO_ROOM, RECEIVE, TRANSMIT, WRITABLE
 
-# document 01, 'SDO'
+# document 01, 'SDO', and what a segment with no transfer gets
 NO_OBJECT, NO_SUBINDEX, NO_WRITING, NO_READING = 0x06020000, 0x06090011, 0x06010002, 0x06010001
 TOO_LONG, TOO_SHORT, BELOW, ABOVE, BAD_VALUE, NOT_MAPPABLE = 0x06070012, 0x06070013, 0x06090032, 0x06090031, 0x06090030, 0x06040041
+NO_TRANSFER = 0x05040001
 NOT_VALID, TRANSMIT_BIT, RESERVED_BIT, IDENTIFIER = 1 << 31, 1 << 30, 1 << 11, 0x7FF
 FIRST_IDENTIFIER, LAST_IDENTIFIER = 0x181, 0x57F
 MODES, TYPES, TYPE_EDGES = {0, 1, 3}, {*range(241), 254, 255}, (0, 1, 240, 241, 253, 254, 255)
@@ -36,12 +37,35 @@ def reads(index, subindex, data):
     return Step(bench.upload(index, subindex), bench.held(index, subindex, data))
 
 
+def writes_by_segments(index, subindex, data, abort=None):
+    """The data downloaded by segments, each of which is taken, the last too or refused with the abort. Nothing is left running."""
+    requests = bench.segments(data)
+    replies = bench.toggled(bench.SEGMENT_TAKEN, len(requests))
+    if abort:
+        replies[-1] = bench.aborted(index, subindex, abort)
+    starts = Step(bench.download_by_segments(index, subindex, len(data)), bench.stored(index, subindex))
+    return [starts, *map(Step, requests, replies), Step(bench.segments(bytes(1))[0], bench.aborted(0, 0, NO_TRANSFER))]
+
+
+def reads_by_segments(index, subindex, data):
+    """The data uploaded by segments. Nothing is left running."""
+    replies = bench.segments(data)
+    requests = bench.toggled(bench.SEGMENT_WANTED, len(replies) + 1)
+    starts = Step(bench.upload(index, subindex), bench.held_by_segments(index, subindex, len(data)))
+    return [starts, *map(Step, requests, [*replies, bench.aborted(0, 0, NO_TRANSFER)])]
+
+
 def tries(entry, value, abort):
     """The value written to the entry and read back, or refused with the abort."""
     place, data = (entry.index, entry.subindex), bench.little(value, entry.type.size)
     if abort:
         return [refuses(*place, data, abort)]
     return [writes(*place, data), reads(*place, data)]
+
+
+def default_data(entry, node_id):
+    """The bytes of the entry's default."""
+    return entry.default.encode("ascii", "replace") if entry.is_text else bench.little(entry.default_at(node_id), entry.type.size)
 
 
 def is_in(index, first):
@@ -64,7 +88,7 @@ def directions(entry):
 
 
 def mapping_word(entry, bits):
-    return entry.index << 16 | entry.subindex << 8 | bits
+    return entry.index << 16 | entry.subindex << 8 | bits % 256
 
 
 class Claims:
@@ -74,7 +98,9 @@ class Claims:
     def cases(self):
         for entry in self.sheet.entries.values():
             yield from self.access(entry)
-            if entry.access in WRITABLE:
+            if entry.is_text:
+                yield from self.text(entry)
+            elif entry.access in WRITABLE:
                 yield from self.values(entry)
                 yield from self.sizes(entry)
             yield from self.mapped(entry)
@@ -111,14 +137,24 @@ class Claims:
     # ---- access, values, sizes
 
     def access(self, entry):
-        claim, default = entry.says("AccessType"), entry.default_at(self.node_id)
+        """The default is written, at once where four bytes hold it and by segments, and read back; or it is refused both ways."""
+        claim, place, data = entry.says("AccessType"), (entry.index, entry.subindex), default_data(entry, self.node_id)
         if entry.access == "wo":
-            place = entry.index, entry.subindex
             yield Case(claim, [Step(bench.upload(*place), bench.aborted(*place, NO_READING))])
-        if entry.access in WRITABLE:
-            yield Case(claim, self.prepared(entry) + tries(entry, default, None))
-        else:
-            yield Case(claim, tries(entry, default, NO_WRITING))
+        if entry.access not in WRITABLE:
+            yield Case(claim, [refuses(*place, data[:4], NO_WRITING)])
+            yield Case(claim, writes_by_segments(*place, data, NO_WRITING))
+            return
+        if not entry.is_text:
+            yield Case(claim, self.prepared(entry) + tries(entry, entry.default_at(self.node_id), None))
+        yield Case(claim, self.prepared(entry) + writes_by_segments(*place, data) + self.read(entry))
+
+    def read(self, entry):
+        place, data = (entry.index, entry.subindex), default_data(entry, self.node_id)
+        return reads_by_segments(*place, data) if entry.is_text else [reads(*place, data)]
+
+    def text(self, entry):
+        yield Case(entry.says("DataType", "DefaultValue"), self.read(entry))
 
     def values(self, entry):
         """The ends of the entry's range and what lies next to them; where the sheet gives no limits, what document 01 says."""
@@ -169,7 +205,7 @@ class Claims:
 
     def mapped(self, entry):
         """The entry in the first slot of each PDO: mapped and the PDO made valid again, or refused. Another bit length is refused."""
-        word, other = (bench.little(mapping_word(entry, bits), 4) for bits in (8 * entry.type.size, 8 * entry.type.size + 8))
+        word, other = (bench.little(mapping_word(entry, bits), 4) for bits in (8 * entry.size, 8 * entry.size + 8))
         for pdo in self.pdos:
             opened = self.open_mapping(pdo.mapping)
             used = [writes(pdo.mapping, 1, word), writes(pdo.mapping, 0, b"\1"), self.valid(pdo.communication)]

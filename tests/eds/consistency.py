@@ -2,14 +2,14 @@
 import configparser
 import re
 
-from sheet import MAPPING, NODE_ID, PDO_ROOM, RECEIVE, SUBOBJECT, TRANSMIT, Sheet, entry_of, number, place_of, sections_of
+from sheet import DEVICE_NAME, MAPPING, NODE_ID, PDO_ROOM, RECEIVE, SUBOBJECT, TRANSMIT, Sheet, entry_of, number, place_of, sections_of
 
-ENTRIES = 122
+ENTRIES = 122  # of the dictionary's bytes
 MANDATORY = [0x1000, 0x1001, 0x1018]
 VARIABLE, ARRAY, RECORD = "0x7", "0x8", "0x9"
 MANUFACTURER = range(0x2000, 0x6000)
 DATE, TIME = r"(0[1-9]|1[0-2])-(0[1-9]|[12]\d|3[01])-\d{4}", r"(0[1-9]|1[0-2]):[0-5]\d(AM|PM)"
-FLAG, NUMBER, WORDS = r"[01]", r"0|[1-9]\d*|0x[0-9A-Fa-f]+", r"\S(.*\S)?"
+FLAG, NUMBER, WORDS, NAME = r"[01]", r"0|[1-9]\d*|0x[0-9A-Fa-f]+", r"\S(.*\S)?", r"[ -~]{5,32}"
 
 FILE_INFO = {
     "FileName": r"cendurak\.eds", "FileVersion": NUMBER, "FileRevision": NUMBER, "EDSVersion": r"4\.0", "Description": WORDS,
@@ -52,7 +52,9 @@ def read(data, report):
     check_groups(sections, entries, report)
     check_names(sections, report)
     check_device(sections["DeviceInfo"], entries, report)
-    report.check(len(entries) == ENTRIES, f"the sheet has {len(entries)} entries, and the dictionary {ENTRIES}")
+    in_bytes = len(entries.keys() - {DEVICE_NAME})
+    report.check(in_bytes == ENTRIES, f"the sheet has {in_bytes} entries besides the device name, and the dictionary {ENTRIES}")
+    report.check(DEVICE_NAME in entries, "the sheet has no device name, 1008h")
     return Sheet(sections, entries) if check_pdos(entries, report) else None
 
 
@@ -124,6 +126,18 @@ def check_entry(entry, report):
     extra = entry.said.keys() - ENTRY - LIMITS
     report.check(not extra, f"[{entry.section}] has keys that no entry has: {sorted(extra)}")
     report.check(entry.said.get("ObjectType") == VARIABLE, f"[{entry.section}] is no variable")
+    directed = entry.access in ("rww", "rwr")
+    report.check(entry.mappable or not directed, f"{entry.says('AccessType', 'PDOMapping')}: a direction, and not mappable")
+    check_text(entry, report) if entry.is_text else check_number(entry, report)
+
+
+def check_text(entry, report):
+    """A visible text as long as a device name may be."""
+    report.check(re.fullmatch(NAME, entry.default), f"{entry.says('DefaultValue')} is no text of 5 to 32 characters")
+    report.check(not entry.said.keys() & LIMITS, f"[{entry.section}] is a text and has limits")
+
+
+def check_number(entry, report):
     low = entry.type.least if entry.low is None else entry.low
     high = entry.type.greatest if entry.high is None else entry.high
     is_range = entry.type.holds(low) and entry.type.holds(high) and low <= high
@@ -135,8 +149,6 @@ def check_entry(entry, report):
         not entry.counts_from_node or re.fullmatch(r"\$NODEID\+0x[0-9A-F]+", entry.said["DefaultValue"]),
         f"{entry.says('DefaultValue')} is not {NODE_ID}0x..",
     )
-    directed = entry.access in ("rww", "rwr")
-    report.check(entry.mappable or not directed, f"{entry.says('AccessType', 'PDOMapping')}: a direction, and not mappable")
 
 
 def check_groups(sections, entries, report):
@@ -171,7 +183,7 @@ def check_names(sections, report):
 
 
 def check_device(device, entries, report):
-    """[DeviceInfo] tells the PDOs and the vendor that the objects have."""
+    """[DeviceInfo] tells the PDOs, the vendor and the name that the objects have."""
     for key, direction in (("NrOfRXPDO", RECEIVE), ("NrOfTXPDO", TRANSMIT)):
         for record in (direction, direction + MAPPING):
             there = len({index for index, _ in entries if record <= index < record + PDO_ROOM})
@@ -179,6 +191,8 @@ def check_device(device, entries, report):
     vendor = entries.get((0x1018, 1))
     same = vendor and re.fullmatch(NUMBER, device.get("VendorNumber", "")) and number(device["VendorNumber"]) == vendor.default
     report.check(same, f"[DeviceInfo] VendorNumber={device.get('VendorNumber')} is not the default of [1018sub1]")
+    name, told = entries.get(DEVICE_NAME), device.get("ProductName")
+    report.check(name is None or name.default == told, f"[DeviceInfo] ProductName={told} is not the default of [1008]")
 
 
 def check_pdos(entries, report):

@@ -1,7 +1,7 @@
 """The data sheet as it is read: its sections, and its entries with type, access, default, limits and mapping."""
 import configparser
 import re
-from typing import NamedTuple, Optional
+from typing import NamedTuple, Optional, Union
 
 OBJECT = re.compile(r"[0-9A-F]{4}")
 SUBOBJECT = re.compile(r"([0-9A-F]{4})sub([0-9A-F]{1,2})")
@@ -12,10 +12,13 @@ WRITABLE = {"wo", "rw", "rww", "rwr"}
 # where CiA 301 has the PDOs: communication parameters of receive and of transmit PDOs, each with the mapping so far behind
 RECEIVE, TRANSMIT, MAPPING, PDO_ROOM = 0x1400, 0x1800, 0x200, 0x200
 
+# the one entry that is no row of the dictionary and has no place in its bytes
+DEVICE_NAME = 0x1008, 0
+
 
 class ValueType(NamedTuple):
     name: str
-    size: int
+    size: Optional[int]  # None of a text, which is as long as it is
     signed: bool
 
     @property
@@ -37,6 +40,7 @@ TYPES = {
     0x0005: ValueType("UNSIGNED8", 1, False),
     0x0006: ValueType("UNSIGNED16", 2, False),
     0x0007: ValueType("UNSIGNED32", 4, False),
+    0x0009: ValueType("VISIBLE_STRING", None, False),
 }
 
 
@@ -46,12 +50,20 @@ class Entry(NamedTuple):
     subindex: int
     type: ValueType
     access: str
-    default: int
+    default: Union[int, str]  # a text where the type is one
     counts_from_node: bool  # the default is this much plus the node-ID
     low: Optional[int]
     high: Optional[int]
     mappable: bool
     said: dict  # the section's keys as they stand
+
+    @property
+    def is_text(self):
+        return self.type.size is None
+
+    @property
+    def size(self):
+        return len(self.default) if self.is_text else self.type.size
 
     def default_at(self, node_id):
         return self.default + (node_id if self.counts_from_node else 0)
@@ -111,9 +123,10 @@ def entry_of(section, keys):
     index, subindex = place_of(section)
     if keys["AccessType"] not in ACCESS_TYPES or keys["PDOMapping"] not in ("0", "1"):
         raise ValueError("AccessType or PDOMapping is none of CiA 306")
-    default = keys["DefaultValue"]
+    default, kind = keys["DefaultValue"], TYPES[number(keys["DataType"])]
+    is_text = kind.size is None
     return Entry(
-        section, index, subindex, TYPES[number(keys["DataType"])], keys["AccessType"],
-        number(default.removeprefix(NODE_ID)), default.startswith(NODE_ID),
+        section, index, subindex, kind, keys["AccessType"],
+        default if is_text else number(default.removeprefix(NODE_ID)), not is_text and default.startswith(NODE_ID),
         limit(keys, "LowLimit"), limit(keys, "HighLimit"), keys["PDOMapping"] == "1", keys,
     )

@@ -7,6 +7,23 @@ VARIABLE = {
     "AccessType": "const", "DefaultValue": "0", "PDOMapping": "0",
 }
 
+# The optional objects behind 1008h. Without it each of them is listed one number lower.
+BEHIND_DEVICE_NAME = [
+    0x1014, 0x1017, *range(0x1400, 0x1404), *range(0x1600, 0x1604), *range(0x1800, 0x1804), *range(0x1A00, 0x1A04), 0x603F, 0x6040, 0x6041,
+    0x6060, 0x6061, 0x6064, 0x6067, 0x606C, 0x606D, 0x606F, 0x607A, 0x607D, 0x6081, 0x6083, 0x6084, 0x60FF, 0x6502,
+]
+NO_DEVICE_NAME = {
+    "1008": None,
+    "OptionalObjects": {
+        "SupportedObjects": "36", "37": None, **{str(number): f"0x{index:04X}" for number, index in enumerate(BEHIND_DEVICE_NAME, 2)},
+    },
+}
+
+
+def named(name):
+    return {"1008": {"DefaultValue": name}, "DeviceInfo": {"ProductName": name}}
+
+
 AGAINST_RULES_AND_NODE = {
     "a default": (
         {"6083": {"DefaultValue": "2"}},
@@ -94,25 +111,75 @@ AGAINST_RULES_AND_NODE = {
         "node 127 has 607D:02, and the sheet has no such entry",
     ),
     "an object left out": (
-        {"6502": None, "OptionalObjects": {"36": None, "SupportedObjects": "35"}},
+        {"6502": None, "OptionalObjects": {"37": None, "SupportedObjects": "36"}},
         "node 127 has 6502:00, and the sheet has no such entry",
     ),
     "an entry too many": (
         {"1018sub2": VARIABLE, "1018sub0": {"DefaultValue": "2"}, "1018": {"SubNumber": "3"}},
         "[1018sub2] DataType=0x0007 DefaultValue=0: upload 1018:02 must give value 00 00 00 00, and node 127 gave abort 06090011",
     ),
+    "an entry without a row": (
+        {"1018sub2": VARIABLE, "1018sub0": {"DefaultValue": "2"}, "1018": {"SubNumber": "3"}},
+        "[1018sub2] stands in the sheet, and the rules have no row for it",
+    ),
+    "a row without an entry": (
+        {"607Dsub2": None, "607Dsub0": {"DefaultValue": "1"}, "607D": {"SubNumber": "2"}},
+        "the rules have a row for 607D:02, and the sheet has no such entry",
+    ),
     "an object too many": (
-        {"6503": VARIABLE, "OptionalObjects": {"37": "0x6503", "SupportedObjects": "37"}},
+        {"6503": VARIABLE, "OptionalObjects": {"38": "0x6503", "SupportedObjects": "38"}},
         "[6503] DataType=0x0007 DefaultValue=0: upload 6503:00 must give value 00 00 00 00, and node 127 gave abort 06020000",
+    ),
+    "no device name": (NO_DEVICE_NAME, "node 127 has 1008:00, and the sheet has no such entry"),
+    "a device name that ends otherwise": (
+        named("Cendurak servo unit"),
+        "[1008] DataType=0x0009 DefaultValue=Cendurak servo unit: upload of a segment, toggle 0 must give last segment ' unit', toggle 0,"
+        " and node 127 gave last segment ' node', toggle 0",
+    ),
+    "a device name in small letters": (
+        named("cendurak servo node"),
+        "[1008] DataType=0x0009 DefaultValue=cendurak servo node: upload of a segment, toggle 0 must give segment 'cendura', toggle 0,"
+        " and node 127 gave segment 'Cendura', toggle 0",
+    ),
+    "a device name of another length": (
+        named("Cendurak"),
+        "[1008] DataType=0x0009 DefaultValue=Cendurak: upload 1008:00 must give 8 bytes by segments, and node 127 gave 19 bytes by segments",
+    ),
+    "a device name that is a number": (
+        {"1008": {"DataType": "0x0007", "DefaultValue": "0"}},
+        "[1008] DataType=0x0007 is UNSIGNED32, and the rules' device name is a text",
+    ),
+    "a device name that is read at once": (
+        {"1008": {"DataType": "0x0007", "DefaultValue": "0"}},
+        "[1008] DataType=0x0007 DefaultValue=0: upload 1008:00 must give value 00 00 00 00, and node 127 gave 19 bytes by segments",
+    ),
+    "a second text": (
+        {"6502": {"DataType": "0x0009", "DefaultValue": "profile position"}},
+        "[6502] DataType=0x0009 is VISIBLE_STRING, and the rules' row is unsigned",
+    ),
+    "a number that is read by segments": (
+        {"6502": {"DataType": "0x0009", "DefaultValue": "profile position"}},
+        "[6502] DataType=0x0009 DefaultValue=profile position: upload 6502:00 must give 16 bytes by segments,"
+        " and node 127 gave value 05 00 00 00",
+    ),
+    "a device name that can be written": (
+        {"1008": {"AccessType": "rw"}},
+        "[1008] AccessType=rw: download of the last segment ' node', toggle 0 must give segment taken, toggle 0,"
+        " and node 127 gave abort 06010002",
+    ),
+    "a device name that changes": ({"1008": {"AccessType": "ro"}}, "[1008] AccessType=ro: node 127 never changes it"),
+    "a device name as mappable": (
+        {"1008": {"PDOMapping": "1"}},
+        "[1008] AccessType=const PDOMapping=1: download 1A00:01 = 98 00 08 10 must give accepted, and node 127 gave abort 06040041",
     ),
 }
 
 AGAINST_ITSELF = {
     "a count of entries": (
-        {"6502": None, "OptionalObjects": {"36": None, "SupportedObjects": "35"}},
-        "the sheet has 121 entries, and the dictionary 122",
+        {"6502": None, "OptionalObjects": {"37": None, "SupportedObjects": "36"}},
+        "the sheet has 121 entries besides the device name, and the dictionary 122",
     ),
-    "a count of objects": ({"OptionalObjects": {"SupportedObjects": "35"}}, "[OptionalObjects] SupportedObjects=35, and there are 36"),
+    "a count of objects": ({"OptionalObjects": {"SupportedObjects": "36"}}, "[OptionalObjects] SupportedObjects=36, and there are 37"),
     "an object in the wrong list": (
         {"ManufacturerObjects": {"1": "0x6502", "SupportedObjects": "1"}},
         "[ManufacturerObjects] lists 0x6502, which belongs to [OptionalObjects]",
@@ -137,6 +204,14 @@ AGAINST_ITSELF = {
     "a name that stands twice": ({"6041": {"ParameterName": "Controlword"}}, "[6041] ParameterName=Controlword stands twice"),
     "a number of PDOs": ({"DeviceInfo": {"NrOfTXPDO": "3"}}, "[DeviceInfo] NrOfTXPDO=3, and 4 records from 0x1800 on"),
     "a PDO without its identifier": ({"1402sub1": None}, "PDOs from 0x1400 on are not whole: ['1402sub1']"),
+    "no device name": (NO_DEVICE_NAME, "the sheet has no device name, 1008h"),
+    "a device name of 4 characters": (named("Node"), "[1008] DefaultValue=Node is no text of 5 to 32 characters"),
+    "a device name of 33 characters": (named("N" * 33), f"[1008] DefaultValue={'N' * 33} is no text of 5 to 32 characters"),
+    "a device name with a limit": ({"1008": {"HighLimit": "32"}}, "[1008] is a text and has limits"),
+    "another product": (
+        {"DeviceInfo": {"ProductName": "Another"}},
+        "[DeviceInfo] ProductName=Another is not the default of [1008]",
+    ),
     "another vendor": ({"DeviceInfo": {"VendorNumber": "0x1"}}, "[DeviceInfo] VendorNumber=0x1 is not the default of [1018sub1]"),
     "a day first": ({"FileInfo": {"CreationDate": "15-11-2026"}}, "[FileInfo] CreationDate=15-11-2026 is not well formed"),
     "a section that no sheet has": ({"Remarks": {"Lines": "0"}}, "sections are neither of CiA 306 nor an object's: ['Remarks']"),

@@ -250,8 +250,9 @@ def add_log(kinds) -> None:
 def add_read(kinds) -> None:
     after = ('Without OUTPUT and --run, the log is read as it was recorded: frames on the identifiers of the node are those it sent.\n'
              'Columns: time in seconds from the first line on; in, out (of the node) or amp (from the amplifier); identifier; service;\n'
-             'data bytes; object, its name and its value. PDOs are decoded by the mapping that the trace shows. A state line tells a\n'
-             f'status word that no frame told. Ticks are not shown. How events stand in a log: tools/trace records --help.\n\n{STATUS}')
+             'data bytes; object, its name and its value. PDOs are decoded by the mapping that the trace shows. What an SDO transfer\n'
+             'by segments carries is told whole at its last segment. A state line tells a status word that no frame told. Ticks are\n'
+             f'not shown. How events stand in a log: tools/trace records --help.\n\n{STATUS}')
     one = add(kinds, 'read', command_read, 'the readable trace', after)
     one.add_argument('trace', metavar='TRACE', help='records, or a log')
     one.add_argument('output', metavar='OUTPUT', nargs='?', help='what the bench program printed for these records')

@@ -2,11 +2,12 @@
 from dataclasses import dataclass, field
 from typing import NamedTuple, Optional, Union
 
-from . import events, node as can, words
-from .eds import Objects
+from . import events, node as can, segments, words
+from .eds import Objects, Place
 from .log import Entry
-from .node import Node, Place, Sdo
+from .node import Node, Sdo
 from .records import Damage, Event, Frame, PowerUp
+from .segments import Segment, Transfer, segment_of, toggle_of
 
 IN, OUT, AMPLIFIER = 'in', 'out', 'amp'
 PLAIN, QUIET, GOOD, BAD = 'plain', 'quiet', 'good', 'bad'
@@ -34,6 +35,8 @@ class Row:
 
 DEVICE_TYPE, ERROR_REGISTER, HEARTBEAT_TIME, ERROR_CODE = (0x1000, 0), (0x1001, 0), (0x1017, 0), (0x603F, 0)
 CONTROL_WORD, STATUS_WORD, SUPPORTED_MODES = (0x6040, 0), (0x6041, 0), (0x6502, 0)
+NO_OBJECT = (0, 0)  # as an abort names none
+MOST_NUMBER = 4  # bytes that are shown as a number
 
 
 class Decoder:
@@ -42,12 +45,16 @@ class Decoder:
     def __init__(self, objects: Objects, answers_missing: bool = False):
         self.objects = objects
         self.node = Node(objects, answers_missing)
+        # as they were before the frame that is put in or out
+        self.running: Optional[Transfer] = None
+        self.asked: Optional[Sdo] = None
 
     # what goes in and out
 
     def put_in(self, entry: Entry, accepted: bool = True) -> Row:
         """The row of a record. One that was refused tells nothing about the node."""
         what = entry.what
+        self.running = self.node.transfer
         if isinstance(what, Frame):
             if accepted:
                 self.node.receive(what)
@@ -65,6 +72,7 @@ class Decoder:
 
     def put_out(self, frame: Frame, entry: Entry) -> Row:
         """The row of a frame that the node sent."""
+        self.running, self.asked = self.node.transfer, self.node.request
         self.node.send(frame)
         row = self.row_out(frame)
         row.time, row.line = entry.time, entry.line
@@ -90,13 +98,19 @@ class Decoder:
         sdo = can.sdo_of(frame)
         if sdo is None:
             return self.make(IN, 'SDO request', frame, [f'{len(frame.data)} bytes: not served'])
-        command = sdo.command >> 5
-        if command == can.DOWNLOAD:
+        if sdo.starts_segments:
+            told = f'{byte_count(int.from_bytes(sdo.data, "little"))} told, ' if sdo.command & can.SIZE_TOLD else ''
+            return self.make(IN, 'SDO write', frame, [self.remark(sdo.place, f'{told}by segments')])
+        if sdo.kind == can.DOWNLOAD:
             size = can.told_size(sdo.command) or self.size_of(sdo.place)
             return self.make(IN, 'SDO write', frame, [self.object_text(sdo.place, sdo.data[:size])])
-        if command == can.UPLOAD:
+        if sdo.kind == can.UPLOAD:
             return self.make(IN, 'SDO read', frame, [self.object_text(sdo.place)])
-        if command == can.ABORT:
+        if sdo.kind == can.DOWNLOAD_SEGMENT:
+            return self.data_segment(IN, segments.DOWNLOAD, frame)
+        if sdo.kind == can.UPLOAD_SEGMENT:
+            return self.make(IN, 'SDO segment', frame, [self.segment_text(segments.UPLOAD, toggle_of(sdo.command))])
+        if sdo.kind == can.ABORT:
             return self.make(IN, 'SDO abort', frame, [self.abort_text(sdo)])
         return self.make(IN, 'SDO request', frame, [self.object_text(sdo.place), f'unknown command {sdo.command:02X}h'])
 
@@ -127,8 +141,18 @@ class Decoder:
         sdo = can.sdo_of(frame)
         if sdo is None:
             return self.make(OUT, 'SDO answer', frame, [f'{len(frame.data)} bytes, where 8 are due'])
+        if sdo.command == can.WRITTEN and self.asked and self.asked.starts_segments:
+            return self.make(OUT, 'SDO ready', frame, [self.remark(sdo.place, 'by segments')])
         if sdo.command == can.WRITTEN:
             return self.make(OUT, 'SDO written', frame, [self.object_text(sdo.place)])
+        if sdo.command in can.READ_BY_SEGMENTS:
+            told = f'{byte_count(int.from_bytes(sdo.data, "little"))}, ' if sdo.command & can.SIZE_TOLD else ''
+            return self.make(OUT, 'SDO value', frame, [self.remark(sdo.place, f'{told}by segments')])
+        if sdo.kind == can.SEGMENT_READ:
+            return self.data_segment(OUT, segments.UPLOAD, frame)
+        if sdo.kind == can.SEGMENT_WRITTEN:
+            service = 'SDO written' if self.asked and self.asked.is_last_segment else 'SDO segment'
+            return self.make(OUT, service, frame, [self.segment_text(segments.DOWNLOAD, toggle_of(sdo.command), ', taken')])
         if sdo.command in can.READ_SIZES:
             row = self.make(OUT, 'SDO value', frame, [self.object_text(sdo.place, sdo.data[:can.READ_SIZES[sdo.command]])])
             if sdo.place == STATUS_WORD:
@@ -138,8 +162,33 @@ class Decoder:
             return self.make(OUT, 'SDO abort', frame, [self.abort_text(sdo)], BAD)
         return self.make(OUT, 'SDO answer', frame, [self.object_text(sdo.place), f'unknown command {sdo.command:02X}h'])
 
-    def abort_text(self, sdo: Sdo) -> ObjectText:
-        return self.object_text(sdo.place)._replace(value=words.abort(int.from_bytes(sdo.data, 'little')), joint=': ')
+    def abort_text(self, sdo: Sdo) -> Union[ObjectText, str]:
+        text = words.abort(int.from_bytes(sdo.data, 'little'))
+        return self.remark(sdo.place, text) if sdo.place != NO_OBJECT else f'no object: {text}'
+
+    # segments, both ways
+
+    def data_segment(self, direction: str, way: str, frame: Frame) -> Row:
+        """A segment that carries data. Under the last one of a transfer stands the value that all of them make."""
+        segment, running = segment_of(frame.data), self.running
+        row = self.make(direction, 'SDO segment', frame, [self.segment_text(way, segment.toggle, self.carried_text(segment), segment.is_last)])
+        if segment.is_last and running and running.fits(way, segment.toggle):
+            row.details.append(self.object_text(running.place, running.data + segment.data))
+        return row
+
+    def segment_text(self, way: str, toggle: int, more: str = '', is_last: bool = False) -> Union[ObjectText, str]:
+        """Which segment of which transfer, by the transfer that runs before it."""
+        running, last = self.running, 'last ' if is_last else ''
+        if not running or running.direction != way:
+            return f'no {way} runs: {last}segment, toggle {toggle}{more}'
+        due = '' if toggle == running.toggle else f' where {running.toggle} is due'
+        return self.remark(running.place, f'{last}{way} segment {running.count + 1}, toggle {toggle}{due}{more}')
+
+    def carried_text(self, segment: Segment) -> str:
+        """How many bytes a segment carries, and of a text which."""
+        entry = self.objects.get(self.running.place) if self.running else None
+        shown = f' {words.text(segment.data)}' if entry and entry.is_text and segment.data else ''
+        return f', {byte_count(len(segment.data))}{shown}'
 
     # both ways
 
@@ -165,19 +214,27 @@ class Decoder:
         return row
 
     def size_of(self, place: Place) -> int:
-        return self.objects[place].size if place in self.objects else 4
+        """How many bytes an expedited write has that does not tell it."""
+        entry = self.objects.get(place)
+        return entry.size if entry and not entry.is_text else 4
 
     def object_text(self, place: Place, data: Optional[bytes] = None) -> ObjectText:
         entry = self.objects.get(place)
         name = entry.name if entry else '(not in the dictionary)'
         return ObjectText(f'{place[0]:04X}:{place[1]:02X}', name, '' if data is None else self.value_text(place, data))
 
+    def remark(self, place: Place, text: str) -> ObjectText:
+        """What is said about an object and is not its value."""
+        return self.object_text(place)._replace(value=text, joint=': ')
+
     def value_text(self, place: Place, data: bytes) -> str:
         """A value in words where its object has words for it, and as a number otherwise."""
         entry = self.objects.get(place)
         size, value = len(data), int.from_bytes(data, 'little')
+        if entry and entry.is_text:
+            return words.text(data)
         if not entry or entry.size != size:
-            return words.number(value, size) + f' in {size} byte(s)'
+            return (words.number(value, size) if 0 < size <= MOST_NUMBER else words.shown(data)) + f' in {size} byte(s)'
         if place == CONTROL_WORD:
             return words.control_word(value, self.node.mode)
         if place == STATUS_WORD:
@@ -213,6 +270,10 @@ class Decoder:
         """The node's status word after a call that changed it."""
         text = self.object_text(STATUS_WORD)._replace(value=words.status_word(status, self.node.mode))
         return Row(time, '', 'state', details=[text], style=GOOD)
+
+
+def byte_count(count: int) -> str:
+    return f'{count} byte' if count == 1 else f'{count} bytes'
 
 
 def refusal_row(time: int, refusal: int) -> Row:

@@ -8,14 +8,19 @@ from .records import BadInput
 
 FILE = Path(__file__).resolve().parents[2] / 'cendurak.eds'
 
-TYPES = {2: (1, True), 3: (2, True), 4: (4, True), 5: (1, False), 6: (2, False), 7: (4, False)}  # DataType: size, signed
+TEXT = 0  # the size of a text, which is as long as it is
+TYPES = {2: (1, True), 3: (2, True), 4: (4, True), 5: (1, False), 6: (2, False), 7: (4, False), 9: (TEXT, False)}  # DataType: size, signed
 
 
 class Object(NamedTuple):
     name: str
     size: int
     signed: bool
-    default: str  # a number, or one that starts with $NODEID+
+    default: str  # a number, or one that starts with $NODEID+; of a text the text
+
+    @property
+    def is_text(self) -> bool:
+        return self.size == TEXT
 
     def default_for(self, node: int) -> int:
         text = self.default.upper().replace(' ', '')
@@ -23,7 +28,8 @@ class Object(NamedTuple):
         return (base + int(text.removeprefix('$NODEID+') or '0', 0)) % (1 << 8 * self.size)
 
 
-Objects = dict[tuple[int, int], Object]
+Place = tuple[int, int]  # index and subindex
+Objects = dict[Place, Object]
 
 
 def load(path: Path = FILE) -> Objects:
@@ -51,7 +57,8 @@ def object_of(parser: configparser.ConfigParser, title: str) -> Optional[Object]
     try:
         size, signed = TYPES[int(section.get('DataType', '0'), 0)]
         entry = Object(full_name(parser, title), size, signed, section.get('DefaultValue', '0'))
-        entry.default_for(0)
+        if not entry.is_text:
+            entry.default_for(0)
         return entry
     except (KeyError, ValueError):
         return None

@@ -7,7 +7,7 @@ from .log import TICK, Entry, Heading, Note
 from .records import BadInput, Frame, PowerUp, Record
 
 Line = Union[Row, Heading, Note]
-ASKING = ('SDO read', 'SDO write')  # services that have an answer
+ASKING = ('SDO read', 'SDO write', 'SDO segment')  # services that have an answer
 
 
 class Step(NamedTuple):

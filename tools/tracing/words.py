@@ -135,6 +135,19 @@ def abort(code: int) -> str:
     return f"{code:08X}h {ABORTS.get(code, 'unknown abort code')}"
 
 
+MOST_SHOWN = 40  # bytes of a text or of data that belong to no number
+
+
+def text(data: bytes) -> str:
+    """A text in quotes, or its bytes where one of them is no visible character."""
+    visible = data and all(0x20 <= byte < 0x7F for byte in data)
+    return f"'{data[:MOST_SHOWN].decode('ascii')}'" + ('..' if len(data) > MOST_SHOWN else '') if visible else shown(data)
+
+
+def shown(data: bytes) -> str:
+    return data[:MOST_SHOWN].hex(' ').upper() + ('..' if len(data) > MOST_SHOWN else '') or 'nothing'
+
+
 def number(value: int, size: int) -> str:
     """Decimal, and hexadecimal too where it looks different."""
     return str(value) if 0 <= value <= 9 else f'{value} ({value % (1 << 8 * size):X}h)'

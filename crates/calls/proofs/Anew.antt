@@ -16,6 +16,8 @@ use Rattle.rules_dictionary.proofs.Tests.{and-both}
 use Rattle.drive.specs.declared.Drive.{Drive}
 use Rattle.state.specs.declared.Node.{Node}
 use Rattle.state.specs.declared.Pace.{Pace}
+use Rattle.state.specs.declared.Transfer.{Transfer}
+use Rattle.state.specs.declared.Transfer.the-variants.{NoTransfer}
 use Rattle.state.specs.declared.State.{State}
 use Rattle.state.specs.NmtStates.{isOperational}
 use Rattle.rules_services.specs.PdoTraffic.{noneHeld, allIdle}
@@ -38,14 +40,15 @@ use Rattle.calls.proofs.Ends.{renewed, still-plannable}
 use Rattle.calls.proofs.Concluding.{ended-idle, answers}
 
 -- plans, and then all else, written over bytes of a state's length
-pub all-written : (bs : List ℕ) {bs′ bs″ : List ℕ} (plans : List Plan) (node : Node) (drive : Drive) (ready held : List PdoData) (paces : List Pace) →
+pub all-written : (bs : List ℕ) {bs′ bs″ : List ℕ} (plans : List Plan) (node : Node) (transfer : Transfer) (drive : Drive) (ready held : List PdoData)
+    (paces : List Pace) →
     length bs ≡ stateLength → (bs′ ≡ sets bs plansPlace (joined planForm plans)) × Many PlanTyped (2 * eachWay) plans →
-    (bs″ ≡ formOver bs′ (withPlans [] node drive ready held paces)) × HeadTyped (withPlans [] node drive ready held paces) →
-    Holds bs″ (withPlans plans node drive ready held paces)
-all-written bs plans node drive ready held paces long p h =
+    (bs″ ≡ formOver bs′ (withPlans [] node transfer drive ready held paces)) × HeadTyped (withPlans [] node transfer drive ready held paces) →
+    Holds bs″ (withPlans plans node transfer drive ready held paces)
+all-written bs plans node transfer drive ready held paces long p h =
     record {
-      bytes = h .0 ∙ head-over _ plans node drive ready held paces (rw (p .0) (plans-written bs plans long (p .1)));
-      typed = typed-whole plans node drive ready held paces (h .1) (p .1);
+      bytes = h .0 ∙ head-over _ plans node transfer drive ready held paces (rw (p .0) (plans-written bs plans long (p .1)));
+      typed = typed-whole plans node transfer drive ready held paces (h .1) (p .1);
     }
 
 module _ (n : ℕ) {d o : List ℕ} {r : Done} {d′ o′ : List ℕ} (first : firstNode ≤ n) (last : n ≤ lastNode) (long : length d ≡ dictionaryLength)
@@ -61,7 +64,7 @@ module _ (n : ℕ) {d o : List ℕ} {r : Done} {d′ o′ : List ℕ} (first : f
     gives-plans = still-plannable (freshState n) d′ d″ made gives
 
     pub starts-anew : (s : State) {bs″ : List ℕ} →
-        Holds bs″ (withPlans (plansOf d″) (freshState n .node) (freshState n .axis .drive) (readyOf d″) noneHeld allIdle) →
+        Holds bs″ (withPlans (plansOf d″) (freshState n .node) NoTransfer (freshState n .axis .drive) (readyOf d″) noneHeld allIdle) →
         Answers (accepted (ended s d (powerUp n)) o) (acceptedGiven (r .frames)) bs″ d″ o′
     unfolding powerUp freshState
     starts-anew s held =

@@ -58,6 +58,7 @@ as-end : (t : State) (d : List ℕ) {plans : List Plan} {ready : List PdoData} {
     (record {
       state = record {
         node = t .node;
+        transfer = t .transfer;
         axis = record { drive = t .axis .drive; plans = plans; ready = ready; held = t .axis .held; paces = paces };
       };
       dictionary = d;

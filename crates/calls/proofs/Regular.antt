@@ -12,9 +12,10 @@ use Rattle.rules_dictionary.specs.Table.{Row, table, controlWord, mode, heartbe
 use Rattle.rules_dictionary.specs.Values.{Write, write, read, stored}
 use Rattle.rules_dictionary.proofs.Tests.{none-in}
 use Rattle.drive.specs.SetPoints.{modeWritten, controlWritten}
+use Rattle.state.specs.declared.Transfer.{Transfer}
 use Rattle.state.specs.declared.State.{State}
 use Rattle.state.specs.NmtStates.{isOperational}
-use Rattle.rules_services.specs.Effects.{Effect, andThen, withDrive, withHeartbeat, withHeld}
+use Rattle.rules_services.specs.Effects.{Effect, andThen, withDrive, withHeartbeat, withHeld, withTransfer}
 use Rattle.rules_services.specs.Written.{wrote, countRestarted, modeActed, faultReset, controlActed, applied}
 use Rattle.rules_services.specs.Nmt.{left, voltageDisabled, freshState, powerUp, commanded}
 use Rattle.rules_services.specs.Events.{faulted}
@@ -93,11 +94,13 @@ control-acts old ws t d =
     whichever (Acts t) (wrote controlWord ws) (whichever (Acts t) (c .reset) ((refl, refl), inr refl) ((refl, refl), inl refl))
     ((refl, refl), inl refl)
 
-applied-applies : (ws : List Write) (s : State) (d : List ℕ) → MayApply s d ws → Applies s (applied ws s d)
+-- whatever transfer then runs
+applied-applies : (t : Transfer) (ws : List Write) (s : State) (d : List ℕ) → MayApply s d ws → Applies s (applied ws (withTransfer t s) d)
 unfolding applied modeActed countRestarted Acts
-applied-applies ws s d may =
-    let k = moded-keeps (wrote heartbeatTime ws) (wrote mode ws) s ws d in
-    let v = control-acts (read d controlWord) ws (modeActed ws (countRestarted ws s) (stored ws d)) (stored ws d) in
+applied-applies t ws s d may =
+    let u = withTransfer t s in
+    let k = moded-keeps (wrote heartbeatTime ws) (wrote mode ws) u ws d in
+    let v = control-acts (read d controlWord) ws (modeActed ws (countRestarted ws u) (stored ws d)) (stored ws d) in
     record {
       nmt = v .0 .0 ∙ k .0;
       paces = v .0 .1 ∙ k .1;
@@ -111,7 +114,7 @@ unfolding andThen
 releases-apply Releases.none = record { nmt = refl; paces = refl; rows = λ w i. absurd (none-in i); quiet = inr (λ w i. absurd (none-in i)) }
 releases-apply (Releases.skips rest) = let b = releases-apply rest in record { nmt = b .nmt; paces = b .paces; rows = b .rows; quiet = b .quiet }
 releases-apply {s = s} {d = d} (Releases.next h ws {e} cleared may rest) =
-    let a = applied-applies ws (withHeld h s) d may in
+    let a = applied-applies (s .transfer) ws (withHeld h s) d may in
     let b = releases-apply rest in
     let first = applied ws (withHeld h s) d .writes in
     let off : isOperational (s .node .nmt) ≡ false → (isOperational (s .node .nmt) ≡ false) ⊎ NoPdo (first ++ e .writes) = λ n. inl n in
@@ -142,10 +145,10 @@ power-up-regular n s = outside s _ (λ w i. defaults-within n table w (rw append
 pub regular : {K : Type 0} {s : State} {d : List ℕ} {e : Effect} → Serves K s d e → K → Lawful s d → Regular s e
 unfolding commanded powerUp freshState voltageDisabled left faulted
 regular {s = s} Serves.nothing k law = unwritten s _ refl (λ on. refl)
-regular {s = s} (Serves.replies c v rq small octet) k law = unwritten s _ refl (λ on. refl)
+regular {s = s} (Serves.replies t said) k law = unwritten s _ refl (λ on. refl)
 regular {s = s} (Serves.alarms l code) k law = unwritten s _ refl (λ on. refl)
-regular {s = s} {d = d} (Serves.applies ws before may) k law =
-    let r = applies-regular (applied-applies ws s d (may k law)) in
+regular {s = s} {d = d} (Serves.applies t ws before may) k law =
+    let r = applies-regular (applied-applies t ws s d (may k law)) in
     record { rows = r .rows; paces = r .paces; idle = r .idle }
 regular {s = s} (Serves.holds bs l i on synchronous long legal) k law = unwritten s _ refl (λ on. refl)
 regular (Serves.releases r) k law =

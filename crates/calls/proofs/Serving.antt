@@ -1,30 +1,35 @@
 -- A frame, by its identifier: what each service needs of a sound state, and which effect it serves.
 -- Assumes nothing.
-use Prim.Native.Nat.{ℕ, _+_}
+use Prim.Native.Nat.{ℕ, _+_, _<_}
 use native.Mathlib.Omega.{arith}
-use mathlib.Core.Path.{_≡_, sym, _∙_, ap}
+use mathlib.Core.Path.{_≡_, refl, sym, _∙_, ap}
 use mathlib.Core.Bool.{Bool, true, false, cond, and-false}
-use mathlib.Core.List.{List}
-use borrow.Author.Tests.{leb-true, eq-eqb, ne-eqb}
+use mathlib.Core.List.{List, [], _∷_, map}
+use borrow.Author.Tests.{leb-true, eq-eqb, ne-eqb, lt-ltb}
 use lib.Dec.{eqb, leb}
-use lib.ListN.{length}
+use lib.ListN.{length, getD}
 use lib.Seq.{take-all}
 use Rattle.rules_dictionary.specs.declared.PdoData.{PdoData}
 use Rattle.rules_dictionary.specs.TheNode.{firstNode}
 use Rattle.rules_dictionary.specs.Table.{receivePdos}
-use Rattle.rules_dictionary.proofs.Tests.{and-left, and-right}
+use Rattle.rules_dictionary.specs.Numbers.{areBytes}
+use Rattle.rules_dictionary.proofs.Tests.{and-left, and-right, and-both}
+use Rattle.state.specs.declared.Transfer.the-variants.{NoTransfer, Uploading, Downloading}
 use Rattle.state.specs.declared.State.{State}
 use Rattle.state.specs.NmtStates.{isStopped}
 use Rattle.rules_services.specs.Effects.{Effect, becomes}
-use Rattle.rules_services.specs.Sdo.{sdo, requestBase, requestLength}
+use Rattle.rules_services.specs.Sdo.{requestBase, requestLength}
+use Rattle.rules_services.specs.SdoServer.{sdo}
 use Rattle.rules_services.specs.PdoTraffic.{sync, syncBase, receivedBy}
 use Rattle.rules_services.specs.Nmt.{nmt, nmtIdentifier}
 use Rattle.rules.specs.Outcome.{mostData, frameSize}
+use Rattle.rules.specs.Sound.{transferSound}
 use Rattle.rules.specs.Calls.{framed, outputLength}
 use Rattle.theorems.proofs.Lawful.{Lawful, clauses, sound-lawful}
+use Rattle.theorems.proofs.Receipts.{octetsIn, MayRun}
 use Rattle.rules_dictionary.proofs.Padded.{length-padded}
 use Rattle.soundness.proofs.Fresh.{plans-are}
-use Rattle.form.specs.Form.{stateOf}
+use Rattle.form.specs.Form.{stepOffset, objectOffset, subindexOffset, receivedOffset, receiptAt, transferAt, transferPlace, stateOf}
 use Rattle.output.specs.Laying.{OnBus, dataOf}
 use Rattle.output.proofs.Frames.{length-data}
 use Rattle.output.proofs.Left.{lent}
@@ -35,6 +40,30 @@ use Rattle.sdo.specs.Requests.{sdoRests}
 use Rattle.rpdo.specs.Traffic.{syncOf, syncRests, receivedByRests}
 use Rattle.rpdo.proofs.Callable.{lawful-kept, sync-by-length}
 use Rattle.calls.specs.Frames.{Starts, requested, serviced, requestedRests, servicedRests, framedRests}
+
+-- ---- of the bytes that hold a state
+
+bytes-at : (bs : List ℕ) → ((i : ℕ) → getD bs i 0 < 256) → (is : List ℕ) → areBytes (map (λ i. getD bs i 0) is) ≡ true
+bytes-at bs small [] = refl
+bytes-at bs small (i ∷ is) = and-both _ _ (lt-ltb (getD bs i 0) 256 (small i)) (bytes-at bs small is)
+
+-- what runs is of bytes, as they are
+pub runs-in : (bs : List ℕ) → ((i : ℕ) → getD bs i 0 < 256) → transferSound (stateOf bs .transfer) ≡ true → MayRun (stateOf bs .transfer)
+unfolding stateOf transferAt receiptAt
+runs-in bs small h = record { sound = h; octets = go (eqb (getD bs transferPlace 0) 0) (eqb (getD bs transferPlace 0) 1) }
+  where
+    from : ℕ
+    from = transferPlace + stepOffset
+
+    go : (a b : Bool) → octetsIn (cond a NoTransfer (cond b (Uploading (getD bs from 0)) (Downloading (receiptAt from bs))))
+    go true b = tt
+    go false true = tt
+    go false false =
+        let object = from + objectOffset in
+        let first = from + receivedOffset in (
+          bytes-at bs small (object ∷ (object + 1) ∷ (from + subindexOffset) ∷ []),
+          bytes-at bs small (first ∷ (first + 1) ∷ (first + 2) ∷ (first + 3) ∷ []),
+        )
 
 -- ---- of a sound state and dictionary
 

@@ -63,6 +63,7 @@ endWith was t occasion d =
     record {
       state = record {
         node = t .node;
+        transfer = t .transfer;
         axis = record {
           drive = t .axis .drive;
           plans = plansOf d;

@@ -11,7 +11,8 @@ use Rattle.rules_dictionary.specs.Table.{receivePdos}
 use Rattle.state.specs.declared.State.{State}
 use Rattle.state.specs.NmtStates.{isStopped}
 use Rattle.rules_services.specs.Effects.{Effect, becomes}
-use Rattle.rules_services.specs.Sdo.{sdo, requestBase, requestLength}
+use Rattle.rules_services.specs.Sdo.{requestBase, requestLength}
+use Rattle.rules_services.specs.SdoServer.{sdo}
 use Rattle.rules_services.specs.PdoTraffic.{sync, syncBase, receivedBy}
 use Rattle.rules_services.specs.Nmt.{nmtIdentifier}
 use Rattle.form.specs.Form.{stateLength, stateOf}

@@ -32,6 +32,7 @@ use settling::settle;
 use state::Answer;
 use state::Refusal;
 use state::State;
+use state::Transfer;
 use tpdo::IDLE;
 ghost use mathlib.Core.Path.{_≡_};
 ghost use mathlib.Core.Bool.{false};
@@ -128,6 +129,7 @@ pub fn power_up_in(state: &mut [u8], d: &mut [u8], output: &mut [u8], n: u32) ->
     write_head(
         state,
         node,
+        Transfer::NoTransfer,
         drive,
         [none, none, none, none],
         [none, none, none, none],

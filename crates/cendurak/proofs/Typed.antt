@@ -37,7 +37,7 @@ use Rattle.drive.specs.SetPoints.{positions, emptied, enters, withState, behind
 use Rattle.drive.specs.SetPoints.{offered, setPointRule, modeWritten, controlWritten, newSetPointBit, atOnceBit}
 use Rattle.state.specs.declared.NmtState.{NmtState}
 use Rattle.state.specs.declared.State.{State}
-use Rattle.rules_services.specs.Effects.{Effect, andThen, withHeld}
+use Rattle.rules_services.specs.Effects.{Effect, andThen, withHeld, withTransfer}
 use Rattle.rules_services.specs.Written.{wrote, countRestarted, modeActed, faultReset, controlActed, applied}
 use Rattle.rules_services.specs.Nmt.{commanded, powerUp, freshState, left, voltageDisabled}
 use Rattle.rules_services.specs.Events.{faulted}
@@ -230,9 +230,9 @@ served-typed : {K : Type 0} {s : State} {d : List ℕ} {e : Effect} → Serves K
     Fits (s .axis .drive) → FitsBy e
 unfolding commanded powerUp freshState voltageDisabled left faulted
 served-typed Serves.nothing b t = t
-served-typed (Serves.replies c v rq small octet) b t = t
+served-typed (Serves.replies run said) b t = t
 served-typed (Serves.alarms l code) b t = t
-served-typed {s = s} {d = d} (Serves.applies ws before may) b t = applied-typed ws s d b t
+served-typed {s = s} {d = d} (Serves.applies run ws before may) b t = applied-typed ws (withTransfer run s) d b t
 served-typed (Serves.holds bs l i on synchronous long legal) b t = t
 served-typed (Serves.releases r) b t = releases-typed r b t
 served-typed (Serves.starts h idle) b t = t

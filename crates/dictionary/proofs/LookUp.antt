@@ -12,7 +12,7 @@ use lib.Dec.{eqb, ltb}
 use lib.ListN.{length, getD}
 use Rattle.rules_dictionary.specs.Members.{In, here, there}
 use Rattle.rules_dictionary.specs.Numbers.{all, any}
-use Rattle.rules_dictionary.specs.Table.{Row, deviceType, table, entries, rowAt, key, Found, found, noObject, noSubindex, lookup}
+use Rattle.rules_dictionary.specs.Table.{Row, deviceType, table, entries, rowAt, key, Found, found, theName, noObject, noSubindex, rowOf}
 use Rattle.rules_dictionary.proofs.Tests.{and-left, and-right, all-in, getD-in}
 use Rattle.rules_dictionary.proofs.Packing.{rising}
 use Rattle.rules_dictionary.proofs.LookUp.{Tells, told}
@@ -102,27 +102,30 @@ module _ (i s r : ℕ) (small : s < 256) (l : LastUpTo (i * 256 + s) r) where
       go z k (inr (inl h)) = omega arith
       go z k (inr (inr h)) = absurd (omega arith)
 
-  pub is-entry : key (rowAt r) ≡ i * 256 + s → lookup i s ≡ found (rowAt r)
-  is-entry h = go (lookup i s) refl (told i s refl)
+  pub is-entry : key (rowAt r) ≡ i * 256 + s → rowOf i s ≡ found (rowAt r)
+  is-entry h = go (rowOf i s) refl (told i s refl)
     where
-      go : (f : Found) → lookup i s ≡ f → Tells false i s table f → f ≡ found (rowAt r)
+      go : (f : Found) → rowOf i s ≡ f → Tells false i s table f → f ≡ found (rowAt r)
       go (found y) e t = ap found (is-it (t .0) (t .1 .0) (t .1 .1))
+      go theName e t = absurd t
       go noObject e t = absurd (t .1 (rowAt r) in-table (omega (arith, byte in-table)))
       go noSubindex e t = absurd (t .1 (rowAt r) in-table (omega (arith, byte in-table)) (omega (arith, byte in-table)))
 
-  pub is-no-subindex : (key (rowAt r) ≡ i * 256 + s → ⊥) → key (rowAt r) / 256 ≡ i → lookup i s ≡ noSubindex
-  is-no-subindex n h = go (lookup i s) refl (told i s refl)
+  pub is-no-subindex : (key (rowAt r) ≡ i * 256 + s → ⊥) → key (rowAt r) / 256 ≡ i → rowOf i s ≡ noSubindex
+  is-no-subindex n h = go (rowOf i s) refl (told i s refl)
     where
-      go : (f : Found) → lookup i s ≡ f → Tells false i s table f → f ≡ noSubindex
+      go : (f : Found) → rowOf i s ≡ f → Tells false i s table f → f ≡ noSubindex
       go (found y) e t = let q : key (rowAt r) ≡ key y = ap key (sym (is-it (t .0) (t .1 .0) (t .1 .1))) in absurd (n (omega arith))
+      go theName e t = absurd t
       go noObject e t = absurd (t .1 (rowAt r) in-table (omega (arith, byte in-table)))
       go noSubindex e t = refl
 
-  pub is-no-object : (key (rowAt r) / 256 ≡ i → ⊥) → lookup i s ≡ noObject
-  is-no-object n = go (lookup i s) refl (told i s refl)
+  pub is-no-object : (key (rowAt r) / 256 ≡ i → ⊥) → rowOf i s ≡ noObject
+  is-no-object n = go (rowOf i s) refl (told i s refl)
     where
-      go : (f : Found) → lookup i s ≡ f → Tells false i s table f → f ≡ noObject
+      go : (f : Found) → rowOf i s ≡ f → Tells false i s table f → f ≡ noObject
       go (found y) e t = absurd (n (of-its-object (t .0) (t .1 .0)))
+      go theName e t = absurd t
       go noObject e t = refl
       go noSubindex e (inl q, t) = absurd (false≢true q)
       go noSubindex e (inr (y, (m, p)), t) = absurd (n (of-its-object m p))

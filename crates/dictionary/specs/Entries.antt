@@ -44,14 +44,16 @@ pub record Stands (i s : ℕ) (e : Entry) : Type 0 where
   pub reads : (d : List ℕ) → value (part (e .place) (e .size) d) ≡ values.read d row
   pub writes : (v : ℕ) (d : List ℕ) → sets d (e .place) (bytes (e .size) v) ≡ values.store row v d
 
--- what the look-up of an index and subindex finds: the row, or that none is there
+-- what the look-up of an index and subindex finds: the row, the device name, or that nothing is there
 abbrev pub IsFound : ℕ → ℕ → Found → Type 0
 IsFound i s (found.Row p) = Stands i s (entryAt p)
+IsFound i s found.DeviceName = rows.lookup i s ≡ rows.theName
 IsFound i s found.NoObject = rows.lookup i s ≡ rows.noObject
 IsFound i s found.NoSubindex = rows.lookup i s ≡ rows.noSubindex
 
--- .. and whether one is
+-- .. and whether anything is
 abbrev pub presenceOf : rows.Found → Presence
 presenceOf (rows.found x) = presence.Listed
+presenceOf rows.theName = presence.Listed
 presenceOf rows.noObject = presence.NoObject
 presenceOf rows.noSubindex = presence.NoSubindex

@@ -137,8 +137,9 @@ pub record LastUpTo (k rank : ℕ) : Type 0 where
   pub low : 0 < rank → rows.key (rows.rowAt rank) ≤ k
   pub high : suc rank < rows.entries → k < rows.key (rows.rowAt (suc rank))
 
--- what a look-up finds, in one number: the line of the row, and below it in 16 bits its place; or one of two that no row has
+-- what a look-up finds, in one number: the line of the row, and below it in 16 bits its place; or one of three that no row has
 abbrev pub spotOf : rows.Found → ℕ
 spotOf (rows.found x) = lineOf x * 2 ^ 16 + rows.placeOf x
 spotOf rows.noSubindex = 2 ^ 16 - 1
 spotOf rows.noObject = 2 ^ 16 - 2
+spotOf rows.theName = 2 ^ 16 - 3

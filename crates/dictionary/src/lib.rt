@@ -4,6 +4,7 @@ pub mod places; // where the values stand
 pub mod objects; // the objects that the node itself reads and writes
 pub mod records; // the records of the PDOs
 pub mod choices; // modes of operation and transmission types
+pub mod name; // the device name
 mod values; // a value read and written at a place
 mod table; // the rows, and the look-up by index and subindex
 mod defaults; // the values after power-up
@@ -42,6 +43,7 @@ pub struct Entry {
 // What a look-up finds.
 pub enum Found {
     Row(Spot),
+    DeviceName,
     NoObject,
     NoSubindex,
 }

@@ -11,7 +11,7 @@ use rules_dictionary::Role;
 ghost use mathlib.Core.Path.{_≡_};
 ghost use mathlib.Core.List.{map};
 ghost use Prim.Native.Nat.{_-_, _<_, _≤_, _^_};
-ghost use Rattle.rules_dictionary.specs.Table.{table, entries, rowAt, placeOf, lookup};
+ghost use Rattle.rules_dictionary.specs.Table.{table, entries, rowAt, placeOf, rowOf, lookup};
 ghost use Rattle.dictionary.specs.Entries.{entryAt, IsFound, presenceOf};
 ghost use Rattle.dictionary.specs.Lines.{lineOf, LastUpTo, accessIn, leastIn, greatestIn, roomOf, roleIn, PdoIn, communicationOffset};
 ghost use Rattle.dictionary.specs.Lines.{mappingOffset, sizesFrom, drivePlace, placeIn, spotOf};
@@ -209,6 +209,13 @@ const NO_SUBINDEX: u64 = 0xFFFF;
 
 const NO_OBJECT: u64 = 0xFFFE;
 
+const THE_NAME: u64 = 0xFFFD;
+
+// The device name, which has no row.
+const NAME_INDEX: u16 = 0x1008;
+
+const NAME_SUBINDEX: u8 = 0;
+
 // The rank of the last row whose index and subindex are not above the key, by halving; the first where there is none. The width of what
 // is left is a power of two, whatever was found, so that the steps are always the same.
 fn last_up_to(rows: &[u32], key: u32) -> usize
@@ -386,10 +393,10 @@ fn wide(line: u32) -> u64
     line as u64
 }
 
-// What the look-up of an index and subindex finds: each object has an entry at subindex 0.
+// What the table has at an index and subindex: each object has an entry at subindex 0.
 fn spot_in(rows: &[u32], index: u16, subindex: u8) -> u64
     requires { ⌜ now rows ≡ map lineOf table ⌝ }
-    ensures { λ r. ⌜ r ≡ spotOf (lookup index subindex) ⌝ }
+    ensures { λ r. ⌜ r ≡ spotOf (rowOf index subindex) ⌝ }
 {
     let object = index as u32;
     let key = object * SUBINDEXES + (subindex as u32);
@@ -404,10 +411,16 @@ fn spot_in(rows: &[u32], index: u16, subindex: u8) -> u64
     NO_OBJECT
 }
 
-// The same in the table, which is lent once a look-up: it is laid on the stack.
+// What the look-up of an index and subindex finds. The table is lent once a look-up: it is laid on the stack.
 fn spot_of(index: u16, subindex: u8) -> u64
     ensures { λ r. ⌜ r ≡ spotOf (lookup index subindex) ⌝ }
 {
+    if index == NAME_INDEX {
+        if subindex == NAME_SUBINDEX {
+            return THE_NAME;
+        }
+        return NO_SUBINDEX;
+    }
     spot_in(&ROWS, index, subindex)
 }
 
@@ -438,17 +451,20 @@ impl Spot {
     }
 }
 
-// The row of an index and subindex; without one, whether the object is there.
+// What stands at an index and subindex; where nothing does, whether the object is there.
 pub fn find(index: u16, subindex: u8) -> Found
     ensures { λ r. ⌜ IsFound index subindex r ⌝ }
 {
     let spot = spot_of(index, subindex);
     let place = spot % LINE;
-    if place < NO_OBJECT {
+    if place < THE_NAME {
         return Found::Row(Spot {
             line: (spot / LINE % 0x1_0000_0000) as u32,
             place: place as u16,
         });
+    }
+    if place == THE_NAME {
+        return Found::DeviceName;
     }
     if place == NO_OBJECT {
         return Found::NoObject;
@@ -461,7 +477,7 @@ pub fn seek(index: u16, subindex: u8) -> Presence
     ensures { λ r. ⌜ r ≡ presenceOf (lookup index subindex) ⌝ }
 {
     let place = spot_of(index, subindex) % LINE;
-    if place < NO_OBJECT {
+    if place <= THE_NAME {
         return Presence::Listed;
     }
     if place == NO_OBJECT {

@@ -31,6 +31,9 @@ use Rattle.state.specs.declared.NmtState.{NmtState}
 use Rattle.state.specs.declared.NmtState.the-variants.{PreOperational, Operational, Stopped}
 use Rattle.state.specs.declared.Node.{Node}
 use Rattle.state.specs.declared.Pace.{Pace}
+use Rattle.state.specs.declared.Receipt.{Receipt}
+use Rattle.state.specs.declared.Transfer.{Transfer}
+use Rattle.state.specs.declared.Transfer.the-variants.{NoTransfer, Uploading, Downloading}
 use Rattle.state.specs.declared.State.{State}
 use Rattle.rules_dictionary.proofs.Rows.{value-bytes}
 use Rattle.form.specs.Form.{wordLength, wordAt, numbersBehind, setPointWords, dueOffset, paceLength, paceForm, paceAt}
@@ -40,12 +43,13 @@ use Rattle.form.specs.Form.{storeForm, storeAt, driveForm, driveAt, data
 use Rattle.form.specs.Form.{stateOf, nmtOffset, voltageOffset, heartbeatOffset, nodeLength, velocityOffset, accelerationOffset}
 use Rattle.form.specs.Form.{decelerationOffset, setPointLength, modeOffset, takenOffset, limitOffset, causeOffset, storeOffset, driveLength}
 use Rattle.form.specs.Form.{dataLength, moveLength, planLength, nodePlace, drivePlace, storePlace, readyPlace, heldPlace, pacesPlace}
-use Rattle.form.specs.Form.{plansPlace}
-use Rattle.form.specs.Own.{everyAt, ownFlag, flagsOwn, everyWord, isZero, small, nodeOwn, storeOwn, driveOwn}
+use Rattle.form.specs.Form.{plansPlace, objectOffset, toggleOffset, receiptForm, receiptAt, transferKind, receiptOf}
+use Rattle.form.specs.Form.{stepOffset, receiptWords, transferLength, transferForm, transferAt, transferPlace}
+use Rattle.form.specs.Own.{everyAt, ownFlag, flagsOwn, everyWord, isZero, small, nodeOwn, transferOwn, storeOwn, driveOwn}
 use Rattle.form.specs.Own.{pacesOwn, planOwn, plansOwn, headOwn, isOwn}
 use Rattle.form.specs.Typed.{Many, none, more, SetPointTyped, StoreTyped, AnyPace, DataTyped, MoveTyped, PlanTyped, Typed}
-use Rattle.form.proofs.Rows.{each-element, length-node, length-set-point, length-drive, length-data, length-move, length-plan, length-frames}
-use Rattle.form.proofs.Rows.{length-pace, length-paces}
+use Rattle.form.proofs.Rows.{each-element, length-node, length-transfer, length-set-point, length-drive, length-data, length-move}
+use Rattle.form.proofs.Rows.{length-plan, length-frames, length-pace, length-paces}
 
 -- ---- enums and flags
 
@@ -73,6 +77,12 @@ state-of QuickStopActive = refl
 state-of FaultReactionActive = refl
 state-of Fault = refl
 
+transfer-of : (t : Transfer) (k n : ℕ) (g : Receipt) → k ≡ transferKind t → n ≡ receiptOf t .count → g ≡ receiptOf t →
+    cond (eqb k 0) NoTransfer (cond (eqb k 1) (Uploading n) (Downloading g)) ≡ t
+transfer-of NoTransfer k n g e f h = rw e
+transfer-of (Uploading x) k n g e f h = rw (e, f)
+transfer-of (Downloading x) k n g e f h = rw (e, h)
+
 store-of : (s : Store) (k t : ℕ) (a b : SetPoint) → k ≡ storeKind s → t ≡ firstOf s .target → a ≡ firstOf s → b ≡ secondOf s →
     cond (eqb k 0) Empty (cond (eqb k 1) (Rested t) (cond (eqb k 2) (Moving a) (Queued a b))) ≡ s
 store-of Empty k t a b e f g h = rw e
@@ -87,10 +97,10 @@ pub as-data : {n n′ : ℕ} {bs bs′ : List ℕ} → n ≡ n′ → bs ≡ bs�
     _≡_ {A = PdoData} (record { length = n; bytes = bs }) (record { length = n′; bytes = bs′ })
 as-data e f = rw (e, f)
 
-as-state : (s : State) {n : Node} {v : Drive} {ps : List Plan} {r h : List PdoData} {c : List Pace} →
-    n ≡ s .node → v ≡ s .axis .drive → ps ≡ s .axis .plans → r ≡ s .axis .ready → h ≡ s .axis .held → c ≡ s .axis .paces →
-    record { node = n; axis = record { drive = v; plans = ps; ready = r; held = h; paces = c } } ≡ s
-as-state s e1 e2 e3 e4 e5 e6 = rw (e1, e2, e3, e4, e5, e6)
+as-state : (s : State) {n : Node} {f : Transfer} {v : Drive} {ps : List Plan} {r h : List PdoData} {c : List Pace} →
+    n ≡ s .node → f ≡ s .transfer → v ≡ s .axis .drive → ps ≡ s .axis .plans → r ≡ s .axis .ready → h ≡ s .axis .held → c ≡ s .axis .paces →
+    record { node = n; transfer = f; axis = record { drive = v; plans = ps; ready = r; held = h; paces = c } } ≡ s
+as-state s e1 e2 e3 e4 e5 e6 e7 = rw (e1, e2, e3, e4, e5, e6, e7)
 
 -- words that are zero
 abbrev zeroWords : ℕ → List ℕ
@@ -138,6 +148,39 @@ module _ (bs : List ℕ) where
       let voltage : getD bs (nodePlace + voltageOffset) 0 ≡ flagNumber (n .voltage) = byte-at nodePlace voltageOffset e in
       rw (byte-at nodePlace 0 e, nmt, voltage, part-at nodePlace heartbeatOffset 2 e, value-bytes 2 (n .heartbeat) h)
       (rw (nmt-of (n .nmt), flag-of (n .voltage)) (refl, rw (same (nmtNumber (n .nmt))) (same (flagNumber (n .voltage)))))
+
+  receipt-back : (g : Receipt) (rest : List ℕ) → drop (transferPlace + stepOffset) bs ≡ receiptForm g ++ rest →
+      receiptAt (transferPlace + stepOffset) bs ≡ g
+  unfolding receiptForm receiptAt
+  receipt-back g rest e =
+      let byte : (i : ℕ) → getD bs (transferPlace + stepOffset + i) 0 ≡ getD (receiptForm g ++ rest) i 0 =
+      λ i. byte-at (transferPlace + stepOffset) i e in
+      rw (byte 0, byte 1, byte 2, byte 3, byte 4, byte 5, byte 6, byte 7, byte 8, flag-of (g .toggle))
+
+  -- what a kind of transfer does not use is zero, and a download's toggle is a flag
+  spare-back : (t : Transfer) (rest : List ℕ) → getD bs transferPlace 0 ≡ transferKind t →
+      drop (transferPlace + stepOffset) bs ≡ receiptForm (receiptOf t) ++ rest → transferOwn transferPlace bs ≡ true
+  unfolding transferOwn receiptForm bytes
+  spare-back NoTransfer rest k e =
+      let step : getD bs (transferPlace + stepOffset) 0 ≡ 0 = byte-at (transferPlace + stepOffset) 0 e in
+      let words = behind (transferPlace + stepOffset) objectOffset (0 ∷ []) e refl in
+      rw (k, step) (zeros-back receiptWords (transferPlace + stepOffset + objectOffset) rest words)
+  spare-back (Uploading x) rest k e =
+      let words = behind (transferPlace + stepOffset) objectOffset (x ∷ []) e refl in
+      rw k (zeros-back receiptWords (transferPlace + stepOffset + objectOffset) rest words)
+  spare-back (Downloading g) rest k e =
+      let toggle : getD bs (transferPlace + stepOffset + toggleOffset) 0 ≡ flagNumber (g .toggle) =
+      byte-at (transferPlace + stepOffset) toggleOffset e in
+      rw (k, toggle, flag-of (g .toggle)) (same (flagNumber (g .toggle)))
+
+  transfer-back : (t : Transfer) (rest : List ℕ) → drop transferPlace bs ≡ transferForm t ++ rest →
+      (transferAt transferPlace bs ≡ t) × (transferOwn transferPlace bs ≡ true)
+  unfolding transferForm transferAt receiptAt
+  transfer-back t rest e =
+      let kind : getD bs transferPlace 0 ≡ transferKind t = byte-at transferPlace 0 e in
+      let e1 : drop (transferPlace + stepOffset) bs ≡ receiptForm (receiptOf t) ++ rest = behind transferPlace 1 (transferKind t ∷ []) e refl in
+      let receipt = receipt-back (receiptOf t) rest e1 in
+      (transfer-of t _ _ _ kind (ap (λ (g : Receipt). g .count) receipt) receipt, spare-back t rest kind e1)
 
   set-point-back : (place : ℕ) (p : SetPoint) (rest : List ℕ) → SetPointTyped p → drop place bs ≡ setPointForm p ++ rest → setPointAt place bs ≡ p
   unfolding setPointForm setPointAt bytes
@@ -253,20 +296,22 @@ module _ (bs : List ℕ) where
   state-back s t e =
       let a = s .axis in
       let h = t .head in
-      let e0 : drop nodePlace bs ≡ nodeForm (s .node) ++ (driveForm (a .drive) ++ (joined dataForm (a .ready)
-      ++ (joined dataForm (a .held) ++ (joined paceForm (a .paces) ++ joined planForm (a .plans))))) = e ∙ simp append-assoc in
+      let e0 : drop nodePlace bs ≡ nodeForm (s .node) ++ (transferForm (s .transfer) ++ (driveForm (a .drive) ++ (joined dataForm (a .ready)
+      ++ (joined dataForm (a .held) ++ (joined paceForm (a .paces) ++ joined planForm (a .plans)))))) = e ∙ simp append-assoc in
       let e1 = behind nodePlace nodeLength (nodeForm (s .node)) e0 (length-node (s .node)) in
-      let e2 = behind drivePlace driveLength (driveForm (a .drive)) e1 (length-drive (a .drive)) in
-      let e3 = behind readyPlace (eachWay * dataLength) (joined dataForm (a .ready)) e2 (length-frames (h .ready)) in
-      let e4 = behind heldPlace (eachWay * dataLength) (joined dataForm (a .held)) e3 (length-frames (h .held)) in
-      let e5 = behind pacesPlace (eachWay * paceLength) (joined paceForm (a .paces)) e4 (length-paces (h .paces)) in
+      let e2 = behind transferPlace transferLength (transferForm (s .transfer)) e1 (length-transfer (s .transfer)) in
+      let e3 = behind drivePlace driveLength (driveForm (a .drive)) e2 (length-drive (a .drive)) in
+      let e4 = behind readyPlace (eachWay * dataLength) (joined dataForm (a .ready)) e3 (length-frames (h .ready)) in
+      let e5 = behind heldPlace (eachWay * dataLength) (joined dataForm (a .held)) e4 (length-frames (h .held)) in
+      let e6 = behind pacesPlace (eachWay * paceLength) (joined paceForm (a .paces)) e5 (length-paces (h .paces)) in
       let node = node-back (s .node) _ (h .heartbeat) e0 in
-      let drive = drive-back (a .drive) _ (h .store) e1 in
-      let ready = frames-back readyPlace _ (h .ready) e2 in
-      let held = frames-back heldPlace _ (h .held) e3 in
-      let paces = paces-back _ (h .paces) e4 in
+      let transfer = transfer-back (s .transfer) _ e1 in
+      let drive = drive-back (a .drive) _ (h .store) e2 in
+      let ready = frames-back readyPlace _ (h .ready) e3 in
+      let held = frames-back heldPlace _ (h .held) e4 in
+      let paces = paces-back _ (h .paces) e5 in
       let plans = row-back planForm PlanTyped (λ i. planAt i bs) (λ i. planOwn i bs) planLength length-plan plan-back
-      plansPlace [] (t .plans) (e5 ∙ sym (append-nil (joined planForm (a .plans)))) in (
-        as-state s (node .0) (drive .0) (plans .0) ready held (paces .0),
-        rw (node .1, drive .1, paces .1) (plans .1),
+      plansPlace [] (t .plans) (e6 ∙ sym (append-nil (joined planForm (a .plans)))) in (
+        as-state s (node .0) (transfer .0) (drive .0) (plans .0) ready held (paces .0),
+        rw (node .1, transfer .1, drive .1, paces .1) (plans .1),
       )

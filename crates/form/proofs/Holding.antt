@@ -13,16 +13,16 @@ use Rattle.rules_dictionary.specs.declared.PdoData.{PdoData}
 use Rattle.drive.specs.declared.Drive.{Drive}
 use Rattle.state.specs.declared.Node.{Node}
 use Rattle.state.specs.declared.Pace.{Pace}
+use Rattle.state.specs.declared.Transfer.{Transfer}
 use Rattle.state.specs.declared.State.{State}
 use Rattle.rules_dictionary.specs.Numbers.{bytes}
-use Rattle.rules_services.specs.Effects.{withNode, withHeartbeat, withDrive, withHeld, withPaces}
+use Rattle.rules_services.specs.Effects.{withNode, withHeartbeat, withTransfer, withDrive, withHeld, withPaces}
 use Rattle.form.specs.Form.{joined, nodeForm, driveForm, dataForm, paceForm, planForm, headForm, form, stateOf, isForm, half}
 use Rattle.form.specs.Form.{heartbeatOffset, nodeLength, driveLength, dataLength, paceLength, nodePlace, drivePlace, readyPlace}
-use Rattle.form.specs.Form.{heldPlace, pacesPlace}
-use Rattle.form.specs.Form.{plansPlace, stateLength}
+use Rattle.form.specs.Form.{heldPlace, pacesPlace, plansPlace, stateLength, transferForm, transferLength, transferPlace}
 use Rattle.form.specs.Typed.{Many, none, more, AnyPace, DataTyped, StoreTyped, PlanTyped, HeadTyped}
 use Rattle.form.specs.Holding.{Holds, planned, readying, holding}
-use Rattle.form.proofs.Rows.{length-node, length-drive, length-data, length-frames, length-paces, length-plans, length-form}
+use Rattle.form.proofs.Rows.{length-node, length-transfer, length-drive, length-data, length-frames, length-paces, length-plans, length-form}
 use Rattle.form.proofs.OneForm.{stateOf-form, form-stateOf, typed-read}
 
 -- ---- bytes that hold a state
@@ -87,8 +87,8 @@ many-set (suc p) x (more g m) f = more g (many-set p x m f)
 flat : (s : State) →
     let a = s .axis in
     form s
-    ≡ nodeForm (s .node) ++ (driveForm (a .drive) ++ (joined dataForm (a .ready)
-    ++ (joined dataForm (a .held) ++ (joined paceForm (a .paces) ++ joined planForm (a .plans)))))
+    ≡ nodeForm (s .node) ++ (transferForm (s .transfer) ++ (driveForm (a .drive) ++ (joined dataForm (a .ready)
+    ++ (joined dataForm (a .held) ++ (joined paceForm (a .paces) ++ joined planForm (a .plans))))))
 unfolding form headForm
 flat s = simp append-assoc
 
@@ -99,11 +99,17 @@ module _ {bs : List ℕ} {s : State} (h : Holds bs s) where
   abbrev n : List ℕ
   n = nodeForm (s .node)
 
+  abbrev f : List ℕ
+  f = transferForm (s .transfer)
+
   abbrev v : List ℕ
   v = driveForm (s .axis .drive)
 
   in-node : length n ≡ nodeLength
   in-node = length-node (s .node)
+
+  in-transfer : length f ≡ transferLength
+  in-transfer = length-transfer (s .transfer)
 
   in-drive : length v ≡ driveLength
   in-drive = length-drive (s .axis .drive)
@@ -138,11 +144,28 @@ module _ {bs : List ℕ} {s : State} (h : Holds bs s) where
         };
       }
 
+  pub put-transfer : (x : Transfer) → Holds (sets bs transferPlace (transferForm x)) (withTransfer x s)
+  put-transfer x =
+      record {
+        bytes = rw (h .bytes, flat s, flat (withTransfer x s))
+            (within n nodeLength 0 (transferForm x) _ in-node (sets-first f _ (transferForm x) (length-transfer x ∙ sym in-transfer)));
+        typed = record {
+          head = record { heartbeat = t .heartbeat; store = t .store; ready = t .ready; held = t .held; paces = t .paces };
+          plans = h .typed .plans;
+        };
+      }
+
+  -- what is written from the drive on, behind the parts before it
+  behind-transfer : (k : ℕ) (xs d : List ℕ) {d′ : List ℕ} → sets d k xs ≡ d′ → sets (n ++ (f ++ d)) (drivePlace + k) xs ≡ n ++ (f ++ d′)
+  behind-transfer k xs d e =
+      let place : drivePlace + k ≡ nodeLength + (transferLength + k) = omega arith in
+      rw place (within n nodeLength (transferLength + k) xs _ in-node (within f transferLength k xs d in-transfer e))
+
   pub put-drive : (x : Drive) → StoreTyped (x .store) → Holds (sets bs drivePlace (driveForm x)) (withDrive x s)
   put-drive x fits =
       record {
         bytes = rw (h .bytes, flat s, flat (withDrive x s))
-            (within n nodeLength 0 (driveForm x) _ in-node (sets-first v _ (driveForm x) (length-drive x ∙ sym in-drive)));
+            (behind-transfer 0 (driveForm x) _ (sets-first v _ (driveForm x) (length-drive x ∙ sym in-drive)));
         typed = record {
           head = record { heartbeat = t .heartbeat; store = fits; ready = t .ready; held = t .held; paces = t .paces };
           plans = h .typed .plans;
@@ -153,10 +176,10 @@ module _ {bs : List ℕ} {s : State} (h : Holds bs s) where
   pub put-one-ready : (k : ℕ) (x : PdoData) → k < eachWay → DataTyped x →
       Holds (sets bs (readyPlace + dataLength * k) (dataForm x)) (readying k x s)
   put-one-ready k x i fits =
-      let place : readyPlace + dataLength * k ≡ nodeLength + (driveLength + dataLength * k) = omega arith in
+      let place : readyPlace + dataLength * k ≡ drivePlace + (driveLength + dataLength * k) = omega arith in
       record {
         bytes = rw (h .bytes, flat s, flat (readying k x s), place)
-            (within n nodeLength (driveLength + dataLength * k) (dataForm x) _ in-node (within v driveLength (dataLength * k) (dataForm x) _ in-drive
+            (behind-transfer (driveLength + dataLength * k) (dataForm x) _ (within v driveLength (dataLength * k) (dataForm x) _ in-drive
             (row-set (s .axis .ready) k x _ (t .ready) fits i)));
         typed = record {
           head = record { heartbeat = t .heartbeat; store = t .store; ready = many-set k x (t .ready) fits; held = t .held; paces = t .paces };
@@ -166,11 +189,12 @@ module _ {bs : List ℕ} {s : State} (h : Holds bs s) where
 
   -- what is written from the held frames on, behind the parts before them
   behind-ready : (k : ℕ) (xs d : List ℕ) {d′ : List ℕ} → sets d k xs ≡ d′ →
-      sets (n ++ (v ++ (joined dataForm (s .axis .ready) ++ d))) (heldPlace + k) xs ≡ n ++ (v ++ (joined dataForm (s .axis .ready) ++ d′))
+      sets (n ++ (f ++ (v ++ (joined dataForm (s .axis .ready) ++ d)))) (heldPlace + k) xs
+      ≡ n ++ (f ++ (v ++ (joined dataForm (s .axis .ready) ++ d′)))
   behind-ready k xs d e =
       let frames = eachWay * dataLength in
-      let place : heldPlace + k ≡ nodeLength + (driveLength + (frames + k)) = omega arith in
-      rw place (within n nodeLength (driveLength + (frames + k)) xs _ in-node (within v driveLength (frames + k) xs _ in-drive
+      let place : heldPlace + k ≡ drivePlace + (driveLength + (frames + k)) = omega arith in
+      rw place (behind-transfer (driveLength + (frames + k)) xs _ (within v driveLength (frames + k) xs _ in-drive
       (within (joined dataForm (s .axis .ready)) frames k xs d in-ready e)))
 
   pub put-held : (x : List PdoData) → Many DataTyped eachWay x → Holds (sets bs heldPlace (joined dataForm x)) (withHeld x s)

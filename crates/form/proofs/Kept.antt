@@ -16,6 +16,7 @@ use Rattle.rules_dictionary.specs.Legal.{modeNumber}
 use Rattle.rules_dictionary.proofs.Tests.{and-left, and-right}
 use Rattle.drive.specs.declared.Store.the-variants.{Empty, Rested, Moving, Queued}
 use Rattle.drive.specs.SetPoints.{modeOf}
+use Rattle.state.specs.declared.Transfer.the-variants.{NoTransfer, Uploading, Downloading}
 use Rattle.dictionary.proofs.Bytes.{value-step}
 use Rattle.form.specs.Form.{flagNumber, flagOf, nmtNumber, nmtOf, stateNumber, driveStateOf, each, joined, nodeForm, nodeAt, wordLength, wordAt}
 use Rattle.form.specs.Form.{setPointForm, setPointAt, storeForm, storeAt, driveForm, driveAt, dataForm, dataAt}
@@ -24,7 +25,9 @@ use Rattle.form.specs.Form.{moveForm, moveAt, planForm, planAt, headForm
 use Rattle.form.specs.Form.{velocityOffset, accelerationOffset, decelerationOffset, numbersBehind, setPointWords, setPointLength, storeLength}
 use Rattle.form.specs.Form.{modeOffset, takenOffset, driveMarks, driveLength, dataLength, moveLength, planLength, nodePlace, drivePlace}
 use Rattle.form.specs.Form.{storePlace, readyPlace, heldPlace, pacesPlace, plansPlace, stateLength}
-use Rattle.form.specs.Own.{everyAt, ownFlag, flagsOwn, everyWord, isZero, small, nodeOwn, storeOwn, driveOwn}
+use Rattle.form.specs.Form.{objectOffset, toggleOffset, receiptForm, receiptAt, stepOffset, receiptWords, transferLength, transferForm}
+use Rattle.form.specs.Form.{transferAt, transferPlace}
+use Rattle.form.specs.Own.{everyAt, ownFlag, flagsOwn, everyWord, isZero, small, nodeOwn, transferOwn, storeOwn, driveOwn}
 use Rattle.form.specs.Own.{pacesOwn, planOwn, plansOwn, headOwn, isOwn}
 use Rattle.form.proofs.Rows.{each-element}
 
@@ -90,6 +93,41 @@ module _ (bs : List ℕ) (fits : (i : ℕ) → getD bs i 0 < 256) where
       let flag : flagNumber (flagOf third) ≡ third = eqb-true _ _ (and-right (eqb (nmtNumber (nmtOf second)) second) _ t) in
       rw (nmt, flag) (then-part bs nodePlace heartbeatOffset 2 (each-element heartbeatOffset nodePlace 0 bs (omega arith))
       (bytes-value 2 (nodePlace + heartbeatOffset) h))
+
+  transfer-kept : transferPlace + transferLength ≤ length bs → transferOwn transferPlace bs ≡ true →
+      transferForm (transferAt transferPlace bs) ≡ part transferPlace transferLength bs
+  unfolding transferForm transferAt transferOwn receiptForm receiptAt bytes
+  transfer-kept h t = go (eqb kind 0) (eqb kind 1) (eqb-true kind 0) (eqb-true kind 1) t
+    where
+      kind : ℕ
+      kind = getD bs transferPlace 0
+
+      step : ℕ
+      step = getD bs (transferPlace + stepOffset) 0
+
+      words : ℕ
+      words = transferPlace + stepOffset + objectOffset
+
+      toggle : ℕ
+      toggle = getD bs (transferPlace + stepOffset + toggleOffset) 0
+
+      laid : (x y : ℕ) {xs : List ℕ} → kind ≡ x → step ≡ y → xs ≡ part words (wordLength * receiptWords) bs →
+          x ∷ y ∷ xs ≡ part transferPlace transferLength bs
+      laid x y {xs} e f g =
+          byte-then transferPlace (1 + wordLength * receiptWords) x (y ∷ xs) (omega arith) e
+          (byte-then (transferPlace + stepOffset) (wordLength * receiptWords) y xs (omega arith) f g)
+
+      go : (a b : Bool) → (a ≡ true → kind ≡ 0) → (b ≡ true → kind ≡ 1) →
+          cond a (isZero step && everyWord isZero receiptWords words bs)
+          (cond b (everyWord isZero receiptWords words bs) (eqb kind 2 && ownFlag toggle)) ≡ true →
+          transferForm (cond a NoTransfer (cond b (Uploading step) (Downloading (receiptAt (transferPlace + stepOffset) bs))))
+          ≡ part transferPlace transferLength bs
+      go true b f g t =
+          laid 0 0 (f refl) (eqb-true step 0 (and-left (isZero step) _ t)) (zeros-kept receiptWords words (omega arith) (and-right (isZero step) _ t))
+      go false true f g t = laid 1 step (g refl) refl (zeros-kept receiptWords words (omega arith) t)
+      go false false f g t =
+          let flag : flagNumber (flagOf toggle) ≡ toggle = eqb-true _ _ (and-right (eqb kind 2) _ t) in
+          laid 2 step (eqb-true kind 2 (and-left (eqb kind 2) _ t)) refl (rw flag (each-element (wordLength * receiptWords) words 0 bs (omega arith)))
 
   set-point-kept : (place : ℕ) → place + setPointLength ≤ length bs → setPointForm (setPointAt place bs) ≡ part place setPointLength bs
   unfolding setPointForm setPointAt
@@ -186,19 +224,23 @@ module _ (bs : List ℕ) (fits : (i : ℕ) → getD bs i 0 < 256) where
   unfolding form headForm stateOf isOwn headOwn plansOwn
   own-kept l t =
       let nodeTest = nodeOwn nodePlace bs in
+      let transferTest = transferOwn transferPlace bs in
       let driveTest = driveOwn drivePlace bs in
       let dueTest = pacesOwn bs in
-      let head = and-left (nodeTest && (driveTest && dueTest)) _ t in
-      let t1 = and-right nodeTest _ head in
-      let t2 = and-right driveTest _ t1 in
+      let headTest = nodeTest && (driveTest && dueTest) in
+      let head = and-left headTest _ t in
+      let t1 = and-right headTest _ t in
+      let t2 = and-right nodeTest _ head in
       let frames = dataLength * eachWay in
       let eight = 2 * eachWay in
       let plan = row-kept planForm (λ i. planAt i bs) (λ i. planOwn i bs) planLength plan-kept in
-      let paces = paces-kept (omega arith) t2 in
+      let paces = paces-kept (omega arith) (and-right driveTest _ t2) in
       let held = then-part bs heldPlace frames (plansPlace - pacesPlace) (frames-kept heldPlace (omega arith)) paces in
       let ready = then-part bs readyPlace frames (plansPlace - heldPlace) (frames-kept readyPlace (omega arith)) held in
-      let drive = then-part bs drivePlace driveLength (plansPlace - readyPlace) (drive-kept (omega arith) (and-left driveTest _ t1)) ready in
-      let front = then-part bs nodePlace nodeLength (plansPlace - drivePlace) (node-kept (omega arith) (and-left nodeTest _ head)) drive in
+      let drive = then-part bs drivePlace driveLength (plansPlace - readyPlace) (drive-kept (omega arith) (and-left driveTest _ t2)) ready in
+      let ran = transfer-kept (omega arith) (and-left transferTest _ t1) in
+      let transfer = then-part bs transferPlace transferLength (plansPlace - drivePlace) ran drive in
+      let front = then-part bs nodePlace nodeLength (plansPlace - transferPlace) (node-kept (omega arith) (and-left nodeTest _ head)) transfer in
       then-part bs nodePlace plansPlace (planLength * eight) front
-      (plan eight plansPlace (omega arith) (and-right (nodeTest && (driveTest && dueTest)) _ t))
+      (plan eight plansPlace (omega arith) (and-right transferTest _ t1))
       ∙ take-all stateLength bs (omega arith)

@@ -14,6 +14,7 @@ use Rattle.rules_dictionary.specs.Table.{eachWay, mostMoves}
 use Rattle.rules_dictionary.proofs.Tests.{and-left, and-right}
 use Rattle.drive.specs.declared.SetPoint.{SetPoint}
 use Rattle.drive.specs.declared.Store.the-variants.{Empty, Rested, Moving, Queued}
+use Rattle.state.specs.declared.Transfer.the-variants.{NoTransfer}
 use Rattle.state.specs.declared.State.{State}
 use Rattle.rules.specs.Outcome.{sameBy}
 use Rattle.dictionary.proofs.Bytes.{value-step, value-none}
@@ -22,8 +23,8 @@ use Rattle.form.specs.Form.{heartbeatOffset, nodeAt, velocityOffset}
 use Rattle.form.specs.Form.{accelerationOffset, decelerationOffset, setPointLength, setPointAt, storeAt}
 use Rattle.form.specs.Form.{driveAt, resting, moveLength, planLength, planAt, form, stateOf, isForm}
 use Rattle.form.specs.Form.{dataLength, nodePlace, storePlace, readyPlace, heldPlace, plansPlace, planPlace, stateLength}
-use Rattle.form.specs.Form.{planIn, readyIn, heldIn}
-use Rattle.form.specs.Own.{isOwn}
+use Rattle.form.specs.Form.{planIn, readyIn, heldIn, stepOffset, objectOffset, transferAt, transferPlace}
+use Rattle.form.specs.Own.{isZero, idleAt, transferOwn, isOwn}
 use Rattle.form.specs.Typed.{Many, none, more, AnyPace, DataTyped, SetPointTyped, StoreTyped, MoveTyped, PlanTyped, Typed}
 use Rattle.form.proofs.Rows.{each-at}
 use Rattle.form.proofs.Kept.{own-kept}
@@ -123,6 +124,26 @@ ready-stands bs t h = each-at eachWay readyPlace dataLength (λ i. dataAt i bs) 
 pub held-stands : (bs : List ℕ) (p : ℕ) → p < eachWay → heldIn bs p ≡ dataAt (heldPlace + dataLength * p) bs
 unfolding stateOf
 held-stands bs p h = each-at eachWay heldPlace dataLength (λ i. dataAt i bs) _ p h
+
+-- ---- bytes that are zero are no transfer, and its form
+
+module _ (bs : List ℕ) (h : idleAt transferPlace bs ≡ true) where
+  kind-and-step : (getD bs transferPlace 0 ≡ 0) × (getD bs (transferPlace + stepOffset) 0 ≡ 0)
+  unfolding idleAt
+  kind-and-step =
+      let head = value (part transferPlace (stepOffset + objectOffset) bs) in
+      let none : head ≡ 0 = eqb-true head 0 (and-left (isZero head) _ h) in
+      let first = value-step stepOffset transferPlace bs in
+      let second = value-step 0 (transferPlace + stepOffset) bs in
+      (omega arith, omega arith)
+
+  pub idle-none : stateOf bs .transfer ≡ NoTransfer
+  unfolding stateOf transferAt
+  idle-none = rw (kind-and-step .0)
+
+  pub idle-own : transferOwn transferPlace bs ≡ true
+  unfolding idleAt transferOwn
+  idle-own = rw (kind-and-step .0, kind-and-step .1) (and-right (isZero (value (part transferPlace (stepOffset + objectOffset) bs))) _ h)
 
 -- ---- THE LAWS
 

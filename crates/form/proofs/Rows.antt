@@ -20,12 +20,13 @@ use Rattle.drive.specs.declared.Store.{Store}
 use Rattle.drive.specs.declared.Drive.{Drive}
 use Rattle.state.specs.declared.Node.{Node}
 use Rattle.state.specs.declared.Pace.{Pace}
+use Rattle.state.specs.declared.Transfer.{Transfer}
 use Rattle.state.specs.declared.State.{State}
 use Rattle.form.specs.Form.{each, joined, nodeForm, setPointForm, storeKind, firstOf, secondOf, storeForm, driveForm, dataForm}
 use Rattle.form.specs.Form.{paceForm, moveForm, planForm, headForm, form, withPlans, formOver, HoldsPlans, nodeLength, wordLength}
 use Rattle.form.specs.Form.{velocityOffset, accelerationOffset, decelerationOffset, setPointLength, driveLength}
-use Rattle.form.specs.Form.{dataLength, paceLength, moveLength}
-use Rattle.form.specs.Form.{planLength, nodePlace, drivePlace, readyPlace, heldPlace, pacesPlace, plansPlace, stateLength}
+use Rattle.form.specs.Form.{receiptForm, transferForm, transferLength, dataLength, paceLength, moveLength}
+use Rattle.form.specs.Form.{planLength, nodePlace, transferPlace, drivePlace, readyPlace, heldPlace, pacesPlace, plansPlace, stateLength}
 use Rattle.form.specs.Typed.{Many, none, more, AnyPace, DataTyped, PlanTyped, HeadTyped, Typed}
 
 -- what is written behind what was written
@@ -153,6 +154,10 @@ pub length-node : (n : Node) → length (nodeForm n) ≡ nodeLength
 unfolding nodeForm bytes
 length-node n = refl
 
+pub length-transfer : (t : Transfer) → length (transferForm t) ≡ transferLength
+unfolding transferForm receiptForm
+length-transfer t = refl
+
 pub length-drive : (v : Drive) → length (driveForm v) ≡ driveLength
 unfolding driveForm storeForm setPointForm bytes
 length-drive v = refl
@@ -186,6 +191,7 @@ pub length-head : (s : State) → HeadTyped s → length (headForm s) ≡ plansP
 unfolding headForm
 length-head s t =
     let n = length-node (s .node) in
+    let f = length-transfer (s .transfer) in
     let v = length-drive (s .axis .drive) in
     let r = length-frames (t .ready) in
     let h = length-frames (t .held) in
@@ -208,20 +214,23 @@ front d xs n e h = let z : 0 + length xs ≡ n = omega arith in rw z at (sets-eq
 -- the parts before the plans
 pub head-written : (d : List ℕ) (s : State) → length d ≡ stateLength → HeadTyped s →
     let a = s .axis in
-    sets (sets (sets (sets (sets d nodePlace (nodeForm (s .node))) drivePlace (driveForm (a .drive))) readyPlace (joined dataForm (a .ready)))
-    heldPlace (joined dataForm (a .held))) pacesPlace (joined paceForm (a .paces)) ≡ formOver d s
+    sets (sets (sets (sets (sets (sets d nodePlace (nodeForm (s .node))) transferPlace (transferForm (s .transfer)))
+    drivePlace (driveForm (a .drive))) readyPlace (joined dataForm (a .ready))) heldPlace (joined dataForm (a .held)))
+    pacesPlace (joined paceForm (a .paces)) ≡ formOver d s
 unfolding formOver headForm
 head-written d s l t =
     let n = nodeForm (s .node) in
+    let f = transferForm (s .transfer) in
     let v = driveForm (s .axis .drive) in
     let r = joined dataForm (s .axis .ready) in
     let h = joined dataForm (s .axis .held) in
     let p = joined paceForm (s .axis .paces) in
     let lr = length-frames (t .ready) in
     let lh = length-frames (t .held) in
-    in-turn (sets d nodePlace n) v r h p drivePlace readyPlace heldPlace pacesPlace
+    in-turn (sets (sets d nodePlace n) transferPlace f) v r h p drivePlace readyPlace heldPlace pacesPlace
     (omega (arith, length-drive (s .axis .drive))) (omega arith) (omega arith)
-    ∙ sym (sets-append d n (v ++ (r ++ (h ++ p))) nodePlace drivePlace (omega (arith, length-node (s .node))))
+    ∙ sym (sets-append (sets d nodePlace n) f (v ++ (r ++ (h ++ p))) transferPlace drivePlace (omega (arith, length-transfer (s .transfer))))
+    ∙ sym (sets-append d n (f ++ (v ++ (r ++ (h ++ p)))) nodePlace transferPlace (omega (arith, length-node (s .node))))
     ∙ front d (headForm s) plansPlace (length-head s t) (omega arith)
 
 -- what was written up to the end
@@ -236,13 +245,16 @@ pub plans-written : (d : List ℕ) (plans : List Plan) → length d ≡ stateLen
 plans-written d plans l t = let long = length-plans t in drop-sets d (joined planForm plans) plansPlace (omega arith)
 
 -- all but the plans, written over bytes that hold these plans: the form of the state with them
-pub head-over : (bs : List ℕ) (plans : List Plan) (node : Node) (drive : Drive) (ready held : List PdoData) (paces : List Pace) →
-    HoldsPlans bs plans → formOver bs (withPlans [] node drive ready held paces) ≡ form (withPlans plans node drive ready held paces)
+pub head-over : (bs : List ℕ) (plans : List Plan) (node : Node) (transfer : Transfer) (drive : Drive) (ready held : List PdoData)
+    (paces : List Pace) → HoldsPlans bs plans →
+    formOver bs (withPlans [] node transfer drive ready held paces) ≡ form (withPlans plans node transfer drive ready held paces)
 unfolding formOver form headForm
-head-over bs plans node drive ready held paces h = ap (λ (xs : List ℕ). headForm (withPlans plans node drive ready held paces) ++ xs) h
+head-over bs plans node transfer drive ready held paces h =
+    ap (λ (xs : List ℕ). headForm (withPlans plans node transfer drive ready held paces) ++ xs) h
 
 -- what the types say of the whole
-pub typed-whole : (plans : List Plan) (node : Node) (drive : Drive) (ready held : List PdoData) (paces : List Pace) →
-    HeadTyped (withPlans [] node drive ready held paces) → Many PlanTyped (2 * eachWay) plans → Typed (withPlans plans node drive ready held paces)
-typed-whole plans node drive ready held paces h p =
+pub typed-whole : (plans : List Plan) (node : Node) (transfer : Transfer) (drive : Drive) (ready held : List PdoData) (paces : List Pace) →
+    HeadTyped (withPlans [] node transfer drive ready held paces) → Many PlanTyped (2 * eachWay) plans →
+    Typed (withPlans plans node transfer drive ready held paces)
+typed-whole plans node transfer drive ready held paces h p =
     record { head = record { heartbeat = h .heartbeat; store = h .store; ready = h .ready; held = h .held; paces = h .paces }; plans = p }

@@ -1,5 +1,6 @@
 -- The state as bytes of one length: each number as wide as its type and low byte first, each enum by its number, each flag as 0 or 1.
--- In this order: the node, the drive, the ready and the held frames, what is kept of the transmit PDOs, and the plans. Assumes nothing.
+-- In this order: the node, the transfer, the drive, the ready and the held frames, what is kept of the transmit PDOs, and the plans.
+-- Assumes nothing.
 use Prim.Native.Nat.{ℕ, zero, suc, _+_, _*_, _/_, _%_, _^_}
 use mathlib.Core.Path.{_≡_}
 use mathlib.Core.Bool.{Bool, true, false, cond}
@@ -20,11 +21,16 @@ use Rattle.state.specs.declared.NmtState.{NmtState}
 use Rattle.state.specs.declared.NmtState.the-variants.{PreOperational, Operational, Stopped}
 use Rattle.state.specs.declared.Node.{Node}
 use Rattle.state.specs.declared.Pace.{Pace}
+use Rattle.state.specs.declared.Receipt.{Receipt}
+use Rattle.state.specs.declared.Transfer.{Transfer}
+use Rattle.state.specs.declared.Transfer.the-variants.{NoTransfer, Uploading, Downloading}
 use Rattle.state.specs.declared.State.{State}
 use Rattle.rules_dictionary.specs.Numbers.{value, bytes, part}
 use Rattle.rules_dictionary.specs.Table.{eachWay, mostMoves}
 use Rattle.rules_dictionary.specs.Legal.{modeNumber}
 use Rattle.drive.specs.SetPoints.{modeOf}
+use Rattle.rules_services.specs.Sdo.{dataSize}
+use Rattle.rules_services.specs.Segments.{objectIn, bytesIn}
 use Rattle.rules.specs.Outcome.{sameBy, mostData}
 
 -- ---- enums and flags by number; what is no number of theirs reads as the last one, or as false
@@ -76,6 +82,16 @@ abbrev pub joined {ℓ} : {A : Type ℓ} → (A → List ℕ) → List A → Lis
 joined f [] = []
 joined f (x ∷ xs) = f x ++ joined f xs
 
+-- ---- words
+
+-- the bytes of a word
+abbrev pub wordLength : ℕ
+wordLength = 4
+
+-- the word at a place
+abbrev pub wordAt : ℕ → List ℕ → ℕ
+wordAt place bs = value (part place wordLength bs)
+
 -- ---- the node: node-ID, NMT state, voltage flag, heartbeat count
 
 -- where its parts stand, counted from its first byte
@@ -103,15 +119,76 @@ nodeAt place bs =
       heartbeat = value (part (place + heartbeatOffset) 2 bs);
     }
 
+-- ---- the transfer: its kind and the bytes of a receipt: count, object, toggle, and the first bytes that came
+
+-- where a receipt's parts stand, counted from its count
+abbrev pub objectOffset : ℕ
+objectOffset = 1
+
+abbrev pub subindexOffset : ℕ
+subindexOffset = objectOffset + 2
+
+abbrev pub toggleOffset : ℕ
+toggleOffset = subindexOffset + 1
+
+abbrev pub receivedOffset : ℕ
+receivedOffset = toggleOffset + 1
+
+-- the words behind its count, and its bytes
+abbrev pub receiptWords : ℕ
+receiptWords = 2
+
+abbrev pub receiptLength : ℕ
+receiptLength = receivedOffset + dataSize
+
+unfoldable pub receiptForm : Receipt → List ℕ
+receiptForm g = g .count ∷ objectIn g ++ flagNumber (g .toggle) ∷ bytesIn g
+
+unfoldable pub receiptAt : ℕ → List ℕ → Receipt
+receiptAt place bs =
+    record {
+      low = getD bs (place + objectOffset) 0;
+      high = getD bs (place + objectOffset + 1) 0;
+      subindex = getD bs (place + subindexOffset) 0;
+      toggle = flagOf (getD bs (place + toggleOffset) 0);
+      count = getD bs place 0;
+      first = getD bs (place + receivedOffset) 0;
+      second = getD bs (place + receivedOffset + 1) 0;
+      third = getD bs (place + receivedOffset + 2) 0;
+      fourth = getD bs (place + receivedOffset + 3) 0;
+    }
+
+abbrev pub transferKind : Transfer → ℕ
+transferKind NoTransfer = 0
+transferKind (Uploading k) = 1
+transferKind (Downloading g) = 2
+
+-- what stands in the receipt's bytes: of an upload the segment that is due, as the count; bytes that a kind of transfer does not use are zero
+abbrev pub stepping : ℕ → Receipt
+stepping k =
+    record { low = 0; high = 0; subindex = 0; toggle = false; count = k; first = 0; second = 0; third = 0; fourth = 0 }
+
+abbrev pub receiptOf : Transfer → Receipt
+receiptOf NoTransfer = stepping 0
+receiptOf (Uploading k) = stepping k
+receiptOf (Downloading g) = g
+
+-- where the receipt stands, counted from the transfer's first byte
+abbrev pub stepOffset : ℕ
+stepOffset = 1
+
+abbrev pub transferLength : ℕ
+transferLength = stepOffset + receiptLength
+
+unfoldable pub transferForm : Transfer → List ℕ
+transferForm t = transferKind t ∷ receiptForm (receiptOf t)
+
+unfoldable pub transferAt : ℕ → List ℕ → Transfer
+transferAt place bs =
+    cond (eqb (getD bs place 0) 0) NoTransfer
+    (cond (eqb (getD bs place 0) 1) (Uploading (getD bs (place + stepOffset) 0)) (Downloading (receiptAt (place + stepOffset) bs)))
+
 -- ---- the drive: state, mode, taken, limit and cause marks, and the store: its kind and the bytes of two set-points
-
--- the bytes of a word
-abbrev pub wordLength : ℕ
-wordLength = 4
-
--- the word at a place
-abbrev pub wordAt : ℕ → List ℕ → ℕ
-wordAt place bs = value (part place wordLength bs)
 
 -- where a set-point's numbers stand behind its target, counted from there
 abbrev pub velocityOffset : ℕ
@@ -279,8 +356,11 @@ planAt place bs = record { count = getD bs place 0; moves = each mostMoves (plac
 abbrev pub nodePlace : ℕ
 nodePlace = 0
 
+abbrev pub transferPlace : ℕ
+transferPlace = nodePlace + nodeLength
+
 abbrev pub drivePlace : ℕ
-drivePlace = nodePlace + nodeLength
+drivePlace = transferPlace + transferLength
 
 abbrev pub storePlace : ℕ
 storePlace = drivePlace + storeOffset
@@ -306,17 +386,17 @@ stateLength = plansPlace + 2 * eachWay * planLength
 -- all but the plans
 unfoldable pub headForm : State → List ℕ
 headForm s =
-    nodeForm (s .node) ++ (driveForm (s .axis .drive)
-    ++ (joined dataForm (s .axis .ready) ++ (joined dataForm (s .axis .held) ++ joined paceForm (s .axis .paces))))
+    nodeForm (s .node) ++ (transferForm (s .transfer) ++ (driveForm (s .axis .drive)
+    ++ (joined dataForm (s .axis .ready) ++ (joined dataForm (s .axis .held) ++ joined paceForm (s .axis .paces)))))
 
 -- the byte form of a state
 unfoldable pub form : State → List ℕ
 form s = headForm s ++ joined planForm (s .axis .plans)
 
 -- the state of these plans and parts
-abbrev pub withPlans : List Plan → Node → Drive → List PdoData → List PdoData → List Pace → State
-withPlans plans node drive ready held paces =
-    record { node = node; axis = record { drive = drive; plans = plans; ready = ready; held = held; paces = paces } }
+abbrev pub withPlans : List Plan → Node → Transfer → Drive → List PdoData → List PdoData → List Pace → State
+withPlans plans node transfer drive ready held paces =
+    record { node = node; transfer = transfer; axis = record { drive = drive; plans = plans; ready = ready; held = held; paces = paces } }
 
 -- bytes with all but the plans of a state in them: the plans' bytes stay, and the state's plans do not matter
 unfoldable pub formOver : List ℕ → State → List ℕ
@@ -331,6 +411,7 @@ unfoldable pub stateOf : List ℕ → State
 stateOf bs =
     record {
       node = nodeAt nodePlace bs;
+      transfer = transferAt transferPlace bs;
       axis = record {
         drive = driveAt drivePlace bs;
         plans = each (2 * eachWay) plansPlace planLength (λ i. planAt i bs);

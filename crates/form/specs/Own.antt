@@ -1,17 +1,18 @@
--- Which bytes are a state's form, tested where bytes can be another's: the numbers of enums, flags, set-points that a store does not
--- hold, and the zero byte of each move. Every other byte is its own form. Assumes nothing.
+-- Which bytes are a state's form, tested where bytes can be another's: the numbers of enums, flags, what a transfer's kind does not use,
+-- set-points that a store does not hold, and the zero byte of each move. Every other byte is its own form. Assumes nothing.
 use Prim.Native.Nat.{ℕ, _+_, _*_, _^_}
 use mathlib.Core.Bool.{Bool, _&&_, cond}
 use mathlib.Core.List.{List}
 use lib.Dec.{eqb, ltb}
 use lib.ListN.{getD}
-use Rattle.rules_dictionary.specs.Numbers.{all}
+use Rattle.rules_dictionary.specs.Numbers.{all, value, part}
 use Rattle.rules_dictionary.specs.Table.{eachWay, mostMoves}
 use Rattle.rules_dictionary.specs.Legal.{modeNumber}
 use Rattle.drive.specs.SetPoints.{modeOf}
 use Rattle.form.specs.Form.{flagNumber, flagOf, nmtNumber, nmtOf, stateNumber, driveStateOf, each, nmtOffset, voltageOffset, wordLength, wordAt}
 use Rattle.form.specs.Form.{velocityOffset, numbersBehind, setPointWords, setPointLength, modeOffset, takenOffset, driveMarks, storeOffset}
-use Rattle.form.specs.Form.{dueOffset, paceLength, planLength, nodePlace, drivePlace, pacesPlace, plansPlace}
+use Rattle.form.specs.Form.{stepOffset, objectOffset, toggleOffset, receiptWords, dueOffset, paceLength, planLength, nodePlace, transferPlace}
+use Rattle.form.specs.Form.{drivePlace, pacesPlace, plansPlace}
 
 -- does a test hold at each of so many places, one width apart
 abbrev pub everyAt : (ℕ → Bool) → ℕ → ℕ → ℕ → Bool
@@ -44,6 +45,18 @@ unfoldable pub nodeOwn : ℕ → List ℕ → Bool
 nodeOwn place bs =
     eqb (nmtNumber (nmtOf (getD bs (place + nmtOffset) 0))) (getD bs (place + nmtOffset) 0) && ownFlag (getD bs (place + voltageOffset) 0)
 
+-- nothing runs: every byte of the transfer is zero
+unfoldable pub idleAt : ℕ → List ℕ → Bool
+idleAt place bs = isZero (value (part place (stepOffset + objectOffset) bs)) && everyWord isZero receiptWords (place + stepOffset + objectOffset) bs
+
+-- a transfer, by its kind: of its step and the words behind it, what it does not use is zero
+unfoldable pub transferOwn : ℕ → List ℕ → Bool
+transferOwn place bs =
+    cond (eqb (getD bs place 0) 0)
+    (isZero (getD bs (place + stepOffset) 0) && everyWord isZero receiptWords (place + stepOffset + objectOffset) bs)
+    (cond (eqb (getD bs place 0) 1) (everyWord isZero receiptWords (place + stepOffset + objectOffset) bs)
+    (eqb (getD bs place 0) 2 && ownFlag (getD bs (place + stepOffset + toggleOffset) 0)))
+
 -- a store, by its kind: the words of its two set-points that it does not use are zero
 unfoldable pub storeOwn : ℕ → List ℕ → Bool
 storeOwn place bs =
@@ -67,9 +80,9 @@ planOwn place bs = everyWord small mostMoves (place + 1) bs
 unfoldable pub plansOwn : List ℕ → Bool
 plansOwn bs = everyAt (λ i. planOwn i bs) (2 * eachWay) plansPlace planLength
 
--- all but the plans
+-- all but the transfer and the plans
 unfoldable pub headOwn : List ℕ → Bool
 headOwn bs = nodeOwn nodePlace bs && (driveOwn drivePlace bs && pacesOwn bs)
 
 unfoldable pub isOwn : List ℕ → Bool
-isOwn bs = headOwn bs && plansOwn bs
+isOwn bs = headOwn bs && (transferOwn transferPlace bs && plansOwn bs)

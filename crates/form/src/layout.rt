@@ -5,6 +5,9 @@ use dictionary::places::EACH_WAY;
 use dictionary::places::MOST_WORDS;
 use dictionary::places::PDOS;
 
+// The bytes of a word.
+pub const WORD_LENGTH: usize = 4;
+
 // ---- the node
 
 pub const NODE_ID: usize = 0;
@@ -15,9 +18,27 @@ pub const VOLTAGE: usize = NMT + 1;
 
 pub const HEARTBEAT: usize = VOLTAGE + 1;
 
+// ---- the transfer: its kind and its step, behind them two words that a download uses
+
+pub const TRANSFER: usize = HEARTBEAT + 2;
+
+pub const STEP: usize = TRANSFER + 1;
+
+pub const RECEIPT_WORDS: usize = 2;
+
+// The first word: the object, and the toggle of the segment that is due.
+pub const OBJECT_INDEX: usize = STEP + 1;
+
+pub const OBJECT_SUBINDEX: usize = OBJECT_INDEX + 2;
+
+pub const TOGGLE: usize = OBJECT_SUBINDEX + 1;
+
+// The second: the first bytes that came.
+pub const RECEIVED: usize = TOGGLE + 1;
+
 // ---- the drive
 
-pub const DRIVE_STATE: usize = HEARTBEAT + 2;
+pub const DRIVE_STATE: usize = RECEIVED + WORD_LENGTH;
 
 pub const MODE: usize = DRIVE_STATE + 1;
 
@@ -34,8 +55,6 @@ pub const DRIVE_MARKS: usize = 3;
 pub const STORE: usize = TAKEN + DRIVE_MARKS;
 
 // A set-point: its target, behind it, counted from there, three more numbers, a word each.
-pub const WORD_LENGTH: usize = 4;
-
 pub const NUMBERS_BEHIND: usize = 3;
 
 pub const SET_POINT_WORDS: usize = 1 + NUMBERS_BEHIND;

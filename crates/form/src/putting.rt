@@ -7,17 +7,19 @@ use crate::pdos::write_frame;
 use crate::pdos::write_frames;
 use crate::pdos::write_paces;
 use crate::pdos::write_plans;
+use crate::transfers::write_transfer;
 use dictionary::write2;
 use drive::Drive;
 use rules_dictionary::PdoData;
 use rules_dictionary::Plan;
 use state::Node;
 use state::Pace;
+use state::Transfer;
 ghost use mathlib.Core.Path.{_≡_};
 ghost use Prim.Native.Nat.{_<_};
 ghost use lib.ListN.{length};
 ghost use Rattle.rules_dictionary.specs.Table.{eachWay};
-ghost use Rattle.rules_services.specs.Effects.{withNode, withHeartbeat, withDrive, withHeld, withPaces};
+ghost use Rattle.rules_services.specs.Effects.{withNode, withHeartbeat, withTransfer, withoutTransfer, withDrive, withHeld, withPaces};
 ghost use Rattle.rules_services.specs.PdoTraffic.{noneHeld};
 ghost use Rattle.form.specs.Form.{stateLength};
 ghost use Rattle.form.specs.Holding.{Puts, planned, holding};
@@ -36,6 +38,22 @@ pub fn put_heartbeat(state: &mut [u8], count: u16)
     ensures { λ r. ⌜ Puts (withHeartbeat count) (now (state .entry)) (now (state .exit)) ⌝ }
 {
     write2(state, layout::HEARTBEAT, count);
+}
+
+// The transfer.
+pub fn put_transfer(state: &mut [u8], t: Transfer)
+    requires { ⌜ length (now state) ≡ stateLength ⌝ }
+    ensures { λ r. ⌜ Puts (withTransfer t) (now (state .entry)) (now (state .exit)) ⌝ }
+{
+    write_transfer(state, t);
+}
+
+// No transfer.
+pub fn put_no_transfer(state: &mut [u8])
+    requires { ⌜ length (now state) ≡ stateLength ⌝ }
+    ensures { λ r. ⌜ Puts withoutTransfer (now (state .entry)) (now (state .exit)) ⌝ }
+{
+    write_transfer(state, Transfer::NoTransfer);
 }
 
 // The drive.

@@ -11,7 +11,7 @@ use lib.Arith.{mod-mul}
 use lib.Dec.{eqb, lit<}
 use Rattle.rules_dictionary.specs.Numbers.{all, filter}
 use Rattle.rules_dictionary.specs.Table.{Row, ValueType, u8, u16, u32, i8, i32, size, table, sizeOf, Direction, receive, transmit}
-use Rattle.rules_dictionary.specs.Table.{directionOf, mappingWord, wordIndex, wordSubindex, wordLength, Found, found, noObject, noSubindex}
+use Rattle.rules_dictionary.specs.Table.{directionOf, mappingWord, wordIndex, wordSubindex, wordLength, Found, found, theName, noObject, noSubindex}
 use Rattle.rules_dictionary.specs.Table.{lookup, open-table}
 use Rattle.rules_dictionary.specs.Aborts.{good, bad, isGood, firstOf, notMappable}
 use Rattle.rules_dictionary.specs.Legal.{suits, targetVerdict, entryVerdict}
@@ -145,6 +145,7 @@ good-names way w (found x) e h = go (suits way (x .mappable)) (eqb (wordLength w
         (x, record { among = i; word = is-word w x (r .0) (r .1) (eqb-true _ _ q) })
     go true false p q k = absurd (false≢true k)
     go false b p q k = absurd (false≢true k)
+good-names way w theName e h = absurd (false≢true h)
 good-names way w noObject e h = absurd (false≢true h)
 good-names way w noSubindex e h = absurd (false≢true h)
 

@@ -12,6 +12,7 @@ ghost use Rattle.nmt.specs.Commanding.{isForNode, isForOthers, Commandab
 use crate::resets::disable_voltage;
 use crate::resets::reset_communication;
 use crate::resets::restart;
+use form::put_no_transfer;
 use form::put_node;
 use form::put_none_held;
 use form::read_node;
@@ -65,6 +66,7 @@ fn command(c: u8, state: &mut [u8], d: &mut [u8], output: &mut [u8]) -> Done
         0x02 => {
             disable_voltage(state);
             leave(state, NmtState::Stopped);
+            put_no_transfer(state);
             nothing_done(false)
         }
         0x80 => {

@@ -16,6 +16,7 @@ use drive::DriveState;
 use drive::Store;
 use drive::states::next;
 use form::put_drive;
+use form::put_no_transfer;
 use form::put_node;
 use form::put_none_held;
 use form::read_drive;
@@ -81,12 +82,13 @@ pub fn start(d: &mut [u8], output: &mut [u8], n: u8) -> Done
     }
 }
 
-// The node's, the drive's and the receive PDOs' part of node n's state after power-up; the rest follows at the call's end.
+// The node's, the server's, the drive's and the receive PDOs' part of node n's state after power-up; the rest follows at the call's end.
 fn renew(state: &mut [u8], n: u8)
     requires { ⌜ length (now state) ≡ stateLength ⌝ }
     ensures { λ r. ⌜ Puts (λ s. keeping s (freshState n)) (now (state .entry)) (now (state .exit)) ⌝ }
 {
     put_node(state, fresh_node(n));
+    put_no_transfer(state);
     put_drive(state, fresh_drive());
     put_none_held(state);
 }
@@ -102,7 +104,7 @@ pub fn restart(state: &mut [u8], d: &mut [u8], output: &mut [u8]) -> Done
     start(d, output, node.id)
 }
 
-// 82h: the communication objects, mappings among them, to their defaults, Disable voltage, Pre-operational, boot-up.
+// 82h: the communication objects, mappings among them, to their defaults, Disable voltage, no transfer, Pre-operational, boot-up.
 pub fn reset_communication(state: &mut [u8], d: &mut [u8], output: &mut [u8]) -> Done
     requires { ⌜ Commandable (now state) (now d) (now output) ⌝ }
     ensures { λ r. ⌜ LeavesIn (λ s d. commanded resetCommunication s) never (now (state .entry)) (now (d .entry)) (now (output .entry))
@@ -122,6 +124,7 @@ pub fn reset_communication(state: &mut [u8], d: &mut [u8], output: &mut [u8]) ->
     );
     disable_voltage(state);
     put_none_held(state);
+    put_no_transfer(state);
     Done {
         frames: 1,
         touched: false,

@@ -57,6 +57,7 @@ abbrev pub keeping : State → State → State
 keeping s t =
     record {
       node = t .node;
+      transfer = t .transfer;
       axis = record {
         drive = t .axis .drive;
         plans = s .axis .plans;

@@ -5,8 +5,11 @@ use Prim.Native.Nat.{ℕ, _-_}
 use mathlib.Core.Path.{_≡_, refl}
 use mathlib.Core.Bool.{Bool, true, false, _&&_, and-assoc}
 use mathlib.Core.List.{List, [], _∷_, _++_, map}
-use lib.ListN.{replicate}
-use Rattle.state.specs.declared.NmtState.the-variants.{Stopped}
+use lib.ListN.{getD, replicate}
+use Rattle.state.specs.declared.NmtState.{NmtState}
+use Rattle.state.specs.declared.NmtState.the-variants.{PreOperational, Operational, Stopped}
+use Rattle.state.specs.declared.Transfer.{Transfer}
+use Rattle.state.specs.declared.Transfer.the-variants.{NoTransfer, Uploading, Downloading}
 use Rattle.state.specs.declared.State.{State}
 use Rattle.rules_dictionary.specs.declared.Mode.{Mode}
 use Rattle.rules_dictionary.specs.declared.Mode.the-variants.{NoMode, ProfilePosition, ProfileVelocity}
@@ -22,13 +25,13 @@ use Rattle.rules_dictionary.specs.Table.{mapCount, positionWindow, profileAccel
 use Rattle.rules_dictionary.specs.Table.{controlWord, mode, modeDisplay, heartbeatTime, errorCode, velocity}
 use Rattle.rules_dictionary.specs.Values.{Write, write, stored, packedDefaults}
 use Rattle.drive.specs.SetPoints.{withMode, withCause}
-use Rattle.rules_services.specs.Effects.{writes, becomes, withDrive, withPaces, withNmt, withVoltage, withHeartbeat, withAxis}
+use Rattle.rules_services.specs.Effects.{writes, becomes, withDrive, withPaces, withNmt, withVoltage, withHeartbeat, withAxis, withNode, withTransfer}
 use Rattle.rules_services.specs.PdoTraffic.{idle}
 use Rattle.rules_services.specs.Nmt.{freshState}
 use Rattle.rules.specs.Outcome.{End, ended}
 use Rattle.rules.specs.Sound.{sound, dictionarySound, driveSound, waitingSound, constantsAsListed, valuesInRange, mappingsLegal}
 use Rattle.rules.specs.Sound.{identifiersLegal, statusAsMade, modeAsMade, plansFresh, readyFresh, storeInPlace, takenInPlace}
-use Rattle.rules.specs.Sound.{causeInPlace, heartbeatSound}
+use Rattle.rules.specs.Sound.{causeInPlace, heartbeatSound, transferSound}
 use Rattle.rules.specs.Scripts.{nothing, open-rules}
 
 -- ---- the clauses, in the paper's order
@@ -38,7 +41,7 @@ clauses s d =
     let v = s .axis .drive in
     isNodeId (s .node .id) ∷ constantsAsListed (s .node .id) d ∷ valuesInRange d ∷ mappingsLegal d ∷ identifiersLegal d ∷ statusAsMade s d
     ∷ modeAsMade s d ∷ plansFresh s d ∷ readyFresh s d ∷ storeInPlace v ∷ takenInPlace v d ∷ causeInPlace v
-    ∷ heartbeatSound (s .node .heartbeat) d ∷ waitingSound s d ∷ []
+    ∷ heartbeatSound (s .node .heartbeat) d ∷ waitingSound s d ∷ transferSound (s .transfer) ∷ []
 
 every : Bool → List Bool → Bool
 every b [] = b
@@ -51,10 +54,10 @@ sound-by-clauses s d = simp (and-assoc)
 
 -- all but the one of that number, from 0
 but : ℕ → List Bool
-but k = replicate k true ++ false ∷ replicate (13 - k) true
+but k = replicate k true ++ false ∷ replicate (14 - k) true
 
--- one clause of the fourteen that does not hold is enough
-one-is-enough : map (λ k. every true (but k)) (0 ∷ 1 ∷ 2 ∷ 3 ∷ 4 ∷ 5 ∷ 6 ∷ 7 ∷ 8 ∷ 9 ∷ 10 ∷ 11 ∷ 12 ∷ 13 ∷ []) ≡ replicate 14 false
+-- one clause of the fifteen that does not hold is enough
+one-is-enough : map (λ k. every true (but k)) (0 ∷ 1 ∷ 2 ∷ 3 ∷ 4 ∷ 5 ∷ 6 ∷ 7 ∷ 8 ∷ 9 ∷ 10 ∷ 11 ∷ 12 ∷ 13 ∷ 14 ∷ []) ≡ replicate 15 false
 unfolding every but
 one-is-enough = refl
 
@@ -77,7 +80,7 @@ same : State → State
 same s = s
 
 withId : ℕ → State → State
-withId n s = record { node = record { id = n; nmt = s .node .nmt; voltage = s .node .voltage; heartbeat = s .node .heartbeat }; axis = s .axis }
+withId n s = withNode (record { id = n; nmt = s .node .nmt; voltage = s .node .voltage; heartbeat = s .node .heartbeat }) s
 
 unfoldable open-said : Unit {0}
 unfolding said made driven resting same withId but clauses packedDefaults open-rules
@@ -136,6 +139,54 @@ time-alone : (said resting (write heartbeatTime 3 ∷ []) (withHeartbeat 3) ≡ 
     × (said resting (write (transmissionType 4) 0 ∷ []) (withPaces (record { count = 0; due = true } ∷ idle ∷ idle ∷ idle ∷ [])) ≡ but 13)
 unfolding open-said
 time-alone = (refl, refl)
+
+-- a download of the object of those three bytes, with that toggle due, so many bytes counted, and those four kept
+abbrev download : List ℕ → Bool → ℕ → List ℕ → Transfer
+download o toggle count bs =
+    Downloading (record {
+      low = getD o 0 0;
+      high = getD o 1 0;
+      subindex = getD o 2 0;
+      toggle = toggle;
+      count = count;
+      first = getD bs 0 0;
+      second = getD bs 1 0;
+      third = getD bs 2 0;
+      fourth = getD bs 3 0;
+    })
+
+abbrev target : List ℕ
+target = 0x7A ∷ 0x60 ∷ 0x00 ∷ []
+
+-- no transfer, the name's last segment, a download of more than four bytes of no object there is
+fitting : List Transfer
+fitting = NoTransfer ∷ Uploading 2 ∷ download (0xFF ∷ 0xFF ∷ 0xFF ∷ []) true 5 (0x01 ∷ 0x02 ∷ 0x03 ∷ 0x04 ∷ []) ∷ []
+
+-- a fourth segment of the name; six bytes counted; a byte behind the count
+unfitting : List Transfer
+unfitting =
+    Uploading 3 ∷ download target false 6 (0x00 ∷ 0x00 ∷ 0x00 ∷ 0x00 ∷ []) ∷ download target false 3 (0x00 ∷ 0x00 ∷ 0x00 ∷ 0x01 ∷ []) ∷ []
+
+-- the transfer alone, which no other clause looks at
+transfer-alone : (map (λ t. said resting [] (withTransfer t)) unfitting ≡ replicate 3 (but 14))
+    × (map (λ t. said resting [] (withTransfer t)) fitting ≡ replicate 3 (replicate 15 true))
+    × (let e = made resting [] in map (λ t. sound (withTransfer t (e .state)) (e .dictionary)) unfitting ≡ replicate 3 false)
+unfolding fitting unfitting open-said
+transfer-alone = (refl, refl, refl)
+
+-- node 5 in that NMT state, with that transfer, as a call leaves it
+running : NmtState → Transfer → End
+running m t = ended nothing (packedDefaults 5 table) (becomes (withTransfer t (withNmt m (freshState 5))))
+
+-- "Nothing is asked of the NMT state", and a call's end leaves the transfer as the service does
+transfer-anywhere : (map (λ m. map (λ t. let e = running m t in sound (e .state) (e .dictionary)) fitting)
+    (PreOperational ∷ Operational ∷ Stopped ∷ [])
+    ≡ replicate 3 (replicate 3 true))
+    × (map (λ m. map (λ t. let e = running m t in sound (e .state) (e .dictionary)) unfitting) (PreOperational ∷ Operational ∷ Stopped ∷ [])
+    ≡ replicate 3 (replicate 3 false))
+    × (map (λ t. running Operational t .state .transfer) fitting ≡ fitting)
+unfolding fitting unfitting running packedDefaults open-rules
+transfer-anywhere = (refl, refl, refl)
 
 -- ---- each clause by itself: the last value that it lets pass, and the first that it does not
 
@@ -221,3 +272,33 @@ heartbeat-told : (map (λ k. heartbeatSound k (with [])) (0 ∷ 1 ∷ []) ≡ tr
     × (map (λ k. heartbeatSound k (with (write heartbeatTime 0xFFFF ∷ []))) (0xFFFE ∷ 0xFFFF ∷ []) ≡ true ∷ false ∷ [])
 unfolding with packedDefaults open-rules
 heartbeat-told = (refl, refl, refl)
+
+-- "an upload stands at a segment that the name has": 0, 1 and 2 of nineteen characters
+upload-told : map (λ k. transferSound (Uploading k)) (0 ∷ 1 ∷ 2 ∷ 3 ∷ 4 ∷ 255 ∷ []) ≡ true ∷ true ∷ true ∷ false ∷ false ∷ false ∷ []
+unfolding open-rules
+upload-told = refl
+
+abbrev none : List ℕ
+none = 0x00 ∷ 0x00 ∷ 0x00 ∷ 0x00 ∷ []
+
+-- a byte other than zero at the first, second, third or fourth place, and at all
+abbrev spots : List (List ℕ)
+spots =
+    (0x01 ∷ 0x00 ∷ 0x00 ∷ 0x00 ∷ []) ∷ (0x00 ∷ 0x80 ∷ 0x00 ∷ 0x00 ∷ []) ∷ (0x00 ∷ 0x00 ∷ 0xFF ∷ 0x00 ∷ []) ∷ (0x00 ∷ 0x00 ∷ 0x00 ∷ 0x01 ∷ [])
+    ∷ (0x01 ∷ 0x02 ∷ 0x03 ∷ 0x04 ∷ []) ∷ []
+
+-- "a count up to five, and bytes behind the count zero": those in front of it may be anything, zero too
+download-told : (map (λ k. transferSound (download target false k none)) (0 ∷ 1 ∷ 2 ∷ 3 ∷ 4 ∷ 5 ∷ 6 ∷ 7 ∷ 255 ∷ [])
+    ≡ replicate 6 true ++ replicate 3 false)
+    × (map (λ k. map (λ bs. transferSound (download target true k bs)) spots) (0 ∷ 1 ∷ 2 ∷ 3 ∷ 4 ∷ 5 ∷ 6 ∷ [])
+    ≡ replicate 5 false ∷ (true ∷ replicate 4 false) ∷ (true ∷ true ∷ replicate 3 false) ∷ (true ∷ true ∷ true ∷ replicate 2 false)
+    ∷ replicate 5 true ∷ replicate 5 true ∷ replicate 5 false ∷ [])
+unfolding open-rules
+download-told = (refl, refl)
+
+-- "any index and subindex, either toggle"
+receipt-told : map (λ o. transferSound (download o false 0 none) && transferSound (download o true 0 none))
+    ((0x00 ∷ 0x00 ∷ 0x00 ∷ []) ∷ (0x08 ∷ 0x10 ∷ 0x00 ∷ []) ∷ (0xFF ∷ 0xFF ∷ 0xFF ∷ []) ∷ [])
+    ≡ true ∷ true ∷ true ∷ []
+unfolding open-rules
+receipt-told = refl

@@ -12,7 +12,8 @@ use Rattle.rules_dictionary.specs.TheNode.{isNodeId}
 use Rattle.rules_dictionary.specs.Table.{dictionaryLength, receivePdos}
 use Rattle.state.specs.NmtStates.{isStopped}
 use Rattle.rules_services.specs.Effects.{Effect, becomes}
-use Rattle.rules_services.specs.Sdo.{sdo, requestBase, requestLength}
+use Rattle.rules_services.specs.Sdo.{requestBase, requestLength}
+use Rattle.rules_services.specs.SdoServer.{sdo}
 use Rattle.rules_services.specs.PdoTraffic.{sync, syncBase, receivedBy}
 use Rattle.rules_services.specs.Nmt.{nmt, nmtIdentifier, powerUp}
 use Rattle.rules_services.specs.declared.Told.{Told}

@@ -96,6 +96,7 @@ ended s d e =
     record {
       state = record {
         node = s′ .node;
+        transfer = s′ .transfer;
         axis = record {
           drive = v;
           plans = plansOf d′;

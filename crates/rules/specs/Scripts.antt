@@ -19,6 +19,8 @@ use Rattle.rules_services.specs.Effects.{Frame, open-effects}
 use Rattle.rules_services.specs.Emergency.{open-emergency}
 use Rattle.rules_services.specs.Written.{open-written}
 use Rattle.rules_services.specs.Sdo.{open-sdo}
+use Rattle.rules_services.specs.Segments.{open-segments}
+use Rattle.rules_services.specs.SdoServer.{open-sdo-server}
 use Rattle.rules_services.specs.PdoTraffic.{open-pdo-traffic}
 use Rattle.rules_services.specs.Nmt.{freshState, open-nmt}
 use Rattle.rules_services.specs.Events.{open-events}
@@ -74,6 +76,6 @@ fromNothing ls = givenBy answer ls
 -- opens every definition of the rules, where a proof computes
 unfoldable pub open-rules : Unit {0}
 unfolding open-numbers open-table open-values open-aborts open-legal open-plans open-drive-states open-set-points open-status-word
-    open-effects open-emergency open-written open-sdo open-pdo-traffic open-nmt open-events
+    open-effects open-emergency open-written open-sdo open-segments open-sdo-server open-pdo-traffic open-nmt open-events
     open-outcome open-sound open-calls matches runs nothing givenBy fromNothing
 open-rules = tt

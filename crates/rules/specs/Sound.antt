@@ -1,17 +1,21 @@
--- Document 01, 'Calls and refusals', the paragraph that begins "Sound:", each clause as a test of its own.
+-- Document 01, 'Calls and refusals', the paragraph that begins "Sound:", and what ticket 1 adds, each clause as a test of its own.
 -- Assumes nothing.
-use Prim.Native.Nat.{ℕ}
+use Prim.Native.Nat.{ℕ, _*_}
 use mathlib.Core.List.{List, [], _∷_}
 use mathlib.Core.Bool.{Bool, true, false, cond, not, _&&_, _||_}
-use lib.Dec.{eqb, ltb}
-use lib.ListN.{take, getD}
+use lib.Dec.{eqb, leb, ltb}
+use lib.ListN.{length, take, getD}
 use Rattle.state.specs.declared.NmtState.{NmtState}
 use Rattle.state.specs.declared.Pace.{Pace}
 use Rattle.drive.specs.declared.Drive.{Drive}
 use Rattle.rules_dictionary.specs.declared.PdoData.{PdoData}
+use Rattle.state.specs.declared.Receipt.{Receipt}
+use Rattle.state.specs.declared.Transfer.{Transfer}
+use Rattle.state.specs.declared.Transfer.the-variants.{NoTransfer, Uploading, Downloading}
 use Rattle.state.specs.declared.State.{State}
-use Rattle.rules_dictionary.specs.Numbers.{all, bit}
+use Rattle.rules_dictionary.specs.Numbers.{all, bit, padded}
 use Rattle.rules_dictionary.specs.TheNode.{isNodeId}
+use Rattle.rules_dictionary.specs.DeviceName.{deviceName}
 use Rattle.rules_dictionary.specs.Table.{Row, table, isConstant, pdos, receivePdos, transmitPdos, mapCount, statusWord, mode, modeDisplay}
 use Rattle.rules_dictionary.specs.Table.{controlWord, heartbeatTime}
 use Rattle.rules_dictionary.specs.Values.{read, defaultOf, unpacked}
@@ -21,6 +25,8 @@ use Rattle.rules_dictionary.specs.Legal.{isSynchronous, isCyclic}
 use Rattle.rules_dictionary.specs.Plans.{plansOf, readyOf, mapped, pdoData}
 use Rattle.drive.specs.DriveStates.{isFaulty}
 use Rattle.drive.specs.SetPoints.{positions, isEmpty, newSetPointBit}
+use Rattle.rules_services.specs.Sdo.{dataSize}
+use Rattle.rules_services.specs.Segments.{bytesIn, tooMany, segmentSize}
 use Rattle.rules_services.specs.PdoTraffic.{works, typeOf, isHeld, noData, mappedLength, areLegal}
 use Rattle.rules.specs.Outcome.{sameBy, samePlan, sameData, statusOf}
 
@@ -107,6 +113,19 @@ heldSound nmt d p f =
     (works nmt d p && isSynchronous (typeOf d p) && sameData f (pdoData (take (mappedLength xs) (f .bytes))) && areLegal d (unpacked xs (f .bytes)))
     (sameData f noData)
 
+-- ---- the transfer in progress, by ticket 1
+
+-- "an upload stands at a segment that the name has; a download has any index and subindex, either toggle, a count up to five, and bytes
+-- behind the count zero. Nothing is asked of the NMT state."
+unfoldable pub receiptSound : Receipt → Bool
+receiptSound g =
+    leb (g .count) tooMany && sameBy eqb (bytesIn g) (padded 0 dataSize (take (g .count) (bytesIn g)))
+
+unfoldable pub transferSound : Transfer → Bool
+transferSound NoTransfer = true
+transferSound (Uploading k) = ltb (k * segmentSize) (length deviceName)
+transferSound (Downloading g) = receiptSound g
+
 -- ---- the whole
 
 -- of the dictionary alone
@@ -123,7 +142,7 @@ waitingSound s d =
     let m = s .node .nmt in
     pairwise (paceSound m d) transmitPdos (s .axis .paces) && pairwise (heldSound m d) receivePdos (s .axis .held)
 
--- the clauses in the paper's order, "N legal" first
+-- the clauses in the paper's order, "N legal" first, and the transfer's last
 unfoldable pub sound : State → List ℕ → Bool
 sound s d =
     isNodeId (s .node .id)
@@ -135,10 +154,11 @@ sound s d =
     && driveSound (s .axis .drive) d
     && heartbeatSound (s .node .heartbeat) d
     && waitingSound s d
+    && transferSound (s .transfer)
 
 -- opens every definition of this module, where a proof computes
 unfoldable pub open-sound : Unit {0}
 unfolding constantsAsListed inRange valuesInRange mappingLegal mappingsLegal identifiersLegal statusAsMade modeAsMade plansFresh readyFresh
-    storeInPlace takenInPlace causeInPlace countSound heartbeatSound dueSound paceSound heldSound
+    storeInPlace takenInPlace causeInPlace countSound heartbeatSound receiptSound transferSound dueSound paceSound heldSound
     dictionarySound driveSound waitingSound sound
 open-sound = tt

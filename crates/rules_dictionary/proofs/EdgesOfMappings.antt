@@ -34,6 +34,12 @@ to-neither : mappedTo
 unfolding open-edges
 to-neither = refl
 
+-- the device name is no target, of its own 152 bits or of any; 1008h:1 and :255 are missing subindices, 1007h and 1009h missing objects
+name-as-a-target : mappedTo (0x10080098 ∷ 0x10080000 ∷ 0x10080020 ∷ 0x10080198 ∷ 0x1008FF20 ∷ 0x10070098 ∷ 0x10090098 ∷ [])
+    ≡ times 8 (times 3 0x06040041 ++ times 2 0x06090011 ++ times 2 0x06020000)
+unfolding open-edges
+name-as-a-target = refl
+
 -- "wrong .. length 06040041h": of 6040h 16 bits alone, of 6060h 8, of 607Ah 32
 lengths : answers fresh (mapEntry 0 1)
     (0x60400000 ∷ 0x60400001 ∷ 0x60400008 ∷ 0x6040000F ∷ 0x60400010 ∷ 0x60400011 ∷ 0x60400020 ∷ 0x60400090 ∷ 0x60600007 ∷ 0x60600009 ∷ 0x60600088

@@ -7,23 +7,26 @@ use mathlib.Core.Bool.{Bool, true, false, not, _&&_, _||_}
 use mathlib.Core.List.{List, [], _∷_, _++_, map}
 use lib.Dec.{eqb}
 use Rattle.rules_dictionary.specs.Numbers.{all}
+use lib.ListN.{length}
+use Rattle.rules_dictionary.specs.DeviceName.{deviceName, isName}
 use Rattle.rules_dictionary.specs.Table.{Row, u32, from, upTo, ranging, table, Found}
-use Rattle.rules_dictionary.specs.Table.{found, noObject as missing, noSubindex as missingSub, lookup}
+use Rattle.rules_dictionary.specs.Table.{found, theName, noObject as missing, noSubindex as missingSub, lookup}
 use Rattle.rules_dictionary.specs.Table.{errorRegister, heartbeatTime, errorCode, controlWord, statusWord, mode, modeDisplay, position, key}
 use Rattle.rules_dictionary.specs.Table.{positionWindow, velocity, velocityWindow, velocityThreshold, targetPosition, minimumPosition}
 use Rattle.rules_dictionary.specs.Table.{maximumPosition, profileVelocity, profileAcceleration, profileDeceleration, targetVelocity, pdos}
 use Rattle.rules_dictionary.specs.Table.{transmissionType, mapCount, mapEntry}
-use Rattle.rules_dictionary.specs.Aborts.{abortCode, unknownCommand, noObject, noSubindex, noWriting, tooLong, tooShort, wrongTime}
+use Rattle.rules_dictionary.specs.Aborts.{abortCode, unknownCommand, wrongToggle, noObject, noSubindex, noWriting, tooLong, tooShort, wrongTime}
 use Rattle.rules_dictionary.specs.Aborts.{belowRange, aboveRange, badValue, notMappable, overLength, Verdict, good, bad, isGood, test, firstOf}
 use Rattle.rules_dictionary.specs.Legal.{isBelow, isAbove, valueVerdict}
 use Rattle.rules_dictionary.proofs.Edges.{fresh, open-edges}
 
--- "05040001h"; "no object 06020000h; no subindex 06090011h; download to c or o 06010002h; longer 06070012h, shorter 06070013h; wrong time
--- 08000022h; below range 06090032h, above 06090031h; other bad value 06090030h"; "wrong direction or length 06040041h"; "over 64 bits 06040042h"
+-- "05040001h"; "wrong toggle 05030000h"; "no object 06020000h; no subindex 06090011h; download to c or o 06010002h; longer 06070012h, shorter
+-- 06070013h; wrong time 08000022h; below range 06090032h, above 06090031h; other bad value 06090030h"; "wrong direction or length 06040041h"; "over
+-- 64 bits 06040042h"
 abort-codes : map abortCode
-    (unknownCommand ∷ noObject ∷ noSubindex ∷ noWriting ∷ tooLong ∷ tooShort ∷ wrongTime ∷ belowRange ∷ aboveRange ∷ badValue ∷ notMappable
-    ∷ overLength ∷ [])
-    ≡ 0x05040001 ∷ 0x06020000 ∷ 0x06090011 ∷ 0x06010002 ∷ 0x06070012 ∷ 0x06070013 ∷ 0x08000022 ∷ 0x06090032 ∷ 0x06090031 ∷ 0x06090030
+    (unknownCommand ∷ wrongToggle ∷ noObject ∷ noSubindex ∷ noWriting ∷ tooLong ∷ tooShort ∷ wrongTime ∷ belowRange ∷ aboveRange ∷ badValue
+    ∷ notMappable ∷ overLength ∷ [])
+    ≡ 0x05040001 ∷ 0x05030000 ∷ 0x06020000 ∷ 0x06090011 ∷ 0x06010002 ∷ 0x06070012 ∷ 0x06070013 ∷ 0x08000022 ∷ 0x06090032 ∷ 0x06090031 ∷ 0x06090030
     ∷ 0x06040041 ∷ 0x06040042 ∷ []
 abort-codes = refl
 
@@ -55,6 +58,7 @@ good-alone = refl
 -- each row is found by its index and subindex
 isFound : Row → Found → Bool
 isFound x (found y) = eqb (key x) (key y)
+isFound x theName = false
 isFound x missing = false
 isFound x missingSub = false
 
@@ -71,6 +75,23 @@ no-subindices : lookup 0x1000 1 ∷ lookup 0x1018 2 ∷ lookup 0x1403 3 ∷ look
     ≡ times 7 missingSub
 unfolding open-edges
 no-subindices = refl
+
+-- 1008h:0 is the device name, and has no other subindex; no row stands there
+the-name : (lookup 0x1008 0 ≡ theName) × (lookup 0x1008 1 ≡ missingSub) × (lookup 0x1008 255 ≡ missingSub) × (lookup 0x1007 0 ≡ missing)
+    × (lookup 0x1009 0 ≡ missing) × (all (λ x. not (eqb (x .index) 0x1008)) table ≡ true)
+unfolding open-edges
+the-name = (refl, refl, refl, refl, refl, refl)
+
+-- "a constant visible string of 5 to 32 characters": nineteen, as they are printed
+the-name-stands : (isName deviceName ≡ true) × (length deviceName ≡ 19)
+    × (deviceName
+    ≡ 67 ∷ 101 ∷ 110 ∷ 100 ∷ 117 ∷ 114 ∷ 97 ∷ 107 ∷ 32 ∷ 115 ∷ 101 ∷ 114 ∷ 118 ∷ 111 ∷ 32 ∷ 110 ∷ 111 ∷ 100 ∷ 101 ∷ [])
+the-name-stands = (refl, refl, refl)
+
+-- four characters are too few, five and 32 are not, 33 are too many; a control character is no character
+name-bounds : map (λ n. isName (times n 0x41)) (4 ∷ 5 ∷ 32 ∷ 33 ∷ []) ++ map (λ b. isName (times 5 b)) (0x1F ∷ 0x20 ∷ 0x7E ∷ 0x7F ∷ [])
+    ≡ false ∷ true ∷ true ∷ false ∷ false ∷ true ∷ true ∷ false ∷ []
+name-bounds = refl
 
 -- ---- ranges: the ends are legal, what lies behind them is not
 

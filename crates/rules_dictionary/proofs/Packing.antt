@@ -125,8 +125,8 @@ pub last-end : placeOf (rowAt (entries - 1)) + sizeOf (rowAt (entries - 1)) ≡ 
 unfolding placeOf bytesBefore table entries dictionaryLength
 last-end = refl
 
--- a place is a number of 16 bits, and none of the greatest two
-pub short : dictionaryLength < 2 ^ 16 - 2
+-- a place is a number of 16 bits, and none of the greatest three
+pub short : dictionaryLength < 2 ^ 16 - 3
 unfolding dictionaryLength table
 short = ltb-true _ _ refl
 

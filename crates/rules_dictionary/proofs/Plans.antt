@@ -4,7 +4,7 @@ use Prim.Native.Nat.{ℕ}
 use mathlib.Core.Path.{_≡_, refl, ap₂}
 use mathlib.Core.List.{List, [], _∷_, _++_}
 use Rattle.rules_dictionary.specs.Members.{In, here, there}
-use Rattle.rules_dictionary.specs.Table.{Row, table, wordIndex, wordSubindex, Found, found, noObject, noSubindex, lookup}
+use Rattle.rules_dictionary.specs.Table.{Row, table, wordIndex, wordSubindex, Found, found, theName, noObject, noSubindex, lookup}
 use Rattle.rules_dictionary.specs.Values.{field}
 use Rattle.rules_dictionary.specs.Plans.{andThen, targets, mapped, joined}
 use Rattle.rules_dictionary.proofs.Tests.{none-in}
@@ -18,6 +18,7 @@ targets-in (w ∷ ws) {x} i = go (lookup (wordIndex w) (wordSubindex w)) refl i 
     go : (f : Found) → lookup (wordIndex w) (wordSubindex w) ≡ f → In x (andThen f (targets ws)) → (In x (targets ws) → In x table) → In x table
     go (found y) e here rest = found-in (wordIndex w) (wordSubindex w) e
     go (found y) e (there j) rest = rest j
+    go theName e j rest = rest j
     go noObject e j rest = rest j
     go noSubindex e j rest = rest j
 

@@ -53,7 +53,7 @@ unfolding bytes
 bytes-are zero v = refl
 bytes-are (suc size) v = and-both _ _ (lt-ltb (v % 256) 256 (omega arith)) (bytes-are size (v / 256))
 
-all-set : (d : List ℕ) (i v : ℕ) → areBytes d ≡ true → isByte v ≡ true → areBytes (set d i v) ≡ true
+pub all-set : (d : List ℕ) (i v : ℕ) → areBytes d ≡ true → isByte v ≡ true → areBytes (set d i v) ≡ true
 all-set [] i v h p = refl
 all-set (b ∷ bs) zero v h p = and-both _ _ p (and-right (isByte b) (areBytes bs) h)
 all-set (b ∷ bs) (suc i) v h p = and-both _ _ (and-left (isByte b) (areBytes bs) h) (all-set bs i v (and-right (isByte b) (areBytes bs) h) p)

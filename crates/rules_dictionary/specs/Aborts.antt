@@ -1,14 +1,15 @@
--- Document 01, 'SDO': the abort codes, and tests in order of which the first that fires decides.
+-- Document 01, 'SDO', and ticket 1: the abort codes, and tests in order of which the first that fires decides.
 -- Assumes nothing.
 use Prim.Native.Nat.{ℕ}
 use mathlib.Core.List.{List, [], _∷_}
 use mathlib.Core.Bool.{Bool, true, false}
 
 pub data Abort : Type 0 where
-  unknownCommand noObject noSubindex noWriting tooLong tooShort wrongTime belowRange aboveRange badValue notMappable overLength : Abort
+  unknownCommand wrongToggle noObject noSubindex noWriting tooLong tooShort wrongTime belowRange aboveRange badValue notMappable overLength : Abort
 
 abbrev pub abortCode : Abort → ℕ
 abortCode unknownCommand = 0x05040001
+abortCode wrongToggle = 0x05030000
 abortCode noObject = 0x06020000
 abortCode noSubindex = 0x06090011
 abortCode noWriting = 0x06010002

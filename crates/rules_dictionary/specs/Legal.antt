@@ -12,7 +12,7 @@ use Rattle.rules_dictionary.specs.declared.Role.{Role}
 use Rattle.rules_dictionary.specs.declared.Role.the-variants.{Plain, ModeOfOperation, PdoIdentifier, PdoType, MappingCount, MappingEntry}
 use Rattle.rules_dictionary.specs.Table.{Row, Mappable, unmappable, toReceive, toTransmit, Direction, receive, transmit, directionOf, pdos}
 use Rattle.rules_dictionary.specs.Table.{identifier, mapEntry, mapSlots, wordsPlace, wordIndex, wordSubindex, wordLength, sizeOf, Found, found}
-use Rattle.rules_dictionary.specs.Table.{noObject as missing, noSubindex as missingSubindex, lookup}
+use Rattle.rules_dictionary.specs.Table.{theName, noObject as missing, noSubindex as missingSubindex, lookup}
 use Rattle.rules_dictionary.specs.Values.{read, unpacked}
 use Rattle.rules_dictionary.specs.Aborts.{Verdict, good, bad, test, firstOf, noObject, noSubindex, belowRange, aboveRange, badValue}
 use Rattle.rules_dictionary.specs.Aborts.{notMappable, overLength}
@@ -115,6 +115,7 @@ suits transmit toTransmit = true
 unfoldable pub targetVerdict : Direction → ℕ → Found → Verdict
 targetVerdict way w (found x) =
     firstOf (test (not (suits way (x .mappable)) || not (eqb (wordLength w) (8 * sizeOf x))) notMappable ∷ []) good
+targetVerdict way w theName = bad notMappable
 targetVerdict way w missing = bad noObject
 targetVerdict way w missingSubindex = bad noSubindex
 

@@ -1,6 +1,7 @@
 pub mod Members
 pub mod Numbers
 pub mod TheNode
+pub mod DeviceName
 pub mod Table
 pub mod Values
 pub mod Aborts

@@ -8,13 +8,14 @@ use Rattle.rules_dictionary.specs.declared.Plan.{Plan}
 use Rattle.rules_dictionary.specs.declared.PdoData.{PdoData}
 use Rattle.rules_dictionary.specs.Numbers.{padded}
 use Rattle.rules_dictionary.specs.Table.{Row, sizeOf, placeOf, mapCount, mostMoves, pdos, transmitPdos, wordIndex, wordSubindex, Found, found}
-use Rattle.rules_dictionary.specs.Table.{noObject, noSubindex, lookup}
+use Rattle.rules_dictionary.specs.Table.{theName, noObject, noSubindex, lookup}
 use Rattle.rules_dictionary.specs.Values.{read, field}
 use Rattle.rules_dictionary.specs.Legal.{mapWords}
 
 -- the rows that mapping words name, in order
 unfoldable pub andThen : Found → List Row → List Row
 andThen (found x) xs = x ∷ xs
+andThen theName xs = xs
 andThen noObject xs = xs
 andThen noSubindex xs = xs
 

@@ -10,6 +10,7 @@ use Rattle.rules_dictionary.specs.declared.Access.the-variants.{Constant
 use Rattle.rules_dictionary.specs.declared.Role.{Role}
 use Rattle.rules_dictionary.specs.declared.Role.the-variants.{Plain, ModeOfOperation, PdoIdentifier, PdoType, MappingCount, MappingEntry}
 use Rattle.rules_dictionary.specs.Numbers.{bits, between}
+use Rattle.rules_dictionary.specs.DeviceName.{nameIndex, nameSubindex}
 
 -- ---- the columns of a row
 
@@ -383,9 +384,10 @@ isReset x = between firstCommunication lastCommunication (x .index) && not (same
 
 -- ---- the look-up
 
+-- a row, the device name, which has none, or nothing
 pub data Found : Type 0 where
   found : Row → Found
-  noObject noSubindex : Found
+  theName noObject noSubindex : Found
 
 -- the row of that index and subindex; without one, whether the index was seen
 unfoldable pub search : Bool → ℕ → ℕ → List Row → Found
@@ -394,10 +396,15 @@ search seen i s (x ∷ xs) =
     elim (eqb (x .index) i)
     [ true ↦ elim (eqb (x .subindex) s) [ true ↦ found x | false ↦ search true i s xs ] | false ↦ search seen i s xs ]
 
+unfoldable pub rowOf : ℕ → ℕ → Found
+rowOf i s = search false i s table
+
+-- 1008h stands beside the table, at one subindex
 unfoldable pub lookup : ℕ → ℕ → Found
-lookup i s = search false i s table
+lookup i s = cond (eqb i nameIndex) (cond (eqb s nameSubindex) theName noSubindex) (rowOf i s)
 
 -- opens every definition of this module, where a proof computes
 unfoldable pub open-table : Unit {0}
-unfolding communicationRows mappingRows table entries bytesBefore placeOf dictionaryLength communicationLength mappingLength isReset search lookup
+unfolding communicationRows mappingRows table entries bytesBefore placeOf dictionaryLength communicationLength mappingLength isReset search rowOf
+    lookup
 open-table = tt

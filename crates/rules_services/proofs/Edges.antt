@@ -23,7 +23,7 @@ use Rattle.rules_dictionary.specs.Aborts.{aboveRange, badValue}
 use Rattle.drive.specs.SetPoints.{withCause}
 use Rattle.rules_services.specs.Effects.{Effect, Frame, frame, becomes, withDrive, withHeartbeat, withHeld}
 use Rattle.rules_services.specs.Emergency.{emergency}
-use Rattle.rules_services.specs.Sdo.{sdo}
+use Rattle.rules_services.specs.SdoServer.{sdo}
 use Rattle.rules_services.specs.PdoTraffic.{received, sync, paced, paceOf, works, noData}
 use Rattle.rules_services.specs.Nmt.{nmt, tick}
 use Rattle.rules_services.specs.declared.Told.the-variants.{Happened, Bad}
@@ -58,9 +58,9 @@ uploads = refl
 download : State → List ℕ → ℕ → ℕ → ℕ → ℕ → ℕ
 download s d c i sub v = abortOf (sdo (c ∷ bytes 2 i ++ sub ∷ bytes 4 v) s d .sent)
 
--- command bits: 0 and 3 unknown, 1 without bit 1; a client's abort is not answered
+-- command bits: 0 and 3 have no transfer, 1 without bit 1 begins one, 5 is unknown; a client's abort is not answered
 commands-told : (map (λ c. download preOperational fresh c 0x6040 0 0x06) (0x00 ∷ 0x60 ∷ 0x21 ∷ 0xA0 ∷ [])
-    ≡ abortCode unknownCommand ∷ abortCode unknownCommand ∷ abortCode unknownCommand ∷ abortCode unknownCommand ∷ [])
+    ≡ abortCode unknownCommand ∷ abortCode unknownCommand ∷ 0 ∷ abortCode unknownCommand ∷ [])
     × (sdo (0x80 ∷ 0x40 ∷ 0x60 ∷ 0x00 ∷ 0x00 ∷ 0x00 ∷ 0x00 ∷ 0x00 ∷ []) preOperational fresh ≡ becomes preOperational)
 unfolding download abortOf open-edges
 commands-told = (refl, refl)

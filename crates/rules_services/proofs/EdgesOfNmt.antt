@@ -7,6 +7,7 @@ use mathlib.Core.List.{List, [], _∷_, map}
 use lib.ListN.{length}
 use Rattle.state.specs.declared.NmtState.{NmtState}
 use Rattle.state.specs.declared.NmtState.the-variants.{PreOperational, Operational, Stopped}
+use Rattle.state.specs.declared.Transfer.the-variants.{NoTransfer}
 use Rattle.state.specs.declared.State.{State}
 use Rattle.state.specs.declared.Pace.{Pace}
 use Rattle.state.specs.declared.Occasion.the-variants.{Plain}
@@ -59,6 +60,7 @@ abbrev working : NmtState → ℕ → Drive → State
 working m k v =
     record {
       node = record { id = 5; nmt = m; voltage = true; heartbeat = k };
+      transfer = NoTransfer;
       axis = record {
         drive = v;
         plans = [];
@@ -73,6 +75,7 @@ abbrev cleared : NmtState → ℕ → Drive → State
 cleared m k v =
     record {
       node = record { id = 5; nmt = m; voltage = true; heartbeat = k };
+      transfer = NoTransfer;
       axis = record {
         drive = v;
         plans = [];
@@ -87,6 +90,7 @@ abbrev anew : ℕ → State
 anew n =
     record {
       node = record { id = n; nmt = PreOperational; voltage = false; heartbeat = 0 };
+      transfer = NoTransfer;
       axis = record {
         drive = record { state = NotReady; mode = NoMode; store = Empty; taken = false; limit = false; cause = false };
         plans = [];

@@ -21,7 +21,7 @@ use Rattle.rules_dictionary.specs.Table.{transmissionType, mapCount, mapEntry, 
 use Rattle.rules_dictionary.specs.Values.{write, store, stored}
 use Rattle.rules_services.specs.Effects.{Frame, frame, becomes, sends, on, andThen, withDrive, withHeld}
 use Rattle.rules_services.specs.Emergency.{emergency}
-use Rattle.rules_services.specs.Sdo.{sdo}
+use Rattle.rules_services.specs.SdoServer.{sdo}
 use Rattle.rules_services.specs.Nmt.{freshState}
 use Rattle.rules_services.specs.PdoTraffic.{received, receivedBy, listens, sync, syncBase, works, paced, paceOf, transmitted}
 use Rattle.rules_services.proofs.Node5.{fresh, node, preOperational, operational, stopped, after, eight, open-edges}

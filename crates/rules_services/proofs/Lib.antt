@@ -1,6 +1,9 @@
 pub mod Node5
+pub mod Transfers5
 pub mod Edges
 pub mod EdgesOfSdo
+pub mod EdgesOfSegments
+pub mod EdgesOfTransfers
 pub mod EdgesOfPdos
 pub mod EdgesOfNmt
 pub mod EdgesOfEvents

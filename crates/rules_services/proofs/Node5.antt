@@ -20,6 +20,8 @@ use Rattle.rules_services.specs.Effects.{Effect, Frame, frame, withNmt, 
 use Rattle.rules_services.specs.Emergency.{open-emergency}
 use Rattle.rules_services.specs.Written.{open-written}
 use Rattle.rules_services.specs.Sdo.{open-sdo}
+use Rattle.rules_services.specs.Segments.{open-segments}
+use Rattle.rules_services.specs.SdoServer.{open-sdo-server}
 use Rattle.rules_services.specs.PdoTraffic.{open-pdo-traffic}
 use Rattle.rules_services.specs.Nmt.{freshState, open-nmt}
 use Rattle.rules_services.specs.Events.{open-events}
@@ -53,5 +55,6 @@ after d e x = read (stored (e .writes) d) x
 
 unfoldable pub open-edges : Unit {0}
 unfolding fresh node preOperational operational stopped after packedDefaults open-numbers open-table open-values open-aborts open-legal open-plans
-    open-drive-states open-set-points open-status-word open-effects open-emergency open-written open-sdo open-pdo-traffic open-nmt open-events
+    open-drive-states open-set-points open-status-word open-effects open-emergency open-written open-sdo open-segments
+    open-sdo-server open-pdo-traffic open-nmt open-events
 open-edges = tt

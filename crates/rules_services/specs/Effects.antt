@@ -12,6 +12,8 @@ use Rattle.drive.specs.declared.Drive.{Drive}
 use Rattle.rules_dictionary.specs.declared.PdoData.{PdoData}
 use Rattle.state.specs.declared.Axis.{Axis}
 use Rattle.state.specs.declared.Node.{Node}
+use Rattle.state.specs.declared.Transfer.{Transfer}
+use Rattle.state.specs.declared.Transfer.the-variants.{NoTransfer}
 use Rattle.state.specs.declared.State.{State}
 use Rattle.rules_dictionary.specs.Values.{Write, stored}
 
@@ -54,10 +56,17 @@ andThen d e f =
 -- ---- the state with one part changed
 
 abbrev pub withAxis : Axis → State → State
-withAxis a s = record { node = s .node; axis = a }
+withAxis a s = record { node = s .node; transfer = s .transfer; axis = a }
 
 abbrev pub withNode : Node → State → State
-withNode n s = record { node = n; axis = s .axis }
+withNode n s = record { node = n; transfer = s .transfer; axis = s .axis }
+
+abbrev pub withTransfer : Transfer → State → State
+withTransfer t s = record { node = s .node; transfer = t; axis = s .axis }
+
+-- nothing runs
+abbrev pub withoutTransfer : State → State
+withoutTransfer s = withTransfer NoTransfer s
 
 abbrev pub withDrive : Drive → State → State
 withDrive v s =

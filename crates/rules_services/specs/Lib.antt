@@ -2,6 +2,8 @@ pub mod Effects
 pub mod Emergency
 pub mod Written
 pub mod Sdo
+pub mod Segments
+pub mod SdoServer
 pub mod PdoTraffic
 pub mod Nmt
 pub mod Events

@@ -11,6 +11,7 @@ use Rattle.state.specs.NmtStates.{isOperational, isPreOperational}
 use Rattle.rules_dictionary.specs.declared.Mode.the-variants.{NoMode}
 use Rattle.drive.specs.declared.DriveState.the-variants.{NotReady}
 use Rattle.drive.specs.declared.Store.the-variants.{Empty}
+use Rattle.state.specs.declared.Transfer.the-variants.{NoTransfer}
 use Rattle.state.specs.declared.State.{State}
 use Rattle.rules_dictionary.specs.Numbers.{filter}
 use Rattle.rules_dictionary.specs.Table.{table, heartbeatTime, isReset}
@@ -19,6 +20,7 @@ use Rattle.drive.specs.declared.Command.the-variants.{DisableVoltage}
 use Rattle.drive.specs.DriveStates.{next}
 use Rattle.drive.specs.SetPoints.{enters}
 use Rattle.rules_services.specs.Effects.{Effect, Frame, frame, becomes, sends, writes, withDrive, withHeld, withPaces, withNmt, withHeartbeat}
+use Rattle.rules_services.specs.Effects.{withoutTransfer}
 use Rattle.rules_services.specs.PdoTraffic.{noneHeld, allIdle}
 
 -- ---- heartbeat and boot-up on 700h+N
@@ -56,6 +58,7 @@ unfoldable pub freshState : ℕ → State
 freshState n =
     record {
       node = record { id = n; nmt = PreOperational; voltage = false; heartbeat = 0 };
+      transfer = NoTransfer;
       axis = record {
         drive = record { state = NotReady; mode = NoMode; store = Empty; taken = false; limit = false; cause = false };
         plans = [];
@@ -100,15 +103,15 @@ voltageDisabled s =
     let v = s .axis .drive in
     withDrive (enters (next (v .cause) (v .state) DisableVoltage) v) s
 
--- "01h and 80h to the present state do nothing."
+-- "01h and 80h to the present state do nothing." "82h or leaving the NMT states that serve SDO ends a running transfer", so 02h too
 unfoldable pub commanded : NmtCommand → State → Effect
 commanded start s = cond (isOperational (s .node .nmt)) (becomes s) (becomes (withNmt Operational s))
-commanded stop s = becomes (withNmt Stopped (left (voltageDisabled s)))
+commanded stop s = becomes (withoutTransfer (withNmt Stopped (left (voltageDisabled s))))
 commanded enterPreOperational s = cond (isPreOperational (s .node .nmt)) (becomes s) (becomes (withNmt PreOperational (left s)))
 commanded resetNode s = powerUp (s .node .id)
 commanded resetCommunication s =
     writes (toDefaults (s .node .id) (filter isReset table))
-    (sends (bootUp (s .node .id)) (becomes (withNmt PreOperational (withHeartbeat 0 (left (voltageDisabled s))))))
+    (sends (bootUp (s .node .id)) (becomes (withoutTransfer (withNmt PreOperational (withHeartbeat 0 (left (voltageDisabled s)))))))
 commanded unknown s = becomes s
 
 unfoldable pub nmt : List ℕ → State → Effect

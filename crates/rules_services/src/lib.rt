@@ -7,7 +7,10 @@ use state::Pace;
 // What a request of the SDO client asks.
 pub enum SdoCommand {
     Download,
+    DownloadBySegments,
+    DownloadSegment,
     Upload,
+    UploadSegment,
     ClientAbort,
     Unknown,
 }

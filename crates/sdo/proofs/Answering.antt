@@ -1,61 +1,54 @@
--- Laws of replies: a reply is the frame of eight bytes, and a reply alone leaves all else.
+-- Laws of what is said: eight bytes are the data of a frame, and what is said alone leaves all else but the transfer.
 -- Assumes nothing.
-use Prim.Native.Nat.{ℕ, _+_, _/_, _%_, _≤_}
+use Prim.Native.Nat.{ℕ, _+_}
 use native.Mathlib.Omega.{arith}
 use mathlib.Core.Path.{_≡_, refl, sym, _∙_, ap, subst}
 use mathlib.Core.List.{List, [], _∷_}
-use lib.Dec.{lit≤}
-use lib.ListN.{length, getD}
+use lib.ListN.{length, take}
+use lib.Seq.{take-all}
+use Rattle.state.specs.declared.State.{State}
+use Rattle.state.specs.declared.Transfer.{Transfer}
 use Rattle.rules_dictionary.specs.declared.PdoData.{PdoData}
-use Rattle.rules_dictionary.specs.Numbers.{bytes}
+use Rattle.rules_dictionary.specs.Numbers.{padded}
 use Rattle.rules_dictionary.specs.Table.{Row, ValueType, u8, u16, u32, i8, i32, size}
 use Rattle.rules_dictionary.specs.Values.{stored}
 use Rattle.rules_dictionary.specs.Plans.{pdoData}
-use Rattle.rules_services.specs.Effects.{Frame}
-use Rattle.rules_services.specs.Sdo.{reply, replyBase, requestLength, dataSize, uploaded}
+use Rattle.rules_dictionary.proofs.Padded.{length-padded, take-padded}
+use Rattle.rules_services.specs.Effects.{Frame, withTransfer}
+use Rattle.rules_services.specs.Sdo.{replyBase, requestLength, uploaded}
 use Rattle.form.specs.Form.{stateOf}
-use Rattle.form.specs.Holding.{Holds}
+use Rattle.form.specs.Holding.{Holds, Puts}
 use Rattle.dictionary.specs.declared.Entry.{Entry}
 use Rattle.dictionary.specs.Entries.{entryOf}
 use Rattle.output.specs.Laying.{IsData, frameOf}
 use Rattle.output.proofs.Frames.{is-data, frame-of-data}
 use Rattle.output.specs.declared.Done.{Done}
-use Rattle.output.specs.Leaves.{LeavesIn, ever}
-use Rattle.output.proofs.Left.{calm-said, resting}
-use Rattle.sdo.specs.Requests.{replyBytes, replyOf, uploadedBy}
-use Rattle.sdo.specs.Serving.{said, Says}
+use Rattle.output.specs.Leaves.{Calm}
+use Rattle.output.proofs.Left.{resting}
+use Rattle.sdo.specs.Requests.{saying, said, uploadedBy}
+use Rattle.sdo.specs.Serving.{Says, Speaks}
 
--- ---- the frame of a reply
+-- ---- the frame of eight bytes
 
--- eight bytes
-reply-short : (c v : ℕ) (rq : List ℕ) → length (replyBytes c v rq) ≤ requestLength
-unfolding bytes
-reply-short c v [] = lit≤ tt
-reply-short c v (x ∷ []) = lit≤ tt
-reply-short c v (x ∷ y ∷ []) = lit≤ tt
-reply-short c v (x ∷ y ∷ z ∷ []) = lit≤ tt
-reply-short c v (x ∷ y ∷ z ∷ w ∷ rq) = lit≤ tt
+module _ (content : List ℕ) (long : length content ≡ requestLength) where
+  abbrev eight : PdoData
+  eight = record { length = 8; bytes = content }
 
-pub reply-made : (c v : ℕ) (rq : List ℕ) → length rq ≡ requestLength →
-    _≡_ {A = PdoData}
-    (record {
-      length = 8;
-      bytes = c ∷ getD rq 1 0 ∷ getD rq 2 0 ∷ getD rq 3 0 ∷ v % 256 ∷ v / 256 % 256 ∷ v / 256 / 256 % 256 ∷ v / 256 / 256 / 256 % 256 ∷ [];
-    })
-    (pdoData (replyBytes c v rq))
-unfolding pdoData bytes
-reply-made c v [] l = absurd (omega arith)
-reply-made c v (x ∷ []) l = absurd (omega arith)
-reply-made c v (x ∷ y ∷ []) l = absurd (omega arith)
-reply-made c v (x ∷ y ∷ z ∷ []) l = absurd (omega arith)
-reply-made c v (x ∷ y ∷ z ∷ w ∷ rq) l = refl
+  all-eight : padded 0 requestLength content ≡ content
+  all-eight =
+      let p = padded 0 requestLength content in
+      sym (take-all (length content) p (rw length-padded (omega arith))) ∙ take-padded 0 requestLength content (omega arith)
 
-module _ (c v : ℕ) (rq : List ℕ) (content : PdoData) (is : content ≡ pdoData (replyBytes c v rq)) where
-  pub reply-is-data : IsData content
-  reply-is-data = subst IsData (sym is) (is-data (replyBytes c v rq) (reply-short c v rq))
+  eight-made : eight ≡ pdoData content
+  unfolding pdoData
+  eight-made = rw (all-eight, long)
 
-  pub reply-sent : (n : ℕ) → frameOf (replyBase + n) content ∷ [] ≡ replyOf c v rq n
-  reply-sent n = ap (λ (f : Frame). f ∷ []) (ap (frameOf (replyBase + n)) is ∙ frame-of-data (replyBase + n) (replyBytes c v rq) (reply-short c v rq))
+  pub eight-is-data : IsData eight
+  eight-is-data = subst IsData (sym eight-made) (is-data content (omega arith))
+
+  pub eight-sent : (n : ℕ) → frameOf (replyBase + n) eight ∷ [] ≡ saying content n
+  eight-sent n =
+      ap (λ (f : Frame). f ∷ []) (ap (frameOf (replyBase + n)) eight-made ∙ frame-of-data (replyBase + n) content (omega arith))
 
 -- the reply's command to an upload, by the entry's size
 pub uploaded-by : (e : Entry) (x : Row) → e ≡ entryOf x → uploadedBy (e .size) ≡ uploaded (x .type)
@@ -68,12 +61,25 @@ uploaded-by e x is = ap (λ (y : Entry). uploadedBy (y .size)) is ∙ go (x .typ
     go i8 = refl
     go i32 = refl
 
--- THE LAW of a reply alone
-pub replied : {c v : ℕ} {rq bs o o′ : List ℕ} {r : Done} (d : List ℕ) → Holds bs (stateOf bs) → Says c v rq (stateOf bs .node .id) o r o′ →
-    LeavesIn (λ s d. said c v rq s) ever bs d o r bs d o′
-unfolding reply stored
-replied {c} {v} {rq} {bs} d own h =
+-- ---- what is said alone
+
+said-calmly : (content : List ℕ) (t : Transfer) (s : State) → Calm s (said content t s)
+said-calmly content t s = record { writes = refl; occasion = refl; nmt = refl; voltage = refl; drive = refl }
+
+-- THE LAW of it, on bytes into which the transfer is put
+pub spoken : {content : List ℕ} {t : Transfer} {bs o bs′ o′ : List ℕ} {r : Done} → Holds bs (stateOf bs) → Puts (withTransfer t) bs bs′ →
+    Says content (stateOf bs .node .id) o r o′ → Speaks (said content t) bs o r bs′ o′
+unfolding stored
+spoken {content} {t} {bs} own put h d =
     rw (h .done) (
-      record { state = own; frames = refl; touched = refl; remapped = refl; occasion = refl; dictionary = refl; output = h .output },
-      resting (stateOf bs) _ _ refl (calm-said (stateOf bs) (reply c rq (stateOf bs) (bytes dataSize v))),
+      record {
+        state = put (stateOf bs) own;
+        frames = refl;
+        touched = refl;
+        remapped = refl;
+        occasion = refl;
+        dictionary = refl;
+        output = h .output;
+      },
+      resting (stateOf bs) _ _ refl (said-calmly content t (stateOf bs)),
     )

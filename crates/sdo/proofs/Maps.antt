@@ -13,7 +13,7 @@ use lib.Seq.{take-nil}
 use Rattle.rules_dictionary.specs.declared.Move.{Move}
 use Rattle.rules_dictionary.specs.Numbers.{value, part, sum}
 use Rattle.rules_dictionary.specs.Table.{Direction, directionOf, eachWay, mostMoves, wordIndex, wordSubindex}
-use Rattle.rules_dictionary.specs.Table.{wordLength, Found, found, noObject, noSubindex, lookup, sizeOf}
+use Rattle.rules_dictionary.specs.Table.{wordLength, Found, found, theName, noObject, noSubindex, lookup, sizeOf}
 use Rattle.rules_dictionary.specs.Aborts.{good, bad, isGood, firstOf, test, notMappable, overLength}
 use Rattle.rules_dictionary.specs.Legal.{suits, targetVerdict, entryVerdict, countVerdict, mostBits}
 use Rattle.dictionary.specs.Entries.{presenceOf}
@@ -43,6 +43,7 @@ target-refused way w (found x) h = go (not (suits way (x .mappable)) || not (eqb
     go : (b : Bool) → isGood (firstOf (test b notMappable ∷ []) good) ≡ false → firstOf (test b notMappable ∷ []) good ≡ bad notMappable
     go true e = refl
     go false e = absurd (true≢false e)
+target-refused way w theName h = refl
 target-refused way w noObject h = refl
 target-refused way w noSubindex h = refl
 

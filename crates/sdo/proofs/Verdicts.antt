@@ -7,7 +7,7 @@ use mathlib.Core.Logic.{inl, inr}
 use borrow.Author.Tests.{ltb-true}
 use lib.Dec.{eqb, ltb}
 use Rattle.rules_dictionary.specs.Table.{Row, eachWay, table}
-use Rattle.rules_dictionary.specs.Aborts.{Abort, unknownCommand, noObject, noSubindex, noWriting, tooLong, tooShort, wrongTime}
+use Rattle.rules_dictionary.specs.Aborts.{Abort, unknownCommand, wrongToggle, noObject, noSubindex, noWriting, tooLong, tooShort, wrongTime}
 use Rattle.rules_dictionary.specs.Aborts.{belowRange, aboveRange, badValue, notMappable, overLength, Verdict, good, bad, isGood}
 use Rattle.rules_dictionary.specs.Members.{In}
 use Rattle.rules_dictionary.proofs.Tests.{all-in}
@@ -23,6 +23,7 @@ good-code (bad a) = go a
   where
     go : (a : Abort) → isGood (bad a) ≡ eqb (verdictCode (bad a)) 0
     go unknownCommand = refl
+    go wrongToggle = refl
     go noObject = refl
     go noSubindex = refl
     go noWriting = refl

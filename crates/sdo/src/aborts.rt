@@ -3,7 +3,10 @@
 // The value is good.
 pub const GOOD: u32 = 0;
 
-// The command is unknown.
+// The toggle is not that of the segment that is due.
+pub const WRONG_TOGGLE: u32 = 0x0503_0000;
+
+// The command is unknown, or no transfer of its direction runs.
 pub const UNKNOWN_COMMAND: u32 = 0x0504_0001;
 
 // The index is not in the table.

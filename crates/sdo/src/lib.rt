@@ -1,19 +1,29 @@
-// Document 01, 'SDO': the expedited server.
+// Document 01, 'SDO', and ticket 1: the server, expedited and by segments.
 
 mod aborts; // the abort codes
 mod identifiers; // what the identifier of a PDO may be
 mod mappings; // what the mapping of a PDO may be
 mod values; // what value an entry may hold
 mod offers; // what may be offered to an entry, and when
-mod request; // what a request asks, and what it offers
-mod replies; // replies on 580h+N
+mod request; // what a request asks, of which object, and what it brings
+mod replies; // frames on 580h+N, and the transfer that then runs
 mod downloads; // a value written
-mod uploads; // a value read
-mod server; // requests by command, index and subindex
+mod uploads; // a value read, or the device name asked for
+mod segments; // a segment, and the object of the transfer that runs
+mod name_segments; // the device name, read by segments
+mod receipts; // a download by segments
+mod server; // requests by command
 
 pub use server::serve;
 
-// What a download offers an entry: how many bytes, and the value of as many as the entry has.
+// What a download brings, whatever the object: how many bytes, where it tells that, and the first four of them.
+struct Brought {
+    told: bool,
+    count: u8,
+    bytes: [u8; 4],
+}
+
+// What it offers an entry: how many bytes, and the value of as many as the entry has.
 struct Offer {
     size: u8,
     value: u32,

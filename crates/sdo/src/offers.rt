@@ -1,4 +1,4 @@
-// The tests of what is offered to an entry, in order; the first that fires decides.
+// What a download offers an entry, and the tests of it, in order; the first that fires decides.
 ghost use mathlib.Core.Path.{_≡_};
 ghost use mathlib.Core.Bool.{not, _||_};
 ghost use lib.ListN.{length};
@@ -8,9 +8,10 @@ ghost use Rattle.rules_dictionary.specs.Values.{read};
 ghost use Rattle.rules_dictionary.specs.Legal.{isValid};
 ghost use Rattle.state.specs.NmtStates.{isPreOperational};
 ghost use Rattle.rules_services.specs.Sdo.{isWrongTime};
-ghost use Rattle.dictionary.specs.Sizes.{IsPdo};
+ghost use Rattle.dictionary.specs.Sizes.{IsSize, IsPdo};
 ghost use Rattle.sdo.specs.Verdicts.{verdictCode, pdoOf};
-ghost use Rattle.sdo.specs.Requests.{offerVerdictOf};
+ghost use Rattle.sdo.specs.Requests.{offeredBy, offerVerdictOf};
+use crate::Brought;
 use crate::Offer;
 use crate::aborts::NO_WRITING;
 use crate::aborts::TOO_LONG;
@@ -19,10 +20,30 @@ use crate::aborts::WRONG_TIME;
 use crate::identifiers::is_valid;
 use crate::values::value_verdict;
 use dictionary::Entry;
+use dictionary::read;
 use dictionary::records;
 use rules_dictionary::Access;
 use rules_dictionary::Role;
 use state::NmtState;
+
+// How many bytes a download offers an entry of that size: as many as it tells, else as many as the entry has.
+fn offered_size(brought: Brought, size: u8) -> u8
+    ensures { λ r. ⌜ r ≡ offeredBy brought size .size ⌝ }
+{
+    if brought.told { brought.count } else { size }
+}
+
+// What it offers it.
+pub fn offered(brought: Brought, size: u8) -> Offer
+    requires { ⌜ IsSize size ⌝ }
+    ensures { λ r. ⌜ r ≡ offeredBy brought size ⌝ }
+{
+    let bytes = brought.bytes;
+    Offer {
+        size: offered_size(brought, size),
+        value: read(&bytes, 0, size),
+    }
+}
 
 // Whether an entry may be written.
 fn may_write(access: Access) -> bool

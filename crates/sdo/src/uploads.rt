@@ -1,16 +1,28 @@
-// Uploads: the value of a row.
+// Uploads: the value of a row; of the device name its length, since it is read by segments.
 ghost use mathlib.Core.Path.{_≡_};
-ghost use mathlib.Core.Bool.{false};
-ghost use Rattle.rules_services.specs.Sdo.{askedIndex, askedSubindex};
+ghost use Rattle.rules_services.specs.Sdo.{indexIn, subindexIn};
 ghost use Rattle.dictionary.specs.Entries.{entryAt, Stands};
 ghost use Rattle.rules.specs.Calls.{outputLength};
-ghost use Rattle.output.specs.Leaves.{Lent, LeavesIn};
-ghost use Rattle.sdo.specs.Requests.{objectAsked, objectRests, uploadedBy};
+ghost use Rattle.output.specs.Leaves.{Lent, LeavesIn, ever};
+ghost use Rattle.sdo.specs.Requests.{uploadedBy, uploadOf};
+use crate::aborts::NO_OBJECT;
+use crate::aborts::NO_SUBINDEX;
+use crate::replies::abort;
 use crate::replies::answer;
+use crate::replies::reply_to;
+use crate::request::INDEX_PLACE;
+use crate::request::SUBINDEX_PLACE;
+use dictionary::Found;
 use dictionary::Spot;
+use dictionary::find;
+use dictionary::name::NAME_LENGTH;
 use dictionary::read;
-use form::read_node;
+use dictionary::read2;
 use output::Done;
+use state::Transfer;
+
+// 41h, the reply's command where segments follow.
+const UPLOAD_BEGUN: u8 = 0x41;
 
 // The reply's command: "4Fh, 4Bh, 43h for 1, 2, 4 bytes".
 fn uploaded(size: u8) -> u8
@@ -24,13 +36,37 @@ fn uploaded(size: u8) -> u8
 }
 
 // An upload of a row.
-pub fn upload(request: [u8; 8], row: Spot, state: &[u8], d: &[u8], output: &mut [u8]) -> Done
-    requires { ⌜ Lent outputLength (now state) (now d) (now output) × Stands (askedIndex request) (askedSubindex request) (entryAt row) ⌝ }
-    ensures { λ r. ⌜ LeavesIn (objectAsked false request) (objectRests false request)
-        (now (state .entry)) (now (d .entry)) (now (output .entry)) r (now (state .entry)) (now (d .entry)) (now (output .exit)) ⌝ }
+fn upload_row(object: [u8; 3], row: Spot, state: &mut [u8], d: &[u8], output: &mut [u8]) -> Done
+    requires { ⌜ Lent outputLength (now state) (now d) (now output) × Stands (indexIn object) (subindexIn object) (entryAt row) ⌝ }
+    ensures { λ r. ⌜ LeavesIn (uploadOf object) ever
+        (now (state .entry)) (now (d .entry)) (now (output .entry)) r (now (state .exit)) (now (d .entry)) (now (output .exit)) ⌝ }
 {
     let size = row.size();
     let v = read(d, row.place as usize, size);
-    let node = read_node(state);
-    answer(uploaded(size), v, request, node.id, output)
+    answer(
+        reply_to(object, uploaded(size), v),
+        Transfer::NoTransfer,
+        state,
+        output,
+    )
+}
+
+// An upload of the object of those three bytes.
+pub fn upload(object: [u8; 3], state: &mut [u8], d: &[u8], output: &mut [u8]) -> Done
+    requires { ⌜ Lent outputLength (now state) (now d) (now output) ⌝ }
+    ensures { λ r. ⌜ LeavesIn (uploadOf object) ever
+        (now (state .entry)) (now (d .entry)) (now (output .entry)) r (now (state .exit)) (now (d .entry)) (now (output .exit)) ⌝ }
+{
+    let found = find(read2(&object, INDEX_PLACE), object[SUBINDEX_PLACE]);
+    match found {
+        Found::Row(row) => upload_row(object, row, state, d, output),
+        Found::DeviceName => answer(
+            reply_to(object, UPLOAD_BEGUN, NAME_LENGTH as u32),
+            Transfer::Uploading(0),
+            state,
+            output,
+        ),
+        Found::NoObject => abort(NO_OBJECT, object, state, output),
+        Found::NoSubindex => abort(NO_SUBINDEX, object, state, output),
+    }
 }

@@ -7,4 +7,5 @@ pub mod Every
 pub mod Fresh
 pub mod Holding
 pub mod Idle
+pub mod Receipts
 pub mod Parts

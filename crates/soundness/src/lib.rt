@@ -7,6 +7,7 @@ mod legal; // the dictionary's own clauses
 mod axis; // the drive, 6041h, 6061h and the heartbeat count
 mod kept; // plans and ready frames beside the mappings
 mod waiting; // what waits for SYNC: SYNC counts, due marks and held frames
+mod transfers; // the transfer in progress
 
 use axis::is_drive_clear;
 use form::is_head_own;
@@ -18,6 +19,7 @@ use legal::dictionary_legal;
 use state::FIRST_NODE;
 use state::LAST_NODE;
 use state::NmtState;
+use transfers::is_transfer_clear;
 use waiting::is_waiting_sound;
 ghost use mathlib.Core.Path.{_≡_};
 ghost use mathlib.Core.Bool.{_&&_};
@@ -26,6 +28,8 @@ ghost use Rattle.rules_dictionary.specs.Table.{dictionaryLength};
 ghost use Rattle.rules_dictionary.specs.TheNode.{isNodeId};
 ghost use Rattle.rules.specs.Sound.{sound};
 ghost use Rattle.form.specs.Form.{stateLength, stateOf, isForm};
+ghost use Rattle.form.specs.Own.{headOwn};
+ghost use Rattle.soundness.specs.Transfers.{transferClear};
 ghost use Rattle.soundness.specs.Parts.{pdoClauses};
 
 // "N legal".
@@ -50,12 +54,23 @@ fn are_pdos_clear(m: NmtState, state: &[u8], d: &[u8]) -> bool
     is_waiting_sound(m, state, d)
 }
 
+// Whether all bytes but the plans' are a state's form, and its transfer is sound.
+fn is_head_clear(state: &[u8]) -> bool
+    requires { ⌜ length (now state) ≡ stateLength ⌝ }
+    ensures { λ r. ⌜ r ≡ (transferClear (now (state .entry)) && headOwn (now (state .entry))) ⌝ }
+{
+    if !is_transfer_clear(state) {
+        return false;
+    }
+    is_head_own(state)
+}
+
 // Whether the bytes are a state's form, and the state sound with the dictionary.
 pub fn is_sound(state: &[u8], d: &[u8]) -> bool
     requires { ⌜ (length (now state) ≡ stateLength) × (length (now d) ≡ dictionaryLength) ⌝ }
     ensures { λ r. ⌜ r ≡ (isForm (now (state .entry)) && sound (stateOf (now (state .entry))) (now (d .entry))) ⌝ }
 {
-    if !is_head_own(state) {
+    if !is_head_clear(state) {
         return false;
     }
     let node = read_node(state);

@@ -96,9 +96,32 @@ pub struct Node {
     pub heartbeat: u16,
 }
 
-// The state that a call takes and hands back.
+// What a download by segments has brought so far: its object, by the three bytes of index and subindex as the request has them; the toggle of the
+// segment that is due; how many bytes came, and the first four of them, zero where none came yet. No object has more than four, so that the count
+// stops at five.
+pub struct Receipt {
+    pub low: u8,
+    pub high: u8,
+    pub subindex: u8,
+    pub toggle: bool,
+    pub count: u8,
+    pub first: u8,
+    pub second: u8,
+    pub third: u8,
+    pub fourth: u8,
+}
+
+// The transfer in progress: an upload of the device name, by the segment that is due, from 0; or a download.
+pub enum Transfer {
+    NoTransfer,
+    Uploading(u8),
+    Downloading(Receipt),
+}
+
+// The state that a call takes and hands back: what is the node's, the transfer of its SDO server too, and what is the axis's.
 pub struct State {
     pub node: Node,
+    pub transfer: Transfer,
     pub axis: Axis,
 }
 

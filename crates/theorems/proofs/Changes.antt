@@ -3,7 +3,7 @@
 use Rattle.theorems.proofs.Words.{ℕ, suc, _+_, _<_, _≤_, arith, _≡_, refl, sym, _∙_, ap, _⊎_, inl, inr, false, List, [], _∷_, leb-false}
 use Rattle.theorems.proofs.Words.{ltb-false, leb, length, getD, set, sets, getD-set-other, State, either, and-then-false, or-false-left}
 use Rattle.theorems.proofs.Words.{or-false-right, Accepted, clash}
-use Rattle.theorems.proofs.{Lawful.finally, Listed.Lists, Listed.lists, Listed.isGiven}
+use Rattle.theorems.proofs.{Lawful.finally, Listed.Lists, Listed.lists, Decisions.decided-by, Decisions.isGiven}
 use Rattle.rules_dictionary.specs.Table.{Row, sizeOf, placeOf, statusWord, modeDisplay}
 use Rattle.rules_dictionary.specs.{Numbers.any, Numbers.bytes, Values.Write, Values.store, Values.stored}
 use Rattle.rules_dictionary.proofs.Defaults.{length-bytes}
@@ -67,7 +67,9 @@ byte-listed (performs e) c s d o i l h = byte-ended s d e i (sym (ap (any (cover
 
 pub changes-no-other : ChangesNoOther
 unfolding answer
-changes-no-other k a i h = byte-listed _ (k .call) (a .state) (a .dictionary) (k .output) i (lists (k .call) (a .state) (a .dictionary) (k .output)) h
+changes-no-other k a i h =
+    let x = decided-by (a .state) (a .dictionary) (k .call) (k .output) in
+    byte-listed _ (k .call) (a .state) (a .dictionary) (k .output) i (lists x) h
 
 -- ---- the list is the writes
 
@@ -79,4 +81,6 @@ listed (performs e) c s d o l h = l
 
 pub lists-what-is-written : ListsWhatIsWritten
 unfolding answer
-lists-what-is-written k a h = listed _ (k .call) (a .state) (a .dictionary) (k .output) (lists (k .call) (a .state) (a .dictionary) (k .output)) h
+lists-what-is-written k a h =
+    let x = decided-by (a .state) (a .dictionary) (k .call) (k .output) in
+    listed _ (k .call) (a .state) (a .dictionary) (k .output) (lists x) h

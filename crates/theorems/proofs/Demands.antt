@@ -7,7 +7,7 @@ use Rattle.theorems.proofs.Words.{ne-eqb, leb-true, lt-ltb, le-leb, eqb
 use Rattle.theorems.proofs.Words.{sets-eq, length-take-le, drop-drop, NmtState, PreOperational, Operational, Stopped, State, Accepted, In}
 use Rattle.theorems.proofs.Words.{here, there, and-both, each-in, none-in, within, in-map, in-left, words-read, bytes-value, part-bytes}
 use Rattle.theorems.proofs.Words.{isStopped, isOperational, either, by-match, false-not, clash, or-false-right, and-then-false, joined-same}
-use Rattle.theorems.proofs.Words.{and-left, []}
+use Rattle.theorems.proofs.Words.{and-left, [], Transfer}
 use Rattle.theorems.proofs.Dictionary.{DictionaryOk, map-same, Fits, fits, badAlone}
 use Rattle.theorems.proofs.Writes.{in-cons}
 use Rattle.theorems.proofs.Settled.{status-in, display-in}
@@ -15,6 +15,7 @@ use Rattle.theorems.proofs.Lawful.{sound-lawful, transmitter-in, clause
 use Rattle.theorems.proofs.Runs.{Holds, run-holds, step-holds, passed, standing}
 use Rattle.theorems.proofs.PdoKept.{mapped-short}
 use Rattle.theorems.proofs.Still.{idles, at-each}
+use Rattle.theorems.proofs.Decisions.{Decided, decided-by}
 use Rattle.rules_dictionary.specs.Table.{Row, dictionaryLength, statusWord, mapCount, mapEntry, mapSlots, mappingRows, identifier, eachWay, pdos}
 use Rattle.rules_dictionary.specs.Table.{receivePdos, transmitPdos, directionOf, placeOf, sizeOf, modeDisplay, mode}
 use Rattle.rules_dictionary.specs.Legal.{mapWords, isValid, frameIdentifier, reservedBits, transmits, transmitBit, firstIdentifier}
@@ -22,19 +23,19 @@ use Rattle.rules_dictionary.specs.Legal.{lastIdentifier as lastPdoIdentifier, i
 use Rattle.rules_dictionary.specs.Numbers.{value, bytes, areBytes, bit, between}
 use Rattle.rules_dictionary.specs.Values.{field, read, unpacked, store, stored}
 use Rattle.rules_dictionary.specs.Plans.{mapped, readyFor, plansOf, readyOf, pdoData}
+use Rattle.state.specs.declared.Occasion.the-variants.{Plain}
 use Rattle.rules_services.proofs.Tempting.{short-frame-dropped}
-use Rattle.rules_services.specs.Effects.{Frame, becomes, sends}
+use Rattle.rules_services.specs.Effects.{Frame, becomes, sends, withTransfer}
 use Rattle.rules_services.specs.Sdo.{requestBase}
 use Rattle.rules_services.specs.PdoTraffic.{works, mappedLength, areLegal, received, listens, receivedBy, syncBase, noData, idle}
 use Rattle.rules_services.specs.Emergency.{emergency, pdoTooShort, pdoTooLong, valueRefused}
 use Rattle.rules_services.specs.Nmt.{nmtIdentifier}
 use Rattle.rules.specs.Outcome.{ended, mostData, transmitters, driveAtEnd, settled, statusOf, paceFor, transmissions, entersOperational, changes}
-use Rattle.rules.specs.Sound.{sound, statusAsMade, modeAsMade, waitingSound, paceSound, pairwise}
+use Rattle.rules.specs.Sound.{sound, statusAsMade, modeAsMade, waitingSound, paceSound, pairwise, transferSound, plansFresh, readyFresh}
 use Rattle.rules.specs.Calls.{frameCall, Decision, refuses, does as performs, framed, decision, decided, refused, accepted, answered, answer}
 use Rattle.rules.specs.Calls.{outputLength, lastFrameIdentifier}
-use Rattle.state.specs.declared.Occasion.the-variants.{Plain}
 use Rattle.theorems.specs.Promises.{Stand, does, reached, NothingStale, ReadyFrameStays, RefusedMeansNothing, DroppedFrameChangesNothing}
-use Rattle.theorems.specs.Promises.{ShortFrameChangesNothing, NoOldMapping, onlySends, alarm, dropCodes}
+use Rattle.theorems.specs.Promises.{ShortFrameChangesNothing, NoOldMapping, onlySends, alarm, dropCodes, running, SoundAt, Run}
 
 -- ---- what is stored again
 
@@ -52,7 +53,34 @@ store-self x d b h =
     ap (sets d at) same ∙ sets-eq bs d at (omega arith)
     ∙ rw (l, append-assoc, ← drop-drop (sizeOf x) at d, take-append-drop (sizeOf x) (drop at d)) (take-append-drop at d)
 
-module _ (a : Stand) (h : Holds a) where
+-- sound, and nothing stale: what is asked of the stand that a call finds
+pub record Rests (a : Stand) : Type 0 where
+  pub at : SoundAt a
+  pub plans : a .state .axis .plans ≡ plansOf (a .dictionary)
+  pub ready : a .state .axis .ready ≡ readyOf (a .dictionary)
+
+pub rests : (a : Stand) → Holds a → Rests a
+rests a h = record { at = h .at; plans = h .plans; ready = h .ready }
+
+pub run-rests : (r : Run) → Rests (reached r)
+run-rests r = rests (reached r) (run-holds r)
+
+-- it is so with any sound transfer
+pub running-rests : (a : Stand) (t : Transfer) → transferSound t ≡ true → Rests a → Rests (running t a)
+unfolding sound statusAsMade statusOf modeAsMade plansFresh readyFresh waitingSound
+running-rests a t k h =
+    let c = clauses (a .state) (a .dictionary) (h .at .sound) in
+    record {
+      at = record {
+        sound = rw (c .id, c .dictionary, c .status, c .mode, c .plans, c .ready, c .drive, c .heartbeat, c .waiting, k);
+        long = h .at .long;
+        bytes = h .at .bytes;
+      };
+      plans = h .plans;
+      ready = h .ready;
+    }
+
+module _ (a : Stand) (h : Rests a) where
   pub status-made : read (a .dictionary) statusWord ≡ statusOf (a .state) (a .dictionary)
   unfolding statusAsMade
   status-made = eqb-true _ _ (clauses (a .state) (a .dictionary) (h .at .sound) .status)
@@ -64,10 +92,10 @@ module _ (a : Stand) (h : Holds a) where
       let m = simp and-eq-true-iff at (clauses (a .state) (a .dictionary) (h .at .sound) .mode) in
       (eqb-true _ _ (m .0), eqb-true _ _ (m .1))
 
-  -- 6041h and 6061h made again are those that stand there
-  settled-self : settled (a .state) (a .dictionary) ≡ a .dictionary
-  unfolding settled
-  settled-self =
+  -- 6041h and 6061h made again are those that stand there, whatever transfer then runs
+  settled-self : (t : Transfer) → settled (withTransfer t (a .state)) (a .dictionary) ≡ a .dictionary
+  unfolding settled statusOf
+  settled-self t =
       let d = a .dictionary in
       let shown : modeNumber (a .state .axis .drive .mode) ≡ read d modeDisplay = sym (mode-made .0 ∙ mode-made .1) in
       let first : store statusWord (statusOf (a .state) d) d ≡ d =
@@ -80,12 +108,12 @@ module _ (a : Stand) (h : Holds a) where
   drive-rests = refl
 
   -- no ready frame changed: nothing is sent, and what is kept of each transmit PDO stays
-  paces-rest :
+  paces-rest : (t : Transfer) →
       let d = a .dictionary in
-      let paces = paceFor (a .state) (a .state) Plain d (readyOf d) in
+      let paces = paceFor (a .state) (withTransfer t (a .state)) Plain d (readyOf d) in
       (transmissions d (readyOf d) paces transmitters ≡ []) × (map (λ t. paces t .kept) transmitters ≡ a .state .axis .paces)
   unfolding paceFor entersOperational changes waitingSound
-  paces-rest =
+  paces-rest t =
       let s = a .state in
       let d = a .dictionary in
       let m = s .node .nmt in
@@ -95,19 +123,20 @@ module _ (a : Stand) (h : Holds a) where
       (idles m d (eachWay + t) (getD (s .axis .paces) t idle) Plain refl k))
       d (readyOf d)
 
--- THE LAW of a call that only says something: it leaves everything as it was
-pub said : (a : Stand) → Holds a → (fs : List Frame) →
-    ended (a .state) (a .dictionary) (sends fs (becomes (a .state))) ≡ record { state = a .state; dictionary = a .dictionary; sent = fs }
+-- THE LAW of a call that only says something: it leaves everything as it was, but for the transfer that then runs
+pub said : (a : Stand) → Rests a → (fs : List Frame) (t : Transfer) →
+    ended (a .state) (a .dictionary) (sends fs (becomes (withTransfer t (a .state))))
+    ≡ record { state = withTransfer t (a .state); dictionary = a .dictionary; sent = fs }
 unfolding ended stored
-said a h fs =
-    let q = paces-rest a h in
-    rw (drive-rests a h, settled-self a h, q .0, q .1, ← h .plans, ← h .ready, append-nil fs, append-nil fs)
+said a h fs t =
+    let q = paces-rest a h t in
+    rw (drive-rests a h, settled-self a h t, q .0, q .1, ← h .plans, ← h .ready, append-nil fs, append-nil fs)
 
 -- ---- nothing stale
 
 pub nothing-stale : NothingStale
 nothing-stale r =
-    let h = run-holds r in
+    let h = run-rests r in
     record { plans = h .plans; ready = h .ready; status = status-made (reached r) h; shown = mode-made (reached r) h .0 }
 
 pub no-old-mapping : NoOldMapping
@@ -153,29 +182,27 @@ refused-means-nothing k a h =
 
 -- ---- calls that only say something
 
-abbrev pub Says : State → Decision → Type 0
-Says s (refuses r) = Unit
-Says s (performs e) = (fs : List Frame) × (e ≡ sends fs (becomes s))
+-- `t` is the transfer that then runs
+abbrev pub Says : Transfer → State → Decision → Type 0
+Says t s (refuses r) = Unit
+Says t s (performs e) = (fs : List Frame) × (e ≡ sends fs (becomes (withTransfer t s)))
 
 -- its whole answer, where it is accepted
-pub says-answer : (a : Stand) (o : List ℕ) (x : Decision) (fs : List Frame) → Holds a → x ≡ performs (sends fs (becomes (a .state))) →
-    answered x (a .state) (a .dictionary) o ≡ onlySends fs a o
+pub says-answer : (a : Stand) (o : List ℕ) (x : Decision) (fs : List Frame) (t : Transfer) → Rests a →
+    x ≡ performs (sends fs (becomes (withTransfer t (a .state)))) → answered x (a .state) (a .dictionary) o ≡ onlySends fs (running t a) o
 unfolding answered accepted
-says-answer a o x fs h e = rw (e, said a h fs)
+says-answer a o x fs t h e = rw (e, said a h fs t)
 
-pub said-keeps : (a : Stand) (o : List ℕ) (x : Decision) → Holds a → Says (a .state) x → standing (answered x (a .state) (a .dictionary) o) ≡ a
+pub said-keeps : (a : Stand) (o : List ℕ) (x : Decision) (t : Transfer) → Rests a → Says t (a .state) x →
+    let b = standing (answered x (a .state) (a .dictionary) o) in (b ≡ a) ⊎ (b ≡ running t a)
 unfolding answered refused
-said-keeps a o (refuses r) h n = refl
-said-keeps a o (performs e) h n = ap standing (says-answer a o (performs e) (n .0) h (ap performs (n .1)))
+said-keeps a o (refuses r) t h n = inl refl
+said-keeps a o (performs e) t h n = inr (ap standing (says-answer a o (performs e) (n .0) t h (ap performs (n .1))))
 
-pub framed-says : (i : ℕ) (bs : List ℕ) (s : State) (d o : List ℕ) (fs : List Frame) → framed i bs s d ≡ sends fs (becomes s) →
-    Says s (decided (frameCall i bs) s d o)
-unfolding decided decision
-framed-says i bs s d o fs e =
-    by-match (Says s) (eqb (length d) dictionaryLength)
-    (λ l. by-match (Says s) (leb outputLength (length o))
-    (λ r. by-match (Says s) (sound s d)
-    (λ h. by-match (Says s) (leb i lastFrameIdentifier && leb (length bs) mostData) (λ k. (fs, e)) (λ k. tt)) (λ h. tt)) (λ r. tt)) (λ l. tt)
+pub framed-says : {i : ℕ} {bs : List ℕ} {s : State} {d : List ℕ} {x : Decision} (fs : List Frame) (t : Transfer) → Decided s d (frameCall i bs) x →
+    framed i bs s d ≡ sends fs (becomes (withTransfer t s)) → Says t s x
+framed-says fs t (Decided.refusing r given why) e = tt
+framed-says fs t (Decided.framing i bs l h) e = (fs, e)
 
 -- ---- an accepted frame
 
@@ -284,14 +311,15 @@ dropped-frame-changes-nothing r p i bs o j h why =
     let a = reached r in
     let s = a .state in
     let d = a .dictionary in
-    let at = run-holds r .at in
+    let at = run-rests r .at in
     let law = sound-lawful s d (at .long) (at .sound) in
     let fs = map (alarm a) (dropCodes (length bs) (mappedLength (mapped d p))) in
     let range = identifier-range (s .node .id) d (law .dictionary) (s .node .nmt) p i (in-left transmitPdos j) h in
     let e : framed i bs s d ≡ sends fs (becomes s) =
     received-framed (s .node .id) p i bs s d (law .dictionary) j h ∙ dropped a (hears (s .node .nmt) d p i h .operational) p bs why in (
-      said-keeps a o (decided (frameCall i bs) s d o) (run-holds r) (framed-says i bs s d o fs e),
-      λ room few. says-answer a o (decided (frameCall i bs) s d o) fs (run-holds r)
+      elim (said-keeps a o (decided (frameCall i bs) s d o) (s .transfer) (run-rests r)
+          (framed-says fs (s .transfer) (decided-by s d (frameCall i bs) o) e)) [ inl q ↦ q | inr q ↦ q ],
+      λ room few. says-answer a o (decided (frameCall i bs) s d o) fs (s .transfer) (run-rests r)
           (frame-decided i bs s d o (at .long) room (at .sound) (omega (arith, range .1)) few ∙ ap performs e),
     )
 
@@ -299,7 +327,7 @@ pub short-frame-changes-nothing : ShortFrameChangesNothing
 short-frame-changes-nothing r p i bs o j h short room =
     let a = reached r in
     let d = a .dictionary in
-    let at = run-holds r .at in
+    let at = run-rests r .at in
     let few = mapped-short (sound-lawful (a .state) d (at .long) (at .sound) .dictionary) (in-left transmitPdos j) in
     dropped-frame-changes-nothing r p i bs o j h (inl short) .1 room (omega (arith, short, few))
     ∙ rw (lt-ltb (length bs) (mappedLength (mapped d p)) short)

@@ -2,17 +2,17 @@
 -- Assumes nothing.
 use Rattle.theorems.proofs.Words.{ℕ, zero, suc, _+_, _<_, arith, _≡_, refl, sym, _∙_, ap, Bool, true, or-true, false≢true, pdo-in, ltb, all-in}
 use Rattle.theorems.proofs.Words.{and-eq-true-iff, List, [], _∷_, eqb-true, eqb-false, lt-ltb, ltb-true, eqb, length, getD, Plan, PdoData}
-use Rattle.theorems.proofs.Words.{Drive, NmtState, Occasion, Pace, State, Paced, In, here, there, and-left, and-right, and-both, each-in}
-use Rattle.theorems.proofs.Words.{by-test, eqb-self}
+use Rattle.theorems.proofs.Words.{Drive, NmtState, Occasion, Pace, Transfer, State, Paced, In, here, there, and-left, and-right, and-both}
+use Rattle.theorems.proofs.Words.{each-in, by-test, eqb-self}
 use Rattle.theorems.proofs.Dictionary.{DictionaryOk, from-test}
 use Rattle.state.specs.Occasions.{isSynced}
 use Rattle.rules_dictionary.specs.Table.{dictionaryLength, eachWay, pdos, receivePdos, transmitPdos, mode, modeDisplay}
 use Rattle.rules_dictionary.specs.{TheNode.isNodeId, Values.read, Values.stored, Legal.modeNumber, Legal.isCyclic}
-use Rattle.rules_services.specs.Effects.{Effect, withDrive, withNmt, withVoltage, withHeartbeat, withHeld, withPaces}
+use Rattle.rules_services.specs.Effects.{Effect, withDrive, withNmt, withVoltage, withHeartbeat, withHeld, withPaces, withTransfer}
 use Rattle.rules_services.specs.PdoTraffic.{idle, paceOf, cyclic, acyclic, eventDriven, works, typeOf}
 use Rattle.rules.specs.Outcome.{driveAtEnd, paceFor, transmitters, sameBy, sameMove, samePlan, sameData}
 use Rattle.rules.specs.Sound.{sound, dictionarySound, statusAsMade, modeAsMade, plansFresh, readyFresh, heartbeatSound, waitingSound, pairwise}
-use Rattle.rules.specs.Sound.{driveSound, storeInPlace, takenInPlace, causeInPlace, paceSound, countSound, dueSound, heldSound}
+use Rattle.rules.specs.Sound.{driveSound, storeInPlace, takenInPlace, causeInPlace, paceSound, countSound, dueSound, heldSound, transferSound}
 use Rattle.rules.proofs.AtEnd.{SameRules, at-end}
 
 -- what waits for SYNC: counts below their type, and held frames that are sound
@@ -37,6 +37,19 @@ pub drive-lawful : (s : State) (d : List ℕ) (v : Drive) → Lawful s d → v .
 drive-lawful s d v law m h =
     let named = law .mode ∙ ap modeNumber (sym m) in
     record { id = law .id; long = law .long; dictionary = law .dictionary; mode = named; drive = h; heartbeat = law .heartbeat; waits = law .waits }
+
+-- no part of it reads the transfer
+pub transfer-lawful : {s : State} {d : List ℕ} (t : Transfer) → Lawful s d → Lawful (withTransfer t s) d
+transfer-lawful t law =
+    record {
+      id = law .id;
+      long = law .long;
+      dictionary = law .dictionary;
+      mode = law .mode;
+      drive = law .drive;
+      heartbeat = law .heartbeat;
+      waits = law .waits;
+    }
 
 -- the node's part changed, and what waits
 pub node-lawful : (s : State) (d : List ℕ) (m : NmtState) (b : Bool) (k : ℕ) (ks : List Pace) (fs : List PdoData) → Lawful s d →
@@ -131,22 +144,24 @@ pub record Clauses (s : State) (d : List ℕ) : Type 0 where
   pub drive : driveSound (s .axis .drive) d ≡ true
   pub heartbeat : heartbeatSound (s .node .heartbeat) d ≡ true
   pub waiting : waitingSound s d ≡ true
+  pub transfer : transferSound (s .transfer) ≡ true
 
 pub clauses : (s : State) (d : List ℕ) → sound s d ≡ true → Clauses s d
 unfolding sound
 clauses s d h =
     let k = simp and-eq-true-iff at h in
-    let l = k .0 .0 .0 .0 in
+    let l = k .0 .0 .0 .0 .0 in
     record {
       id = and-both _ _ (l .0 .0 .0 .0 .0) (l .0 .0 .0 .0 .1);
       dictionary = l .0 .0 .0 .1;
       status = l .0 .0 .1;
       mode = l .0 .1;
       plans = l .1;
-      ready = k .0 .0 .0 .1;
-      drive = k .0 .0 .1;
-      heartbeat = k .0 .1;
-      waiting = k .1;
+      ready = k .0 .0 .0 .0 .1;
+      drive = k .0 .0 .0 .1;
+      heartbeat = k .0 .0 .1;
+      waiting = k .0 .1;
+      transfer = k .1;
     }
 
 -- what is counted of a transmit PDO is sound

@@ -8,7 +8,10 @@ pub mod Writes
 pub mod NmtKept
 pub mod SdoKept
 pub mod PdoKept
+pub mod Receipts
 pub mod Services
+pub mod Decisions
+pub mod Transfers
 pub mod Runs
 pub mod Still
 pub mod Demands
@@ -19,4 +22,6 @@ pub mod Taken
 pub mod Listed
 pub mod Changes
 pub mod ShutOut
+pub mod Segments
 pub mod Telling
+pub mod TellingOfSegments

@@ -1,41 +1,42 @@
 -- What a call writes is what document 01 lists for it, one by one: a walk over the rules' services beside the list of specs/Promises.antt.
 -- Assumes nothing.
 use mathlib.Core.Bool.{and-true, and-false, and-comm}
-use Rattle.theorems.proofs.Words.{ℕ, inl, inr, suc, _+_, leb, _||_, _≡_, refl, sym, _∙_, ap, ap₂, subst, Bool, true, false, cond, not, _&&_}
+use Rattle.theorems.proofs.Words.{ℕ, inl, inr, suc, _+_, _||_, _≡_, refl, sym, _∙_, ap, ap₂, subst, Bool, true, false, cond, not, _&&_}
 use Rattle.theorems.proofs.Words.{Bool·beq, and-not-self, List, [], _∷_, _++_, append-nil, map, eqb, eqb-self, ltb, length, getD, take, set}
 use Rattle.theorems.proofs.Words.{take-take, getD-set-other, arith, PdoData, Synced, NmtState, PreOperational, Operational, Stopped}
-use Rattle.theorems.proofs.Words.{DriveState, Command, Drive, State, In, here, there, Refusal, Accepted, Event, Started, QuickStopDone}
-use Rattle.theorems.proofs.Words.{ReactionDone, SetPointReached, Tick, CauseGone, Feedback, Voltage, Told, Happened, Bad, SdoCommand, Download}
-use Rattle.theorems.proofs.Words.{Upload, ClientAbort, Unknown, isStopped, isOperational, isPreOperational, on-ways, all-in, and-left}
-use Rattle.theorems.proofs.Words.{and-right, found-in, in-left, either, by-test, by-match, both-by-test, both-by-match, whichever, same-test}
-use Rattle.theorems.proofs.Words.{clash, not-true, eqb-true}
+use Rattle.theorems.proofs.Words.{DriveState, Command, Drive, State, In, here, there, Event, Started, QuickStopDone, ReactionDone}
+use Rattle.theorems.proofs.Words.{SetPointReached, Tick, CauseGone, Feedback, Voltage, SdoCommand, Download, Upload, ClientAbort, Unknown}
+use Rattle.theorems.proofs.Words.{isStopped, isOperational, isPreOperational, on-ways, all-in, and-left, and-right, found-in, in-left, either}
+use Rattle.theorems.proofs.Words.{by-test, by-match, both-by-test, both-by-match, whichever, same-test, clash, not-true, Transfer, NoTransfer}
+use Rattle.theorems.proofs.Words.{Uploading, Downloading, DownloadBySegments, DownloadSegment, UploadSegment}
 use Rattle.theorems.proofs.Dictionary.{DictionaryOk, isPdo, mapped-alike}
 use Rattle.theorems.proofs.Writes.{InTable, one-row, not-wrote, no-pdo-alike}
 use Rattle.theorems.proofs.PdoKept.{QuietRow, received-row, unpacked-rows, unpacked-same}
 use Rattle.theorems.proofs.{Settled.control-in, Settled.register-in, DriveKept.emptied-same, DriveKept.rule-same, Lawful.Lawful}
 use Rattle.theorems.proofs.{Lawful.sound-lawful, Services.applied-all, Demands.one-listener, Sent.control-state, Sent.found-by}
+use Rattle.theorems.proofs.Decisions.{Decided, isGiven}
 use Rattle.rules_dictionary.specs.Table.{Row, table, receivePdos, transmitPdos, pdos, errorRegister, controlWord, heartbeatTime, isReset, Found}
-use Rattle.rules_dictionary.specs.Table.{found, noObject, noSubindex, lookup, dictionaryLength}
+use Rattle.rules_dictionary.specs.Table.{found, noObject, noSubindex, theName}
 use Rattle.rules_dictionary.specs.Values.{Write, write, read, stored, unpacked, toDefaults}
-use Rattle.rules_dictionary.specs.{Numbers.all, Numbers.filter, Plans.mapped, Legal.isSynchronous, TheNode.isNodeId}
-use Rattle.rules_dictionary.specs.Aborts.{Verdict, good, bad, isGood}
+use Rattle.rules_dictionary.specs.{Numbers.all, Numbers.filter, Plans.mapped, Legal.isSynchronous}
+use Rattle.rules_dictionary.specs.Aborts.{Verdict, good, bad, isGood, wrongToggle}
 use Rattle.drive.specs.DriveStates.{isFault, isFaultReset, asked as commandFor, command, next, resets}
 use Rattle.drive.specs.SetPoints.{controlWritten, enters}
-use Rattle.rules_services.specs.Effects.{Frame, Effect, becomes, sends, on, andThen, withHeld}
+use Rattle.rules_services.specs.Effects.{Frame, Effect, becomes, sends, on, andThen, withHeld, withoutTransfer}
 use Rattle.rules_services.specs.Emergency.{emergency, badSyncLength}
 use Rattle.rules_services.specs.Written.{wrote, countRestarted, modeActed, faultReset, controlActed, applied}
-use Rattle.rules_services.specs.Sdo.{commandOf, commandByte, askedIndex, askedSubindex, askedValue, downloadVerdict, expedited, abort, judged, toRow}
-use Rattle.rules_services.specs.Sdo.{toObject, asked, sdo, requestBase, requestLength}
 use Rattle.rules_services.specs.PdoTraffic.{typeOf, mappedLength, areLegal, heldOrApplied, received, listens, receivedBy, noData, isHeld, release}
 use Rattle.rules_services.specs.PdoTraffic.{releaseAll, sync, syncBase}
 use Rattle.rules_services.specs.Nmt.{powerUp, commanded, nmt, nmtIdentifier, nmtLength, everyNode, tick as ticked, commandOf as nmtCommandOf}
 use Rattle.rules_services.specs.Nmt.{NmtCommand, start, stop, enterPreOperational, resetNode, resetCommunication, unknown as unknownNmt}
-use Rattle.rules_services.specs.{declared.Event.the-variants.Fault, Events.eventOf, Events.isInPlace, Events.happens, Events.faulted}
-use Rattle.rules.specs.{Outcome.mostData, Sound.sound}
-use Rattle.rules.specs.Calls.{Call, powerUpCall, frameCall, eventCall, Decision, refuses, does as performs, framed, eventDecision, decision, decided}
-use Rattle.rules.specs.Calls.{refusalNumber, outputLength, lastFrameIdentifier}
+use Rattle.rules_services.specs.{declared.Event.the-variants.Fault, Events.happens, Events.faulted}
+use Rattle.rules_services.specs.Sdo.{objectOf, sought, Offer, expedited, offerVerdict, abort, judged, downloads, requestBase, requestLength}
+use Rattle.rules_services.specs.Segments.{toggleOf, toggleAt, isLast, carried, unfit, nameAsked, segmentAsked, downloadBegun, gathered, joined}
+use Rattle.rules_services.specs.Segments.{acknowledged, concluded, continued, segmentSent, objectIn}
+use Rattle.rules_services.specs.SdoServer.{uploads, asked, sdo}
+use Rattle.rules.specs.Calls.{Call, Decision, refuses, does as performs, framed}
 use Rattle.theorems.specs.Promises.{rowsOf, andSettled, toFound, bySdo, appliesAtOnce, byPdo, heldFor, bySync, applies, isClearable, asksReset}
-use Rattle.theorems.specs.Promises.{written, byCommand, byNmt, byFrame, byEvent, byTold, mayChange}
+use Rattle.theorems.specs.Promises.{written, byCommand, byNmt, byFrame, byEvent, byTold, mayChange, bySegment, commandIn}
 
 -- ---- a fault reset
 
@@ -206,29 +207,54 @@ module _ (s : State) (d : List ℕ) (law : Lawful s d) where
       (releases-bring d (law .dictionary) (heldFor s) receivePdos s d (λ p i. i) refl (λ p i. refl) (λ y i k. refl))
 
   -- ---- SDO
-  module _ (rq : List ℕ) where
+  module _ (fs : List Frame) (o : List ℕ) (offer : Row → Offer) (own : (x : Row) → offer x .row ≡ x) where
     judged-brings : (x : Row) → In x table → (v : Verdict) →
-        Brings s d (judged v rq (expedited rq x) s d) (cond (isGood v) ((write x (askedValue rq x) ∷ []) ∷ []) [])
+        Brings s d (judged v fs o (offer x) (withoutTransfer s) d) (cond (isGood v) ((write x (offer x .value) ∷ []) ∷ []) [])
     unfolding judged abort written
-    judged-brings x i good = applied-brings (write x (askedValue rq x) ∷ []) s d (one-row (λ w. In (w .row) table) i)
+    judged-brings x i good =
+        rw (own x) (applied-brings (write x (offer x .value) ∷ []) (withoutTransfer s) d (one-row (λ w. In (w .row) table) i))
     judged-brings x i (bad a) = refl
 
-    download-brings : (f : Found) → lookup (askedIndex rq) (askedSubindex rq) ≡ f → Brings s d (toObject true rq f s d) (toFound rq s d f)
-    unfolding toObject toRow abort written
-    download-brings (found x) e = judged-brings x (found-in _ _ e) (downloadVerdict rq (s .node .nmt) d x)
-    download-brings noObject e = refl
-    download-brings noSubindex e = refl
+    downloads-bring : (f : Found) → sought o ≡ f → Brings s d (downloads fs o offer f (withoutTransfer s) d) (toFound offer s d f)
+    unfolding downloads abort written
+    downloads-bring (found x) e = judged-brings x (found-in _ _ e) (offerVerdict (s .node .nmt) d (offer x))
+    downloads-bring theName e = refl
+    downloads-bring noObject e = refl
+    downloads-bring noSubindex e = refl
 
-    upload-brings : (f : Found) → Brings s d (toObject false rq f s d) []
-    unfolding toObject toRow abort written
-    upload-brings (found x) = refl
-    upload-brings noObject = refl
-    upload-brings noSubindex = refl
+  module _ (rq : List ℕ) where
+    sent-brings : (t : Transfer) → Brings s d (segmentSent t rq s d) (bySegment t rq s d)
+    unfolding segmentSent unfit abort concluded continued written
+    sent-brings NoTransfer = refl
+    sent-brings (Uploading k) = refl
+    sent-brings (Downloading g) = go (Bool·beq (toggleOf rq) (g .toggle)) (isLast rq)
+      where
+        go : (a b : Bool) → Brings s d (cond a (cond b (concluded g (carried rq) s d) (continued g (carried rq) s)) (unfit wrongToggle s))
+            (cond (a && b) (toFound (joined (gathered g (carried rq))) s d (sought (objectIn g))) [])
+        go true true = downloads-bring (acknowledged g s) (objectIn g) (joined (gathered g (carried rq))) (λ x. refl) (sought (objectIn g)) refl
+        go true false = refl
+        go false b = refl
+
+    answered-brings : (t : Transfer) → Brings s d (segmentAsked t rq s) []
+    unfolding segmentAsked unfit abort written
+    answered-brings NoTransfer = refl
+    answered-brings (Uploading k) = whichever (λ e. Brings s d e []) (Bool·beq (toggleOf rq) (toggleAt k)) refl refl
+    answered-brings (Downloading g) = refl
+
+    uploads-bring : (f : Found) → Brings s d (uploads (objectOf rq) f (withoutTransfer s) d) []
+    unfolding uploads nameAsked abort written
+    uploads-bring (found x) = refl
+    uploads-bring theName = refl
+    uploads-bring noObject = refl
+    uploads-bring noSubindex = refl
 
     asked-brings : (c : SdoCommand) → Brings s d (asked c rq s d) (bySdo c rq s d)
-    unfolding asked abort written
-    asked-brings Download = download-brings (lookup (askedIndex rq) (askedSubindex rq)) refl
-    asked-brings Upload = upload-brings (lookup (askedIndex rq) (askedSubindex rq))
+    unfolding asked downloadBegun abort written
+    asked-brings Download = downloads-bring _ (objectOf rq) (expedited rq) (λ x. refl) (sought (objectOf rq)) refl
+    asked-brings DownloadBySegments = refl
+    asked-brings DownloadSegment = sent-brings (s .transfer)
+    asked-brings Upload = uploads-bring (sought (objectOf rq))
+    asked-brings UploadSegment = answered-brings (s .transfer)
     asked-brings ClientAbort = refl
     asked-brings Unknown = refl
 
@@ -295,7 +321,7 @@ module _ (s : State) (d : List ℕ) (law : Lawful s d) where
         let P : Effect → List (List Write) → Type 0 = Brings s d in
         both-by-test P (eqb i syncBase) (λ e. sync-brings bs)
         (λ e. both-by-test P (eqb i (requestBase + s .node .id))
-        (λ e. both-by-test P (eqb (length bs) requestLength && not (isStopped (s .node .nmt))) (λ e. asked-brings bs (commandOf (commandByte bs)))
+        (λ e. both-by-test P (eqb (length bs) requestLength && not (isStopped (s .node .nmt))) (λ e. asked-brings bs (commandIn bs))
         (λ e. refl))
         (λ e. received-by-brings receivePdos (λ p j. j) refl))
 
@@ -347,38 +373,15 @@ event-rows (Voltage b) s d = refl
 
 -- ---- the calls
 
--- a refusal is given: its number is not that of an accepted call
-abbrev pub isGiven : Refusal → Bool
-isGiven r = not (eqb (refusalNumber r) (refusalNumber Accepted))
-
 -- a refusal, or an effect whose rows are those of the list
 abbrev pub Lists : Call → State → List ℕ → Decision → Type 0
 Lists c s d (refuses r) = isGiven r ≡ true
 Lists c s d (performs e) = mayChange c s d ≡ andSettled (rowsOf (e .writes))
 
-module _ (s : State) (d : List ℕ) where
-  told-lists : (k : ℕ) (xs : List ℕ) (t : Told) → mayChange (eventCall k xs) s d ≡ byTold t → Lists (eventCall k xs) s d (eventDecision t s d)
-  unfolding eventDecision
-  told-lists k xs Bad q = refl
-  told-lists k xs (Happened e) q =
-      by-match (Lists (eventCall k xs) s d) (isInPlace e s) (λ h. q ∙ ap andSettled (sym (event-rows e s d))) (λ h. refl)
-
-  decision-lists : (c : Call) → length d ≡ dictionaryLength → Lists c s d (decision c s d)
-  unfolding decision mayChange powerUp
-  decision-lists (powerUpCall n) l =
-      by-match (Lists (powerUpCall n) s d) (isNodeId n) (λ h. rw h (ap andSettled (sym (defaults-rows n table)))) (λ h. refl)
-  decision-lists (frameCall i bs) l =
-      by-match (Lists (frameCall i bs) s d) (sound s d)
-      (λ h. by-match (Lists (frameCall i bs) s d) (leb i lastFrameIdentifier && leb (length bs) mostData)
-      (λ fine. ap andSettled (sym (framed-rows i bs s d (sound-lawful s d l h)))) (λ bad. refl))
-      (λ h. refl)
-  decision-lists (eventCall k xs) l =
-      by-match (Lists (eventCall k xs) s d) (sound s d) (λ h. told-lists k xs (eventOf k xs) refl) (λ h. refl)
-
 -- THE LAW
-pub lists : (c : Call) (s : State) (d o : List ℕ) → Lists c s d (decided c s d o)
-unfolding decided
-lists c s d o =
-    by-match (Lists c s d) (eqb (length d) dictionaryLength)
-    (λ l. by-match (Lists c s d) (leb outputLength (length o)) (λ room. decision-lists s d c (eqb-true _ _ l)) (λ room. refl))
-    (λ l. refl)
+pub lists : {s : State} {d : List ℕ} {c : Call} {x : Decision} → Decided s d c x → Lists c s d x
+unfolding mayChange powerUp
+lists (Decided.refusing r given why) = given
+lists (Decided.powering n legal l) = rw legal (ap andSettled (sym (defaults-rows n table)))
+lists {s} {d} (Decided.framing i bs l h) = ap andSettled (sym (framed-rows i bs s d (sound-lawful s d l h)))
+lists {s} {d} (Decided.happening k xs e q placed l h) = ap byTold q ∙ ap andSettled (sym (event-rows e s d))

@@ -16,14 +16,15 @@ use Rattle.rules_dictionary.specs.Table.{Row, table, sizeOf, dictionaryLength, 
 use Rattle.rules_dictionary.specs.Table.{isReset, statusWord, modeDisplay, mapCount, mapEntry, mapSlots, open-table, whole, errorCode, errorRegister}
 use Rattle.rules_dictionary.specs.Table.{position, velocity, heartbeatTime}
 use Rattle.rules_dictionary.specs.Legal.{isCyclic, entryVerdict, countVerdict, mapWords, identifiers, badIdentifier, open-legal}
-use Rattle.rules_dictionary.specs.{Numbers.all, Numbers.filter, Numbers.areBytes, TheNode.lastNode, TheNode.isNodeId, Values.Write}
-use Rattle.rules_dictionary.specs.{Values.read, Values.store, Values.stored, Values.defaultOf, Values.toDefaults, Aborts.isGood, Aborts.open-aborts}
+use Rattle.rules_dictionary.specs.{Numbers.all, Numbers.filter, Numbers.areBytes, TheNode.lastNode, TheNode.isNodeId, Values.Write, Values.read}
+use Rattle.rules_dictionary.specs.{Values.store, Values.stored, Values.defaultOf, Values.toDefaults, Aborts.isGood, Aborts.open-aborts}
 use Rattle.rules_dictionary.proofs.Defaults.{defaults-in-range}
 use Rattle.drive.specs.DriveStates.{next, isNotReady, isQuickStop, isFaulty}
 use Rattle.drive.specs.SetPoints.{enters, withCause}
-use Rattle.rules_services.specs.{Effects.Effect, Effects.withNmt, Effects.withHeartbeat, Effects.withDrive, PdoTraffic.works, PdoTraffic.typeOf}
+use Rattle.rules_services.specs.{Effects.Effect, Effects.withNmt, Effects.withHeartbeat, Effects.withDrive, Effects.withoutTransfer}
 use Rattle.rules_services.specs.{PdoTraffic.noneHeld, PdoTraffic.idle, PdoTraffic.allIdle, Nmt.left, Nmt.voltageDisabled, Nmt.heartbeat, Nmt.powerUp}
 use Rattle.rules_services.specs.{Nmt.freshState, declared.Event.the-variants.Fault, Events.faulted, Events.genericError}
+use Rattle.rules_services.specs.PdoTraffic.{works, typeOf}
 use Rattle.rules.specs.Sound.{sound, inRange, driveSound, storeInPlace, takenInPlace, causeInPlace, heartbeatSound, countSound, heldSound}
 
 abbrev pub LawfulAfter : List ℕ → Effect → Type 0
@@ -197,7 +198,7 @@ unreset-read n d x i h =
     spared x (toDefaults n resetRows) d i (λ w j. row w j .0) (λ w j e. clash (isReset (w .row)) (row w j .1) (rw e h))
 
 pub reset-lawful : (s : State) (d : List ℕ) → Lawful s d →
-    Lawful (withNmt PreOperational (withHeartbeat 0 (left (voltageDisabled s)))) (stored (toDefaults (s .node .id) resetRows) d)
+    Lawful (withoutTransfer (withNmt PreOperational (withHeartbeat 0 (left (voltageDisabled s))))) (stored (toDefaults (s .node .id) resetRows) d)
 unfolding voltageDisabled left driveSound takenInPlace isReset heartbeatSound works
 reset-lawful s d law =
     let n = s .node .id in

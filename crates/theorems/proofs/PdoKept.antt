@@ -11,12 +11,12 @@ use Rattle.theorems.proofs.Dictionary.{DictionaryOk, store-ok, entries-
 use Rattle.theorems.proofs.{Writes.in-cons, Writes.MayApply, Settled.drive-may, SdoKept.GoodValue, SdoKept.good-passes, SdoKept.good-value}
 use Rattle.theorems.proofs.{SdoKept.good-range, Lawful.Lawful, Lawful.data-refl, Lawful.pairwise-at, Lawful.node-lawful}
 use Rattle.rules_dictionary.specs.Table.{Row, table, sizeOf, isConstant, receive, directionOf, pdos, receivePdos, transmitPdos, mapCount, mapEntry}
-use Rattle.rules_dictionary.specs.Table.{mapSlots, wordIndex, wordSubindex, wordLength, Found, found, noObject, noSubindex, lookup, open-table}
-use Rattle.rules_dictionary.specs.Table.{dictionaryLength}
+use Rattle.rules_dictionary.specs.Table.{mapSlots, wordIndex, wordSubindex, wordLength, Found, found, theName, noObject, noSubindex, lookup}
+use Rattle.rules_dictionary.specs.Table.{dictionaryLength, open-table}
 use Rattle.rules_dictionary.specs.Values.{Write, write, read, store, stored, unpacked}
 use Rattle.rules_dictionary.specs.Legal.{suits, targetVerdict, entryVerdict, countVerdict, mapWords, mostBits, valueVerdict, isAbove, isSynchronous}
-use Rattle.rules_dictionary.specs.{Numbers.all, Numbers.sum, Numbers.value, Numbers.padded, Aborts.good, Aborts.isGood}
-use Rattle.rules_dictionary.specs.{Plans.andThen, Plans.targets, Plans.mapped, Plans.pdoData}
+use Rattle.rules_dictionary.specs.{Numbers.all, Numbers.sum, Numbers.value, Numbers.padded, Aborts.good, Aborts.isGood, Plans.andThen, Plans.targets}
+use Rattle.rules_dictionary.specs.{Plans.mapped, Plans.pdoData}
 use Rattle.rules_services.specs.PdoTraffic.{mappedLength, areLegal, works, typeOf, noData, isHeld}
 use Rattle.rules_services.specs.Effects.{withHeld}
 use Rattle.rules.specs.{Outcome.sameData, Sound.heldSound, Sound.pairwise}
@@ -35,6 +35,7 @@ named p w (found y) e h =
     let on = suits (directionOf p) (y .mappable) in
     let fits = simp Bool·not-not at (false-not (not (eqb (wordLength w) (8 * sizeOf y))) (or-false-right (not on) _ t)) in
     (y, record { finds = e; way = simp Bool·not-not at (false-not (not on) (or-false-left (not on) _ t)); length = eqb-true _ _ fits })
+named p w theName e h = clash (isGood (targetVerdict (directionOf p) w theName)) (ap isGood h) refl
 named p w noObject e h = clash (isGood (targetVerdict (directionOf p) w noObject)) (ap isGood h) refl
 named p w noSubindex e h = clash (isGood (targetVerdict (directionOf p) w noSubindex)) (ap isGood h) refl
 

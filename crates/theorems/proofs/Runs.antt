@@ -5,27 +5,30 @@ use Rattle.rules_dictionary.specs.Table.{dictionaryLength, statusWord, modeDisp
 use Rattle.rules_dictionary.specs.{Legal.modeNumber, TheNode.isNodeId, Values.store, Values.stored, Plans.plansOf, Plans.readyOf}
 use Rattle.theorems.proofs.Words.{ℕ, zero, suc, _^_, _<_, _≤_, arith, _≡_, refl, sym, _∙_, ap, subst, inl, inr, Bool, true, false, not, In}
 use Rattle.theorems.proofs.Words.{PreOperational, here, there, isStopped, _+_, whichever, _&&_, _||_, or-true, List, [], _∷_, append-nil}
-use Rattle.theorems.proofs.Words.{eq-eqb, eqb-true, le-leb, ltb-true, eqb, leb, length, getD, drop, Stopped, State, Refusal, Accepted}
-use Rattle.theorems.proofs.Words.{DictionaryLength, OutputLength, NodeId, NotSound, BadFrame, BadEvent, OutOfPlace, Event, Started}
-use Rattle.theorems.proofs.Words.{QuickStopDone, ReactionDone, SetPointReached, Tick, CauseGone, Feedback, Voltage, Told, Happened, Bad}
-use Rattle.theorems.proofs.Words.{and-left, and-right, stored-bytes, store-bytes, length-stored, all-drop, clash, by-match, or-either}
-use Rattle.theorems.proofs.Words.{not-true, false-not, value-take}
+use Rattle.theorems.proofs.Words.{eq-eqb, le-leb, ltb-true, eqb, leb, length, getD, drop, Stopped, NoTransfer, State, Refusal, Accepted}
+use Rattle.theorems.proofs.Words.{NotSound, Event, Started, QuickStopDone, ReactionDone, SetPointReached, Tick, CauseGone, Feedback, Voltage}
+use Rattle.theorems.proofs.Words.{Told, Happened, Bad, and-left, and-right, stored-bytes, store-bytes, length-stored, all-drop, clash}
+use Rattle.theorems.proofs.Words.{or-either, not-true, value-take}
 use Rattle.theorems.proofs.Settled.{settled-length, status-fits, mode-fits, settled-status, settled-display, settled-motion, status-same}
 use Rattle.theorems.proofs.Lawful.{Lawful, finally, sound-lawful, drive-lawful, node-lawful, at-end-lawful, paced-sound, same-refl, plan-refl}
-use Rattle.theorems.proofs.Lawful.{data-refl, same-rules}
+use Rattle.theorems.proofs.Lawful.{data-refl, same-rules, clauses, transfer-lawful}
 use Rattle.theorems.proofs.NmtKept.{LawfulAfter, fresh-lawful, start-lawful, left-lawful, disabled-lawful, reset-lawful, status-row}
-use Rattle.theorems.proofs.NmtKept.{display-row, ArgumentsFit, enters-lawful, gone-lawful, fault-lawful, plain-lawful}
-use Rattle.theorems.proofs.NmtKept.{position-row, velocity-row}
+use Rattle.theorems.proofs.NmtKept.{display-row, ArgumentsFit, enters-lawful, gone-lawful, fault-lawful, plain-lawful, position-row}
+use Rattle.theorems.proofs.NmtKept.{velocity-row}
 use Rattle.theorems.proofs.{Dictionary.to-test, DriveKept.reached-sound, Writes.stored-append, Writes.applied-lawful, PdoKept.held-lawful}
 use Rattle.theorems.proofs.{PdoKept.new-held, Services.Serves, Services.Releases, Services.framed-serves, Services.event-serves}
 use Rattle.drive.specs.SetPoints.{withStore, reached as reachedBy}
-use Rattle.rules_services.specs.{Effects.Effect, Effects.andThen, Effects.withHeld, Written.applied, Nmt.commanded, Nmt.voltageDisabled, Nmt.powerUp}
-use Rattle.rules_services.specs.{declared.Event.the-variants.Fault, Events.eventOf, Events.provided, Events.isInPlace}
-use Rattle.rules.specs.Outcome.{ended, settled, mostData, statusOf, transmitters, paceFor, samePlan, sameData}
+use Rattle.rules_services.specs.{Effects.Effect, Effects.andThen, Effects.withHeld, Effects.withTransfer, Written.applied, Nmt.commanded}
+use Rattle.rules_services.specs.{Nmt.voltageDisabled, declared.Event.the-variants.Fault, Events.eventOf, Events.provided}
+use Rattle.rules_services.specs.Nmt.{powerUp, freshState}
+use Rattle.rules.specs.Outcome.{ended, settled, statusOf, transmitters, paceFor, samePlan, sameData}
 use Rattle.rules.specs.Sound.{sound, heartbeatSound, statusAsMade, modeAsMade, plansFresh, readyFresh, waitingSound, paceSound}
-use Rattle.rules.specs.Calls.{Call, powerUpCall, frameCall, eventCall, Decision, refuses as refusedBy, does as performs, eventDecision, decision}
-use Rattle.rules.specs.Calls.{decided, refused, accepted, answered, answer, Outcome, refusalNumber, outputLength, lastFrameIdentifier}
-use Rattle.theorems.specs.Promises.{Step, Stand, left, after, octets, allOctets, Run, reached, SoundAt, SoundAlways, NeverUnsound}
+use Rattle.rules.specs.Calls.{Call, powerUpCall, frameCall, eventCall, Decision, refuses as refusedBy, does as performs, decision, decided, refused}
+use Rattle.rules.specs.Calls.{accepted, answered, answer, Outcome, outputLength}
+use Rattle.theorems.proofs.Receipts.{octetsIn, MayRun, nothing-runs}
+use Rattle.theorems.proofs.Decisions.{Decided, decided-by, isUnsound}
+use Rattle.theorems.proofs.Transfers.{Turns, turns, call-runs}
+use Rattle.theorems.specs.Promises.{Step, Stand, left, after, octets, allOctets, Run, begun, reached, SoundAt, SoundAlways, NeverUnsound}
 
 -- ---- what holds between calls
 
@@ -33,6 +36,10 @@ pub record Holds (a : Stand) : Type 0 where
   pub at : SoundAt a
   pub plans : a .state .axis .plans ≡ plansOf (a .dictionary)
   pub ready : a .state .axis .ready ≡ readyOf (a .dictionary)
+  pub came : octetsIn (a .state .transfer)
+
+pub may-run : (a : Stand) → Holds a → MayRun (a .state .transfer)
+may-run a h = record { sound = clauses (a .state) (a .dictionary) (h .at .sound) .transfer; octets = h .came }
 
 pub ended-bytes : (s : State) (d : List ℕ) (e : Effect) → areBytes d ≡ true → areBytes (ended s d e .dictionary) ≡ true
 unfolding ended settled
@@ -46,9 +53,10 @@ settled-lawful s d law =
     (plain-lawful s d statusWord (statusOf s d) law status-row (status-fits _ _ _ d)) display-row (mode-fits (s .axis .drive .mode))
 
 -- THE THEOREM: a lawful effect ends sound
-ended-sound : (s : State) (d : List ℕ) (e : Effect) → LawfulAfter d e → sound (ended s d e .state) (ended s d e .dictionary) ≡ true
+ended-sound : (s : State) (d : List ℕ) (e : Effect) → LawfulAfter d e → MayRun (e .state .transfer) →
+    sound (ended s d e .state) (ended s d e .dictionary) ≡ true
 unfolding ended sound statusAsMade modeAsMade plansFresh readyFresh waitingSound statusOf
-ended-sound s d e before =
+ended-sound s d e before runs =
     let d1 = stored (e .writes) d in
     let s′ = finally d e in
     let v = s′ .axis .drive in
@@ -73,21 +81,23 @@ ended-sound s d e before =
       paced 2 (there (there here)),
       paced 3 (there (there (there here))),
       law .waits .held,
+      runs .sound,
     )
 
 ended-holds : (s : State) (d : List ℕ) (e : Effect) → length d ≡ dictionaryLength → areBytes d ≡ true → LawfulAfter d e →
-    Holds (record { state = ended s d e .state; dictionary = ended s d e .dictionary })
+    MayRun (e .state .transfer) → Holds (record { state = ended s d e .state; dictionary = ended s d e .dictionary })
 unfolding ended
-ended-holds s d e l b law =
+ended-holds s d e l b law runs =
     record {
       at = record {
-        sound = ended-sound s d e law;
+        sound = ended-sound s d e law runs;
         long = settled-length (finally d e) (stored (e .writes) d) ∙ length-stored (e .writes) d
             ∙ l;
         bytes = ended-bytes s d e b;
       };
       plans = refl;
       ready = refl;
+      came = runs .octets;
     }
 
 -- ---- every service leaves a lawful state
@@ -102,15 +112,18 @@ releases-lawful {s = s} {d = d} (Releases.next h ws {e} cleared may rest) law =
 pub lawful : {K : Type 0} {s : State} {d : List ℕ} {e : Effect} → Serves K s d e → K → areBytes d ≡ true → Lawful s d → LawfulAfter d e
 unfolding stored heartbeatSound commanded
 lawful Serves.nothing k b law = law
-lawful (Serves.replies c v rq small octet) k b law = law
+lawful (Serves.replies t said) k b law = transfer-lawful t law
 lawful (Serves.alarms l code) k b law = law
-lawful {s = s} {d = d} (Serves.applies ws before may) k b law = applied-lawful s d ws law (may k law)
+lawful {s = s} {d = d} (Serves.applies t ws before may) k b law =
+    let m = may k law in
+    applied-lawful (withTransfer t s) d ws (transfer-lawful t law) (record { fit = m .fit; quiet = m .quiet; ok = m .ok })
 lawful {s = s} {d = d} (Serves.holds bs l i on synchronous long legal) k b law =
     held-lawful s d _ law i (new-held (s .node .id) d bs (s .node .nmt) (law .dictionary) i on synchronous long legal)
 lawful (Serves.releases r) k b law = releases-lawful r law
 lawful {s = s} {d = d} (Serves.starts h idle) k b law = start-lawful s d (law .long) h idle
 lawful {s = s} {d = d} Serves.leaves k b law = left-lawful s d PreOperational law
-lawful {s = s} {d = d} Serves.stops k b law = left-lawful (voltageDisabled s) d Stopped (disabled-lawful s d law)
+lawful {s = s} {d = d} Serves.stops k b law =
+    transfer-lawful NoTransfer (left-lawful (voltageDisabled s) d Stopped (disabled-lawful s d law))
 lawful {s = s} {d = d} Serves.resets k b law = rw append-nil (reset-lawful s d law)
 lawful {s = s} {d = d} Serves.begins k b law = fresh-lawful (s .node .id) d (law .id) (law .long)
 lawful {s = s} {d = d} (Serves.moves q h) k b law = enters-lawful s d law q (h k)
@@ -162,59 +175,50 @@ arguments-fit k xs h =
 
 -- ---- what a call decides on: a refusal, power-up, or a service of a sound state
 
-abbrev isUnsound : Refusal → Bool
-isUnsound r = eqb (refusalNumber r) (refusalNumber NotSound)
+-- what is known of the call's data, and of the bytes that came before it
+abbrev pub Known : Call → State → Type 0
+Known c s = (octets c ≡ true) × octetsIn (s .transfer)
 
 pub data Decides (s : State) (d : List ℕ) (c : Call) : Decision → Type 0 where
   refuses : (r : Refusal) → (not (isUnsound r) || not (sound s d)) ≡ true → Decides s d c (refusedBy r)
   begins : (n : ℕ) → isNodeId n ≡ true → length d ≡ dictionaryLength → Decides s d c (performs (powerUp n))
-  serves : {e : Effect} → Lawful s d → Serves (octets c ≡ true) s d e → Decides s d c (performs e)
+  serves : {e : Effect} → Lawful s d → Serves (Known c s) s d e → Decides s d c (performs e)
 
-module _ (s : State) (d : List ℕ) where
-  told-decides : (k : ℕ) (xs : List ℕ) (t : Told) → (areBytes xs ≡ true → ToldFits t) → Lawful s d →
-      Decides s d (eventCall k xs) (eventDecision t s d)
-  unfolding eventDecision
-  told-decides k xs Bad fits law = refuses BadEvent refl
-  told-decides k xs (Happened e) fits law =
-      by-match (Decides s d (eventCall k xs)) (isInPlace e s) (λ h. serves law (event-serves (areBytes xs ≡ true) s d e (λ b. h) fits))
-      (λ h. refuses OutOfPlace refl)
+decides-by : {s : State} {d : List ℕ} {c : Call} {x : Decision} → Decided s d c x → Decides s d c x
+decides-by (Decided.refusing r given why) = refuses r why
+decides-by (Decided.powering n legal l) = begins n legal l
+decides-by {s} {d} (Decided.framing i bs l h) =
+    let law = sound-lawful s d l h in
+    serves law (framed-serves (Known (frameCall i bs) s) s d i bs (λ k. k .0) (λ k. record { sound = clauses s d h .transfer; octets = k .1 }) law h)
+decides-by {s} {d} (Decided.happening k xs e q placed l h) =
+    serves (sound-lawful s d l h)
+    (event-serves (Known (eventCall k xs) s) s d e (λ b. placed) (λ b. subst ToldFits q (arguments-fit k xs (b .0))))
 
-  decision-decides : (c : Call) → length d ≡ dictionaryLength → Decides s d c (decision c s d)
-  unfolding decision
-  decision-decides (powerUpCall n) l = by-match (Decides s d (powerUpCall n)) (isNodeId n) (λ h. begins n h l) (λ h. refuses NodeId refl)
-  decision-decides (frameCall i bs) l =
-      by-match (Decides s d (frameCall i bs)) (sound s d)
-      (λ h. by-match (Decides s d (frameCall i bs)) (leb i lastFrameIdentifier && leb (length bs) mostData)
-      (λ fine. serves (sound-lawful s d l h) (framed-serves (areBytes bs ≡ true) s d i bs (λ b. b) (sound-lawful s d l h) h))
-      (λ bad. refuses BadFrame refl)) (λ h. refuses NotSound (false-not (sound s d) h))
-  decision-decides (eventCall k xs) l =
-      by-match (Decides s d (eventCall k xs)) (sound s d) (λ h. told-decides k xs (eventOf k xs) (arguments-fit k xs) (sound-lawful s d l h))
-      (λ h. refuses NotSound (false-not (sound s d) h))
-
-  pub decides : (c : Call) (o : List ℕ) → Decides s d c (decided c s d o)
-  unfolding decided
-  decides c o =
-      by-match (Decides s d c) (eqb (length d) dictionaryLength)
-      (λ l. by-match (Decides s d c) (leb outputLength (length o)) (λ room. decision-decides c (eqb-true _ _ l)) (λ room. refuses OutputLength refl))
-      (λ l. refuses DictionaryLength refl)
+pub decides : (s : State) (d : List ℕ) (c : Call) (o : List ℕ) → Decides s d c (decided c s d o)
+decides s d c o = decides-by (decided-by s d c o)
 
 -- ---- the step
 
 abbrev pub standing : Outcome → Stand
 standing u = record { state = u .state; dictionary = u .dictionary }
 
-answered-holds : {c : Call} {x : Decision} (a : Stand) (o : List ℕ) → Decides (a .state) (a .dictionary) c x → octets c ≡ true → Holds a →
-    Holds (standing (answered x (a .state) (a .dictionary) o))
+answered-holds : {c : Call} {x : Decision} (a : Stand) (o : List ℕ) → Decides (a .state) (a .dictionary) c x → Turns c (a .state) x →
+    octets c ≡ true → Holds a → Holds (standing (answered x (a .state) (a .dictionary) o))
 unfolding answered refused accepted
-answered-holds a o (refuses r q) k h = h
-answered-holds a o (begins n legal long) k h =
+answered-holds a o (refuses r q) t k h = h
+answered-holds {c = c} a o (begins n legal long) t k h =
     ended-holds (a .state) (a .dictionary) (powerUp n) long (h .at .bytes) (fresh-lawful n (a .dictionary) legal long)
-answered-holds a o (serves {e} law v) k h = ended-holds (a .state) (a .dictionary) e (law .long) (h .at .bytes) (lawful v k (h .at .bytes) law)
+    (rw t (call-runs c (a .state) k (may-run a h)))
+answered-holds {c = c} a o (serves {e} law v) t k h =
+    ended-holds (a .state) (a .dictionary) e (law .long) (h .at .bytes) (lawful v (k, h .came) (h .at .bytes) law)
+    (rw t (call-runs c (a .state) k (may-run a h)))
 
 -- THE STEP
 pub step-holds : (k : Step) (a : Stand) → octets (k .call) ≡ true → Holds a → Holds (left k a)
 unfolding answer
-step-holds k a o h = answered-holds a (k .output) (decides (a .state) (a .dictionary) (k .call) (k .output)) o h
+step-holds k a o h =
+    let x = decided-by (a .state) (a .dictionary) (k .call) (k .output) in
+    answered-holds a (k .output) (decides-by x) (turns x) o h
 
 pub after-holds : (ks : List Step) (a : Stand) → allOctets ks → Holds a → Holds (after ks a)
 unfolding after allOctets
@@ -234,18 +238,18 @@ power-up-decided n s d o legal long room =
     ∙ passed (leb outputLength (length o)) _ _ (le-leb _ _ room)
     ∙ passed (isNodeId n) _ _ legal
 
-power-up-holds : (n : ℕ) (a : Stand) (o : List ℕ) → isNodeId n ≡ true → length (a .dictionary) ≡ dictionaryLength → areBytes (a .dictionary) ≡ true →
-    outputLength ≤ length o → Holds (left (record { call = powerUpCall n; output = o }) a)
-unfolding answer answered accepted
-power-up-holds n a o legal long bytes room =
-    let s = a .state in
-    let d = a .dictionary in
-    subst (λ (x : Decision). Holds (standing (answered x s d o))) (sym (power-up-decided n s d o legal long room))
-    (ended-holds s d (powerUp n) long bytes (fresh-lawful n d legal long))
+pub begun-holds : (r : Run) → Holds (begun r)
+unfolding answer answered accepted powerUp freshState
+begun-holds r =
+    let s = r .found .state in
+    let d = r .found .dictionary in
+    let n = r .node in
+    subst (λ (x : Decision). Holds (standing (answered x s d (r .output)))) (sym (power-up-decided n s d (r .output) (r .legal) (r .long) (r .room)))
+    (ended-holds s d (powerUp n) (r .long) (r .bytes) (fresh-lawful n d (r .legal) (r .long)) nothing-runs)
 
 -- THE INVARIANT of every run
 pub run-holds : (r : Run) → Holds (reached r)
-run-holds r = after-holds (r .steps) _ (r .given) (power-up-holds (r .node) (r .found) (r .output) (r .legal) (r .long) (r .bytes) (r .room))
+run-holds r = after-holds (r .steps) (begun r) (r .given) (begun-holds r)
 
 -- ---- demand 3
 

@@ -3,34 +3,35 @@
 -- Assumes nothing.
 use Rattle.theorems.proofs.Words.{ℕ, suc, _+_, _<_, _≤_, _/_, _^_, zero, _*_, arith, _≡_, refl, sym, _∙_, ap, subst, inl, inr, true, false}
 use Rattle.theorems.proofs.Words.{cond, List, [], _∷_, _++_, append-assoc, eqb-true, eq-eqb, leb-true, leb, length, getD, drop}
-use Rattle.theorems.proofs.Words.{take-append-drop, length-append, drop-drop, take-at, drop-at, In, here, there, PdoData, Paced, isStopped}
-use Rattle.theorems.proofs.Words.{NmtState, Occasion, State, none-in, and-left, and-right, and-both, all-in, in-append, in-left, in-right}
-use Rattle.theorems.proofs.Words.{bytes-value, part-bytes, read-fits, value-bytes, within, take-padded, clash, by-test}
+use Rattle.theorems.proofs.Words.{take-append-drop, length-append, drop-drop, take-at, drop-at, In, here, there, PdoData, Paced, NmtState}
+use Rattle.theorems.proofs.Words.{Occasion, State, none-in, and-left, and-right, and-both, all-in, in-append, in-left, in-right, bytes-value}
+use Rattle.theorems.proofs.Words.{part-bytes, read-fits, value-bytes, within, take-padded, clash, by-test, NoTransfer}
 use Rattle.theorems.proofs.Writes.{in-cons}
 use Rattle.theorems.proofs.Lawful.{sound-lawful, finally, transmitter-in}
 use Rattle.theorems.proofs.Runs.{Holds, run-holds, step-holds, standing, Decides, decides}
 use Rattle.theorems.proofs.PdoKept.{mapped-short}
 use Rattle.theorems.proofs.Dictionary.{DictionaryOk, mapped-in}
-use Rattle.theorems.proofs.Demands.{ready-at, says-answer, hears, one-listener, identifier-range, awake, field-length}
+use Rattle.theorems.proofs.Demands.{ready-at, says-answer, hears, one-listener, identifier-range, awake, field-length, Rests, rests}
 use Rattle.theorems.proofs.Aborted.{sdo-decided}
 use Rattle.theorems.proofs.Sent.{speaks}
 use Rattle.theorems.specs.Promises.{Spoken, Stand, does, left, octets, reached, onlySends, frameAt, requested, isOn, dataFrom, uploadStatus}
-use Rattle.theorems.specs.Promises.{SameStatusWord}
+use Rattle.theorems.specs.Promises.{SameStatusWord, says, Heard, nothingRuns}
 use Rattle.theorems.proofs.Settled.{status-in}
-use Rattle.rules_dictionary.specs.Table.{pdos, Row, table, dictionaryLength, statusWord, identifier, eachWay, placeOf, sizeOf, open-table}
+use Rattle.rules_dictionary.specs.Table.{pdos, Row, table, dictionaryLength, statusWord, identifier, eachWay, placeOf, sizeOf, open-table, found}
 use Rattle.rules_dictionary.specs.Legal.{frameIdentifier, firstIdentifier, lastIdentifier}
 use Rattle.rules_dictionary.specs.Numbers.{value, bytes, areBytes, part, padded}
 use Rattle.rules_dictionary.specs.TheNode.{isNodeId, firstNode, lastNode}
 use Rattle.rules_dictionary.specs.Values.{field, read, stored}
 use Rattle.rules_dictionary.specs.Plans.{mapped, readyFor, readyOf, joined, pdoData}
 use Rattle.rules_dictionary.proofs.Defaults.{length-bytes}
-use Rattle.rules_services.specs.Effects.{Frame, frame, Effect, becomes, sends}
+use Rattle.rules_services.specs.Effects.{Frame, Effect, becomes, sends, withoutTransfer}
 use Rattle.rules_services.specs.Emergency.{emergencyBase}
 use Rattle.rules_services.specs.Nmt.{heartbeatBase, powerUp, freshState}
-use Rattle.rules_services.specs.Sdo.{commandOf, toRow, toObject, asked, sdo, dataSize, reply, replyBase}
+use Rattle.rules_services.specs.Sdo.{objectOf, sought, dataSize, reply, replyBase}
+use Rattle.rules_services.specs.SdoServer.{commandOf, uploads, asked, sdo}
 use Rattle.rules_services.specs.PdoTraffic.{works, mappedLength, listens, transmitted, noData}
 use Rattle.rules.specs.Outcome.{ended, settled, paceFor, transmissions, transmitters, mostData, encoded, sentInto, frameSize}
-use Rattle.rules.specs.Calls.{Call, Decision, does as performs, refused, accepted, answered, answer, outputLength}
+use Rattle.rules.specs.Calls.{Call, Decision, does as performs, refused, accepted, answered, answer}
 use Rattle.rules.proofs.Encoded.{length-encoded}
 
 -- ---- the frame of a number in the output
@@ -204,9 +205,15 @@ mapped-at n d p xs ys x ok l i maps =
 
 -- ---- and read by SDO
 
-uploads-status : (s : State) (d : List ℕ) → sdo uploadStatus s d ≡ sends (reply 0x4B uploadStatus s (bytes dataSize (read d statusWord))) (becomes s)
-unfolding sdo asked commandOf toObject toRow value open-table
-uploads-status s d = refl
+-- 6041h is there
+status-sought : sought (objectOf uploadStatus) ≡ found statusWord
+unfolding value open-table
+status-sought = refl
+
+uploads-status : (s : State) (d : List ℕ) →
+    sdo uploadStatus s d ≡ sends (reply 0x4B (objectOf uploadStatus) s (bytes dataSize (read d statusWord))) (becomes (withoutTransfer s))
+unfolding sdo asked commandOf uploads reply
+uploads-status s d = rw status-sought
 
 four-bytes : (v : ℕ) → v < 256 ^ 2 → bytes 4 v ≡ bytes 2 v ++ (0 ∷ 0 ∷ [])
 unfolding bytes
@@ -223,17 +230,15 @@ status-bytes d b l =
     let same : bytes 2 (value bs) ≡ bs = ap (λ (j : ℕ). bytes j (value bs)) (sym k) ∙ bytes-value bs (part-bytes (placeOf statusWord) 2 d b) in
     four-bytes (value bs) (read-fits statusWord d b room) ∙ ap (λ (l : List ℕ). l ++ (0 ∷ 0 ∷ [])) same
 
-status-read : (a : Stand) (o : List ℕ) → Holds a → isStopped (a .state .node .nmt) ≡ false → outputLength ≤ length o →
+status-read : (a : Stand) (o : List ℕ) → Rests a → Heard uploadStatus o a →
     does (requested uploadStatus o a) a
-    ≡ onlySends (frame (replyBase + a .state .node .id)
-    (0x4B ∷ 0x41 ∷ 0x60 ∷ 0x00 ∷ field (a .dictionary) statusWord ++ (0x00 ∷ 0x00 ∷ [])) ∷ []) a o
+    ≡ onlySends (says a (0x4B ∷ 0x41 ∷ 0x60 ∷ 0x00 ∷ field (a .dictionary) statusWord ++ (0x00 ∷ 0x00 ∷ [])) ∷ []) (nothingRuns a) o
 unfolding answer reply
-status-read a o h awake-now room =
+status-read a o h heard =
     let d = a .dictionary in
-    says-answer a o _ (reply 0x4B uploadStatus (a .state) (bytes dataSize (read d statusWord))) h
-    (sdo-decided a h uploadStatus o refl awake-now room ∙ ap performs (uploads-status (a .state) d))
-    ∙ ap (λ (l : List ℕ). onlySends (frame (replyBase + a .state .node .id) (0x4B ∷ 0x41 ∷ 0x60 ∷ 0x00 ∷ l) ∷ []) a o)
-    (status-bytes d (h .at .bytes) (h .at .long))
+    says-answer a o _ (reply 0x4B (objectOf uploadStatus) (a .state) (bytes dataSize (read d statusWord))) NoTransfer h
+    (sdo-decided a h uploadStatus o heard ∙ ap performs (uploads-status (a .state) d))
+    ∙ ap (λ (l : List ℕ). onlySends (says a (0x4B ∷ 0x41 ∷ 0x60 ∷ 0x00 ∷ l) ∷ []) (nothingRuns a) o) (status-bytes d (h .at .bytes) (h .at .long))
 
 -- ---- the two are the same
 
@@ -247,7 +252,7 @@ unfolding answered refused accepted ended powerUp freshState works
 sent-carries a o (Decides.refuses r q) k h g t n i working few on = absurd (omega (arith, few))
 sent-carries a o (Decides.begins m legal long) k h g t n i working few on = clash false working refl
 sent-carries a o (Decides.serves {e} law v) k h g t n i working few on =
-    let w = speaks k (h .at .bytes) (law .long) v in
+    let w = speaks (k, h .came) (h .at .bytes) (law .long) v in
     carries (a .state) (a .dictionary) o e (subst (λ (j : ℕ). Spoken j (e .sent)) (sym (w .0)) (w .1 .spoken)) g t n i working few on
 
 pub same-status-word : SameStatusWord
@@ -264,5 +269,5 @@ same-status-word r k t n xs ys o given i room working maps few on =
     let sent = sent-carries (reached r) (k .output) decided-on given (run-holds r) h t n i working few on in
     let word = ap (part (dataFrom + mappedLength xs) 2) sent
     ∙ mapped-at (s .node .id) d (eachWay + t) xs ys statusWord (law .dictionary) (h .at .long) (transmitter-in i) maps in
-    status-read a o h (awake (s .node .nmt) on-now) room
-    ∙ ap (λ (l : List ℕ). onlySends (frame (replyBase + s .node .id) (0x4B ∷ 0x41 ∷ 0x60 ∷ 0x00 ∷ l ++ (0x00 ∷ 0x00 ∷ [])) ∷ []) a o) (sym word)
+    status-read a o (rests a h) (record { whole = refl; served = awake (s .node .nmt) on-now; room = room })
+    ∙ ap (λ (l : List ℕ). onlySends (says a (0x4B ∷ 0x41 ∷ 0x60 ∷ 0x00 ∷ l ++ (0x00 ∷ 0x00 ∷ [])) ∷ []) (nothingRuns a) o) (sym word)

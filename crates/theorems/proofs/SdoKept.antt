@@ -1,16 +1,16 @@
 -- SDO leaves a lawful state: what its tests let through is what a row may hold, at a time when it may.
 -- Assumes nothing.
 use Rattle.theorems.proofs.Words.{ℕ, _^_, _<_, _≡_, refl, sym, _∙_, ap, _⊎_, inl, inr, true, false, not, _||_, Bool·not-not, List, [], _∷_}
-use Rattle.theorems.proofs.Words.{eqb-true, eqb, drop, NmtState, PreOperational, Operational, Stopped, State, Role, Plain, ModeOfOperation}
-use Rattle.theorems.proofs.Words.{PdoIdentifier, PdoType, MappingCount, MappingEntry, Access, Constant, NodeWritten, Writable, In, all-drop}
-use Rattle.theorems.proofs.Words.{isPreOperational, isOperational, clash, by-match, or-false-left, or-false-right, false-not, value-take}
+use Rattle.theorems.proofs.Words.{eqb-true, eqb, NmtState, PreOperational, Operational, Stopped, State, Role, Plain, ModeOfOperation}
+use Rattle.theorems.proofs.Words.{PdoIdentifier, PdoType, MappingCount, MappingEntry, Access, Constant, NodeWritten, Writable, In}
+use Rattle.theorems.proofs.Words.{isPreOperational, isOperational, clash, by-match, or-false-left, or-false-right, false-not}
 use Rattle.theorems.proofs.Dictionary.{MayHold, store-ok, isPdo}
 use Rattle.theorems.proofs.{Lawful.Lawful, Writes.MayApply, Writes.one-row}
 use Rattle.rules_dictionary.specs.Table.{Row, table, sizeOf, isConstant, isWritable, identifier, mapCount}
 use Rattle.rules_dictionary.specs.Aborts.{Verdict, good, bad, isGood, Test, firstOf}
 use Rattle.rules_dictionary.specs.Legal.{valueVerdict, otherBadValue, mappingVerdict, badChoice, isValid, isBelow, isAbove}
-use Rattle.rules_dictionary.specs.{Numbers.areBytes, Values.write, Values.read, Values.stored}
-use Rattle.rules_services.specs.Sdo.{askedValue, isWrongTime, downloadVerdict, abort, dataPlace, offerVerdict}
+use Rattle.rules_dictionary.specs.{Values.write, Values.read, Values.stored}
+use Rattle.rules_services.specs.Sdo.{Offer, isWrongTime, offerVerdict}
 use Rattle.rules.specs.Sound.{inRange}
 
 -- ---- where the verdict is good, no test fired
@@ -58,31 +58,29 @@ writable-varies Constant h = clash true refl h
 writable-varies NodeWritten h = refl
 writable-varies Writable h = refl
 
--- ---- what a good download may write
+-- ---- what a good download may write: what it offers the row, in one part or joined out of segments
 
-module _ (rq : List ℕ) (nmt : NmtState) (n : ℕ) (d : List ℕ) (x : Row) (bytes : areBytes rq ≡ true) (fine : downloadVerdict rq nmt d x ≡ good) where
-  fit : askedValue rq x < 256 ^ sizeOf x
-  unfolding askedValue
-  fit = value-take (sizeOf x) (drop dataPlace rq) (all-drop dataPlace rq bytes)
-
-  checked : (not (isWritable (x .access)) ≡ false) × (isWrongTime nmt d (x .role) ≡ false) × (valueVerdict d x (askedValue rq x) ≡ good)
+module _ (t : Offer) (nmt : NmtState) (n : ℕ) (d : List ℕ) (fits : t .value < 256 ^ sizeOf (t .row)) (fine : offerVerdict nmt d t ≡ good) where
+  checked : (not (isWritable (t .row .access)) ≡ false) × (isWrongTime nmt d (t .row .role) ≡ false)
+      × (valueVerdict d (t .row) (t .value) ≡ good)
   unfolding offerVerdict
   checked =
       let a = good-passes _ _ _ fine in
       let e = good-passes _ _ _ (good-passes _ _ _ (good-passes _ _ _ (a .1) .1) .1) in
       (a .0, e .0, good-last _ (e .1))
 
-  pub may : MayHold n d x (askedValue rq x)
+  pub may : MayHold n d (t .row) (t .value)
   unfolding isWrongTime otherBadValue mappingVerdict
   may =
-      let v = askedValue rq x in
+      let x = t .row in
+      let v = t .value in
       let value = good-value d x v (checked .2) in
       let mapping : (r : Role) → x .role ≡ r → isGood (mappingVerdict d r v) ≡ true =
       λ r e. ap isGood (ap (λ (q : Role). mappingVerdict d q v) (sym e) ∙ value .mapping) in
       record {
-        fits = fit;
+        fits = fits;
         listed = λ k. clash (isConstant (x .access)) k (writable-varies (x .access) (checked .0));
-        ranged = good-range d x (askedValue rq x) value;
+        ranged = good-range d x v value;
         entry = λ p e.
             let late = or-false-right (not (isPreOperational nmt) || isValid (read d (identifier p))) _ (rw e at (checked .1)) in
             (mapping (MappingEntry p) e, eqb-true _ _ (simp Bool·not-not at (false-not (not (eqb (read d (mapCount p)) 0)) late)));
@@ -95,7 +93,7 @@ module _ (rq : List ℕ) (nmt : NmtState) (n : ℕ) (d : List ℕ) (x : Row) (by
   pre-idle Operational h = clash true refl h
   pre-idle Stopped h = clash true refl h
 
-  idle-or-quiet : (r : Role) → x .role ≡ r → (isOperational nmt ≡ false) ⊎ (isPdo r ≡ false)
+  idle-or-quiet : (r : Role) → t .row .role ≡ r → (isOperational nmt ≡ false) ⊎ (isPdo r ≡ false)
   unfolding isWrongTime
   idle-or-quiet Plain e = inr refl
   idle-or-quiet ModeOfOperation e = inr refl
@@ -106,17 +104,17 @@ module _ (rq : List ℕ) (nmt : NmtState) (n : ℕ) (d : List ℕ) (x : Row) (by
       let early = or-false-left (not (isPreOperational nmt) || isValid (read d (identifier p))) _ (rw e at (checked .1)) in
       inl (pre-idle nmt (or-false-left (not (isPreOperational nmt)) _ early))
 
-pub download-may : (rq : List ℕ) (s : State) (d : List ℕ) {x : Row} → areBytes rq ≡ true → In x table → downloadVerdict rq (s .node .nmt) d x ≡ good →
-    Lawful s d → MayApply s d (write x (askedValue rq x) ∷ [])
+pub offer-may : (t : Offer) (s : State) (d : List ℕ) → In (t .row) table → t .value < 256 ^ sizeOf (t .row) → offerVerdict (s .node .nmt) d t ≡ good →
+    Lawful s d → MayApply s d (write (t .row) (t .value) ∷ [])
 unfolding stored
-download-may rq s d {x} b i e law =
-    let m = may rq (s .node .nmt) (s .node .id) d x b e in
+offer-may t s d i fits e law =
+    let m = may t (s .node .nmt) (s .node .id) d fits e in
     record {
-      fit = one-row (λ w. In (w .row) table × (w .value < 256 ^ sizeOf (w .row))) (i, m .fits);
+      fit = one-row (λ w. In (w .row) table × (w .value < 256 ^ sizeOf (w .row))) (i, fits);
       quiet =
-          elim (idle-or-quiet rq (s .node .nmt) (s .node .id) d x b e (x .role) refl) [
+          elim (idle-or-quiet t (s .node .nmt) (s .node .id) d fits e (t .row .role) refl) [
             | inl h ↦ inl h
             | inr h ↦ inr (one-row (λ w. isPdo (w .row .role) ≡ false) h)
           ];
-      ok = store-ok (s .node .id) d x (askedValue rq x) i (law .long) (law .dictionary) m;
+      ok = store-ok (s .node .id) d (t .row) (t .value) i (law .long) (law .dictionary) m;
     }

@@ -1,38 +1,40 @@
 -- What is sent: a reply, emergencies, a boot-up or heartbeat, never more than two of these, and then the transmit PDOs; all of bytes.
 -- Assumes nothing.
-use Rattle.theorems.proofs.Words.{ℕ, suc, _+_, _<_, _≤_, zero, _*_, _/_, _%_, arith, _≡_, refl, sym, _∙_, ap, ap₂, subst, _⊎_, inl, inr, Bool}
-use Rattle.theorems.proofs.Words.{true, false, not, _||_, _&&_, and-eq-true-iff, List, [], _∷_, _++_, map, append-nil, append-assoc, le-leb}
-use Rattle.theorems.proofs.Words.{eq-eqb, lt-ltb, leb-true, length, getD, take, length-append, length-take, drop, leb, drop-drop, PdoData}
-use Rattle.theorems.proofs.Words.{DriveState, Drive, Command, NmtState, PreOperational, Operational, Stopped, State, Paced, In, here, there}
-use Rattle.theorems.proofs.Words.{and-both, and-left, and-right, all-drop, part-bytes, all-take, store-bytes, stored-bytes, length-store}
-use Rattle.theorems.proofs.Words.{length-stored, bytes-are, read-fits, within, isStopped, all-both, either, by-match, clash, implied, not-true}
-use Rattle.theorems.proofs.Words.{by-test, whichever, on-ways, length-padded, eqb, all-in, none-in}
-use Rattle.theorems.proofs.Services.{Serves, Releases, Before, longer}
+use Rattle.theorems.proofs.Words.{ℕ, suc, _+_, _<_, _≤_, zero, _*_, _/_, _%_, _^_, arith, _≡_, refl, sym, _∙_, ap, ap₂, subst, _⊎_, inl, inr}
+use Rattle.theorems.proofs.Words.{Bool, true, false, not, _||_, _&&_, and-eq-true-iff, List, [], _∷_, _++_, map, append-nil, append-assoc}
+use Rattle.theorems.proofs.Words.{le-leb, eq-eqb, lt-ltb, leb-true, length, getD, take, length-append, length-take, drop, leb, drop-drop}
+use Rattle.theorems.proofs.Words.{PdoData, DriveState, Drive, Command, NmtState, PreOperational, Operational, Stopped, State, Paced, In, here}
+use Rattle.theorems.proofs.Words.{there, and-both, and-left, and-right, all-drop, part-bytes, all-take, store-bytes, stored-bytes}
+use Rattle.theorems.proofs.Words.{length-store, length-stored, bytes-are, read-fits, within, isStopped, all-both, either, by-match, clash}
+use Rattle.theorems.proofs.Words.{implied, not-true, by-test, whichever, on-ways, length-padded, eqb, all-in, none-in}
+use Rattle.theorems.proofs.Services.{Serves, Releases, Replied, Before, longer}
+use Rattle.theorems.proofs.Receipts.{IsObject}
 use Rattle.theorems.proofs.Lawful.{finally}
 use Rattle.theorems.proofs.DriveKept.{emptied-same, rule-same}
-use Rattle.theorems.proofs.Runs.{run-holds, ended-bytes, Decides, decides}
+use Rattle.theorems.proofs.Runs.{run-holds, ended-bytes, Known, Decides, decides}
 use Rattle.theorems.proofs.Demands.{ready-at}
 use Rattle.theorems.proofs.Settled.{register-in}
-use Rattle.rules_dictionary.specs.Numbers.{all, areBytes, isByte, padded, bytes, filter, part, value}
-use Rattle.rules_dictionary.specs.Table.{Row, sizeOf, mostMoves, identifier, dictionaryLength, controlWord, mode, heartbeatTime, errorRegister}
-use Rattle.rules_dictionary.specs.Table.{eachWay, placeOf}
+use Rattle.rules_dictionary.specs.Numbers.{all, areBytes, isByte, padded, bytes, filter, value}
+use Rattle.rules_dictionary.specs.Table.{Row, sizeOf, mostMoves, dictionaryLength, controlWord, mode, heartbeatTime, errorRegister, eachWay, placeOf}
 use Rattle.rules_dictionary.specs.Plans.{mapped, pdoData, joined, readyOf, readyFor}
 use Rattle.rules_dictionary.specs.Values.{Write, field, read, store, stored}
+use Rattle.rules_dictionary.specs.DeviceName.{deviceName}
+use Rattle.rules_dictionary.proofs.Defaults.{length-bytes}
 use Rattle.drive.specs.DriveStates.{isFault, command, next, resets}
 use Rattle.drive.specs.SetPoints.{enters, emptied, withState, modeWritten, controlWritten, withMode, modeOf}
-use Rattle.rules_services.specs.Effects.{Frame, frame, Effect, andThen, withDrive, withHeld}
+use Rattle.rules_services.specs.Effects.{Frame, frame, Effect, andThen, withDrive, withHeld, withTransfer}
 use Rattle.rules_services.specs.Written.{wrote, countRestarted, modeActed, faultReset, controlActed, applied}
 use Rattle.rules_services.specs.Nmt.{commanded, powerUp, freshState, left, voltageDisabled, stateByte, heartbeatBase}
 use Rattle.rules_services.specs.Emergency.{emergency, faultGone, valueRefused, pdoTooLong, emergencyBase}
-use Rattle.rules_services.specs.Sdo.{dataSize, reply, downloaded, replyBase}
+use Rattle.rules_services.specs.Sdo.{dataSize, reply, replyBase}
+use Rattle.rules_services.specs.Segments.{segment, segmentByte, segmentOf, segmentSize, flag, toggleBit, toggleAt, lastBit, isLastOf}
 use Rattle.rules_services.specs.PdoTraffic.{noData, transmitted}
 use Rattle.rules_services.specs.Events.{faulted}
 use Rattle.rules.specs.Outcome.{ended, settled, paceFor, transmissions, transmitters, mostData, encoded, sentInto, frameSize}
 use Rattle.rules.specs.Calls.{Call, Decision, refuses, does as performs, refused, accepted, answered, answer}
-use Rattle.rules_dictionary.proofs.Defaults.{length-bytes}
 use Rattle.rules.proofs.Encoded.{length-encoded}
-use Rattle.theorems.specs.Promises.{octets, reached, mostSpoken, Spoken, laid, FramesOf, AtMostSixInOrder, OutputOfBytes, isOn, codeOf}
-use Rattle.theorems.specs.Promises.{inOrderOfCause, ElevenBytes}
+use Rattle.theorems.specs.Promises.{reached, mostSpoken, Spoken, laid, FramesOf, AtMostSixInOrder, OutputOfBytes, isOn, codeOf, inOrderOfCause}
+use Rattle.theorems.specs.Promises.{ElevenBytes}
 
 -- ---- eleven bytes
 
@@ -112,12 +114,31 @@ emergency-on code s d b l =
     (rw (lt-ltb (code % 256) 256 (omega arith), lt-ltb (code / 256 % 256) 256 (omega arith), lt-ltb (read d errorRegister) 256 register))
     (omega arith))
 
-reply-on : (c : ℕ) (rq : List ℕ) (s : State) (v : ℕ) → c < 256 → areBytes rq ≡ true → On (replyBase + s .node .id) 1 (reply c rq s (bytes dataSize v))
+-- what the SDO server says is one frame of eight bytes, or nothing
+echo-on : (c : ℕ) (o : List ℕ) (s : State) (v : ℕ) → c < 256 → IsObject o → On (replyBase + s .node .id) 1 (reply c o s (bytes dataSize v))
 unfolding reply
-reply-on c rq s v small b =
-    one-on (replyBase + s .node .id) (c ∷ part 1 3 rq ++ bytes dataSize v)
-    (all-append isByte (c ∷ part 1 3 rq) (bytes dataSize v) (rw (lt-ltb c 256 small) (part-bytes 1 3 rq b)) (bytes-are dataSize v))
-    (rw (length-append, length-take, length-bytes dataSize v) (omega arith))
+echo-on c o s v small h =
+    one-on (replyBase + s .node .id) (c ∷ o ++ bytes dataSize v)
+    (all-append isByte (c ∷ o) (bytes dataSize v) (rw (lt-ltb c 256 small) (h .octets)) (bytes-are dataSize v))
+    (rw (length-append, h .long, length-bytes dataSize v) (omega arith))
+
+flag-small : (k : ℕ) (b : Bool) → flag k b ≤ 2 ^ k
+flag-small k true = omega arith
+flag-small k false = omega arith
+
+segment-on : (k : ℕ) (s : State) → On (replyBase + s .node .id) 1 (segment k s)
+unfolding segment
+segment-on k s =
+    let small : segmentByte k < 256 = omega (arith, flag-small toggleBit (toggleAt k), flag-small lastBit (isLastOf k)) in
+    one-on (replyBase + s .node .id) (segmentByte k ∷ padded 0 segmentSize (segmentOf k))
+    (rw (lt-ltb (segmentByte k) 256 small)
+    (padded-bytes segmentSize (segmentOf k) (part-bytes (k * segmentSize) segmentSize deviceName refl)))
+    (rw (length-padded 0 segmentSize (segmentOf k)) (omega arith))
+
+reply-on : {K : Type 0} {s : State} {fs : List Frame} → K → Replied K s fs → On (replyBase + s .node .id) 1 fs
+reply-on {s = s} k Replied.silent = none-on (replyBase + s .node .id) 1
+reply-on {s = s} k (Replied.echoes c v o small object) = echo-on c o s v small (object k)
+reply-on {s = s} k (Replied.carries j) = segment-on j s
 
 -- ---- emergencies in the order of their causes
 
@@ -313,8 +334,7 @@ module _ {K : Type 0} {s : State} {d : List ℕ} (k : K) (b : areBytes d ≡ tru
   -- what may stand behind 8220h, behind what goes before it
   behind : {fs : List Frame} → Before K s d fs → (gs : List Frame) → On (emergencyBase + s .node .id) 1 gs → all goesBehind gs ≡ true →
       Says (s .node .id) (fs ++ gs)
-  behind (Before.replied rq octet) gs a c =
-      replied-spoken (s .node .id) (reply downloaded rq s (bytes dataSize 0)) gs (reply-on downloaded rq s 0 (omega arith) (octet k)) a
+  behind {fs} (Before.replied said) gs a c = replied-spoken (s .node .id) fs gs (reply-on k said) a
   behind (Before.warned w) gs a c =
       let i = emergencyBase + s .node .id in
       let long : On i 1 (longer w s d) = whichever (On i 1) w (emergency-on _ s d b l) (none-on i 1) in
@@ -324,20 +344,16 @@ module _ {K : Type 0} {s : State} {d : List ℕ} (k : K) (b : areBytes d ≡ tru
   pub speaks : {e : Effect} → Serves K s d e → SpeaksAs (s .node .id) e
   unfolding commanded powerUp freshState voltageDisabled left faulted
   speaks Serves.nothing = (refl, silent (s .node .id))
-  speaks (Serves.replies c v rq small octet) = (
-    refl,
-    replied-spoken (s .node .id) (reply c rq s (bytes dataSize v)) [] (reply-on c rq s v small (octet k))
-        (none-on (emergencyBase + s .node .id) 1),
-  )
+  speaks (Serves.replies {fs} t said) = (refl, replied-spoken (s .node .id) fs [] (reply-on k said) (none-on (emergencyBase + s .node .id) 1))
   speaks (Serves.alarms true code) = (
     refl,
     behind (Before.warned true) (emergency valueRefused s d ++ []) (rw append-nil (emergency-on valueRefused s d b l))
         (rw append-nil (refused-coded s d)),
   )
   speaks (Serves.alarms false code) = (refl, alone (s .node .id) (emergency code s d ++ []) (rw append-nil (emergency-on code s d b l)))
-  speaks (Serves.applies ws before may) =
-      let c = applied-calm ws s d b l in
-      (c .id, behind before (applied ws s d .sent) (c .alarms) (c .coded))
+  speaks (Serves.applies t ws before may) =
+      let c = applied-calm ws (withTransfer t s) d b l in
+      (c .id, behind before (applied ws (withTransfer t s) d .sent) (c .alarms) (c .coded))
   speaks (Serves.holds bs w i on synchronous long legal) = (refl, behind (Before.warned w) [] (none-on (emergencyBase + s .node .id) 1) refl)
   speaks (Serves.releases {e} r) =
       let c = releases-calm r b l in
@@ -365,7 +381,7 @@ abbrev Said : Decision → Type 0
 Said (refuses r) = Unit
 Said (performs e) = Says (e .state .node .id) (e .sent)
 
-said : {c : Call} {x : Decision} {s : State} {d : List ℕ} → Decides s d c x → octets c ≡ true → areBytes d ≡ true → Said x
+said : {c : Call} {x : Decision} {s : State} {d : List ℕ} → Decides s d c x → Known c s → areBytes d ≡ true → Said x
 unfolding powerUp freshState
 said (Decides.refuses r q) o b = tt
 said (Decides.begins n legal long) o b = beat-spoken n 0 (omega arith)
@@ -457,8 +473,9 @@ pub at-most-six-in-order : AtMostSixInOrder
 unfolding answer
 at-most-six-in-order r k o =
     let a = reached r in
-    let h = run-holds r .at .bytes in
-    frames-of _ (a .state) (a .dictionary) (k .output) (said (decides (a .state) (a .dictionary) (k .call) (k .output)) o h) h
+    let h = run-holds r in
+    let says = said (decides (a .state) (a .dictionary) (k .call) (k .output)) (o, h .came) (h .at .bytes) in
+    frames-of _ (a .state) (a .dictionary) (k .output) says (h .at .bytes)
 
 -- ---- bytes out
 
@@ -472,5 +489,6 @@ pub output-of-bytes : OutputOfBytes
 unfolding answer
 output-of-bytes r k o b =
     let a = reached r in
-    let h = run-holds r .at .bytes in
-    answered-bytes _ (a .state) (a .dictionary) (k .output) (said (decides (a .state) (a .dictionary) (k .call) (k .output)) o h) h b
+    let h = run-holds r in
+    let says = said (decides (a .state) (a .dictionary) (k .call) (k .output)) (o, h .came) (h .at .bytes) in
+    answered-bytes _ (a .state) (a .dictionary) (k .output) says (h .at .bytes) b

@@ -2,31 +2,41 @@
 -- cases. A new service is one case more here and in each of them.
 -- Assumes nothing.
 use Rattle.theorems.proofs.Words.{ℕ, suc, _+_, _^_, _<_, _≤_, arith, _≡_, refl, _∙_, ap, _⊎_, inl, inr, Bool, true, false, cond, not, _&&_}
-use Rattle.theorems.proofs.Words.{_||_, List, [], _∷_, ltb-false, eqb, ltb, length, getD, take, set, take-take, PdoData, DriveState}
-use Rattle.theorems.proofs.Words.{SwitchOnDisabled, Fault, PreOperational, Operational, Stopped, Synced, Ticked, State, SdoCommand, Download}
-use Rattle.theorems.proofs.Words.{Upload, ClientAbort, Unknown, Event, Started, QuickStopDone, ReactionDone, SetPointReached, Tick, CauseGone}
-use Rattle.theorems.proofs.Words.{Feedback, Voltage, In, here, there, or-left, or-right, and-left, none-in, in-append, found-in, isStopped}
-use Rattle.theorems.proofs.Words.{isOperational, isPreOperational, by-test, by-match, whichever}
+use Rattle.theorems.proofs.Words.{_||_, Bool·beq, List, [], _∷_, ltb-false, eqb-true, eqb, ltb, length, getD, take, drop, set, take-take}
+use Rattle.theorems.proofs.Words.{PdoData, DriveState, SwitchOnDisabled, Fault, PreOperational, Operational, Stopped, Synced, Ticked, Receipt}
+use Rattle.theorems.proofs.Words.{Transfer, NoTransfer, Uploading, Downloading, State, SdoCommand, Download, DownloadBySegments}
+use Rattle.theorems.proofs.Words.{DownloadSegment, Upload, UploadSegment, ClientAbort, Unknown, Event, Started, QuickStopDone, ReactionDone}
+use Rattle.theorems.proofs.Words.{SetPointReached, Tick, CauseGone, Feedback, Voltage, In, here, there, or-left, or-right, and-left, none-in}
+use Rattle.theorems.proofs.Words.{in-append, found-in, all-drop, value-take, isStopped, isOperational, isPreOperational, by-test, by-match}
+use Rattle.theorems.proofs.Words.{whichever}
 use Rattle.theorems.proofs.Writes.{MayApply, applied-lawful, one-row}
 use Rattle.theorems.proofs.PdoKept.{values-may, unpacked-same, held-lawful, held-at, held-legal, none-sound}
 use Rattle.theorems.proofs.Lawful.{Lawful}
 use Rattle.theorems.proofs.NmtKept.{ArgumentsFit, unfaulty}
-use Rattle.theorems.proofs.SdoKept.{download-may}
-use Rattle.rules_dictionary.specs.Table.{Row, table, receivePdos, errorRegister, position, velocity, heartbeatTime, ValueType, u8, u16, u32, i8, i32}
-use Rattle.rules_dictionary.specs.Table.{Found, found, noObject, noSubindex, lookup, controlWord}
+use Rattle.theorems.proofs.SdoKept.{offer-may}
+use Rattle.theorems.proofs.Receipts.{IsObject, request-object, MayRun, nothing-runs, run-object, carried-runs}
+use Rattle.rules_dictionary.specs.Table.{Row, table, sizeOf, receivePdos, errorRegister, position, velocity, heartbeatTime, ValueType, u8, u16, u32}
+use Rattle.rules_dictionary.specs.Table.{i8, i32, Found, found, theName, noObject, noSubindex, controlWord}
 use Rattle.rules_dictionary.specs.Values.{Write, write, read, stored, unpacked}
-use Rattle.rules_dictionary.specs.Aborts.{Abort, abortCode, Verdict, good, bad, unknownCommand, noObject as absent, noSubindex as absentSub}
+use Rattle.rules_dictionary.specs.Aborts.{Abort, abortCode, Verdict, good, bad, unknownCommand, wrongToggle, noWriting, noObject as absent}
+use Rattle.rules_dictionary.specs.Aborts.{noSubindex as absentSub}
 use Rattle.rules_dictionary.specs.Numbers.{areBytes, bytes}
+use Rattle.rules_dictionary.specs.DeviceName.{deviceName}
 use Rattle.rules_dictionary.specs.Legal.{isSynchronous}
 use Rattle.rules_dictionary.specs.Plans.{mapped, pdoData}
 use Rattle.drive.specs.DriveStates.{isNotReady, isFaulty}
 use Rattle.rules_services.specs.declared.Event.the-variants.{Fault}
 use Rattle.drive.specs.SetPoints.{enters, withStore, withCause, reached, isMoving, controlWritten}
 use Rattle.rules_services.specs.Effects.{Frame, Effect, becomes, sends, writes, on, andThen, withDrive, withHeld, withNmt, withVoltage, withHeartbeat}
+use Rattle.rules_services.specs.Effects.{withTransfer, withoutTransfer}
 use Rattle.rules_services.specs.Emergency.{emergency, pdoTooShort, pdoTooLong, valueRefused, badSyncLength}
 use Rattle.rules_services.specs.Written.{applied, wrote, countRestarted, modeActed, faultReset, controlActed}
-use Rattle.rules_services.specs.Sdo.{commandOf, commandByte, askedIndex, askedSubindex, askedValue, downloadVerdict, expedited, reply, downloaded}
-use Rattle.rules_services.specs.Sdo.{uploaded, aborted, dataSize, abort, judged, toRow, toObject, asked, sdo, requestBase, requestLength}
+use Rattle.rules_services.specs.Sdo.{commandByte, objectOf, sought, dataPlace, dataSize, Offer, askedValue, expedited, reply, downloaded, uploaded}
+use Rattle.rules_services.specs.Sdo.{aborted, offerVerdict, abort, judged, downloads, requestBase, requestLength}
+use Rattle.rules_services.specs.Segments.{nowhere, unfit, uploadBegun, nameAsked, segment, segmentAsked, toggleOf, toggleAt, toggleBit, flag, isLast}
+use Rattle.rules_services.specs.Segments.{carried, nextOf, nothingYet, downloadBegun, gathered, turned, segmentTaken, acknowledged, joined, concluded}
+use Rattle.rules_services.specs.Segments.{continued, segmentSent, objectIn, bytesIn}
+use Rattle.rules_services.specs.SdoServer.{commandOf, uploads, asked, sdo}
 use Rattle.rules_services.specs.PdoTraffic.{works, typeOf, mappedLength, areLegal, heldOrApplied, received, listens, receivedBy, noData, isHeld}
 use Rattle.rules_services.specs.PdoTraffic.{release, releaseAll, sync, syncBase}
 use Rattle.rules_services.specs.Nmt.{powerUp, left, voltageDisabled, commanded, nmt, nmtIdentifier, nmtLength, everyNode, heartbeat, tick as ticked}
@@ -59,10 +69,16 @@ applied-all P ws s d h reset w i =
 abbrev pub longer : Bool → State → List ℕ → List Frame
 longer b s d = cond b (emergency pdoTooLong s d) []
 
--- what goes before the writes of a frame that is applied: an SDO's reply, or the emergency of a long PDO. K is what is known of the
--- call's own data
+-- what the SDO server says itself: nothing, a reply that names an object, or a segment of the device name. K is what is known of the call's own
+-- data and of the bytes that came before it
+pub data Replied (K : Type 0) (s : State) : List Frame → Type 0 where
+  silent : Replied K s []
+  echoes : (c v : ℕ) (o : List ℕ) → c < 256 → (K → IsObject o) → Replied K s (reply c o s (bytes dataSize v))
+  carries : (k : ℕ) → Replied K s (segment k s)
+
+-- what goes before the writes of a frame that is applied: an SDO's reply, or the emergency of a long PDO
 pub data Before (K : Type 0) (s : State) (d : List ℕ) : List Frame → Type 0 where
-  replied : (rq : List ℕ) → (K → areBytes rq ≡ true) → Before K s d (reply downloaded rq s (bytes dataSize 0))
+  replied : {fs : List Frame} → Replied K s fs → Before K s d fs
   warned : (b : Bool) → Before K s d (longer b s d)
 
 -- held frames applied one after another
@@ -77,11 +93,12 @@ pub data Releases : State → List ℕ → Effect → Type 0 where
 -- what the service of a call can be: its effect from s and d
 pub data Serves (K : Type 0) (s : State) (d : List ℕ) : Effect → Type 0 where
   nothing : Serves K s d (becomes s)
-  -- SDO and PDO
-  replies : (c v : ℕ) (rq : List ℕ) → c < 256 → (K → areBytes rq ≡ true) → Serves K s d (sends (reply c rq s (bytes dataSize v)) (becomes s))
+  -- SDO and PDO; `t` is the transfer that then runs
+  replies : {fs : List Frame} (t : Transfer) → Replied K s fs → Serves K s d (sends fs (becomes (withTransfer t s)))
   -- behind 8220h stands no emergency but 8200h
   alarms : (b : Bool) (code : ℕ) → Serves K s d (sends (longer b s d) (sends (emergency (cond b valueRefused code) s d) (becomes s)))
-  applies : {fs : List Frame} (ws : List Write) → Before K s d fs → (K → Lawful s d → MayApply s d ws) → Serves K s d (sends fs (applied ws s d))
+  applies : {fs : List Frame} (t : Transfer) (ws : List Write) → Before K s d fs → (K → Lawful s d → MayApply s d ws) →
+      Serves K s d (sends fs (applied ws (withTransfer t s) d))
   holds : {p : ℕ} (bs : List ℕ) (b : Bool) → In p receivePdos → works (s .node .nmt) d p ≡ true → isSynchronous (typeOf d p) ≡ true →
       mappedLength (mapped d p) ≤ length bs → areLegal d (unpacked (mapped d p) bs) ≡ true →
       Serves K s d (sends (longer b s d) (becomes (withHeld (set (s .axis .held) p (pdoData (take (mappedLength (mapped d p)) bs))) s)))
@@ -89,7 +106,7 @@ pub data Serves (K : Type 0) (s : State) (d : List ℕ) : Effect → Type 0 wher
   -- NMT
   starts : sound s d ≡ true → isOperational (s .node .nmt) ≡ false → Serves K s d (becomes (withNmt Operational s))
   leaves : Serves K s d (becomes (withNmt PreOperational (left s)))
-  stops : Serves K s d (becomes (withNmt Stopped (left (voltageDisabled s))))
+  stops : Serves K s d (becomes (withoutTransfer (withNmt Stopped (left (voltageDisabled s)))))
   resets : Serves K s d (commanded resetCommunication s)
   begins : Serves K s d (powerUp (s .node .id))
   -- events
@@ -148,39 +165,88 @@ module _ (K : Type 0) (s : State) (d : List ℕ) where
       (command-serves (nmtCommandOf (getD bs 0 0)) h) nothing
 
   -- SDO
-  module _ (rq : List ℕ) (octets : K → areBytes rq ≡ true) where
-    aborts : (a : Abort) → Serves K s d (abort a rq s)
-    unfolding abort
-    aborts a = replies aborted (abortCode a) rq (omega arith) octets
+  aborts : (a : Abort) {o : List ℕ} → (K → IsObject o) → Serves K s d (abort a o (withoutTransfer s))
+  unfolding abort reply
+  aborts a {o} object = replies NoTransfer (echoes aborted (abortCode a) o (omega arith) object)
 
-    row-serves : (x : Row) → In x table → (v : Verdict) → downloadVerdict rq (s .node .nmt) d x ≡ v →
-        Serves K s d (judged v rq (expedited rq x) s d)
+  module _ {fs : List Frame} {o : List ℕ} (said : Replied K s fs) (object : K → IsObject o) (offer : Row → Offer)
+      (own : (x : Row) → offer x .row ≡ x) (fits : K → (x : Row) → offer x .value < 256 ^ sizeOf x) where
+    judged-serves : (x : Row) → In x table → (v : Verdict) → offerVerdict (s .node .nmt) d (offer x) ≡ v →
+        Serves K s d (judged v fs o (offer x) (withoutTransfer s) d)
     unfolding judged
-    row-serves x i good e =
-        applies (write x (askedValue rq x) ∷ []) (replied rq octets) (λ k law. download-may rq s d (octets k) i e law)
-    row-serves x i (bad a) e = aborts a
+    judged-serves x i good e =
+        applies NoTransfer (write (offer x .row) (offer x .value) ∷ []) (replied said)
+        (λ k law. offer-may (offer x) s d (rw (own x) i) (rw (own x) (fits k x)) e law)
+    judged-serves x i (bad a) e = aborts a object
+
+    downloads-serve : (f : Found) → sought o ≡ f → Serves K s d (downloads fs o offer f (withoutTransfer s) d)
+    unfolding downloads
+    downloads-serve (found x) e = judged-serves x (found-in _ _ e) (offerVerdict (s .node .nmt) d (offer x)) refl
+    downloads-serve theName e = aborts noWriting object
+    downloads-serve noObject e = aborts absent object
+    downloads-serve noSubindex e = aborts absentSub object
+
+  module _ (runs : K → MayRun (s .transfer)) (rq : List ℕ) (octets : K → areBytes rq ≡ true) where
+    unfits : (a : Abort) → Serves K s d (unfit a s)
+    unfolding unfit
+    unfits a = aborts a (λ k. run-object (s .transfer) (runs k))
+
+    segment-answered : (t : Transfer) → Serves K s d (segmentAsked t rq s)
+    unfolding segmentAsked
+    segment-answered NoTransfer = unfits unknownCommand
+    segment-answered (Uploading k) =
+        whichever (Serves K s d) (Bool·beq (toggleOf rq) (toggleAt k)) (replies (nextOf k) (carries k)) (unfits wrongToggle)
+    segment-answered (Downloading g) = unfits unknownCommand
+
+    taking-small : (b : Bool) → segmentTaken + flag toggleBit b < 256
+    taking-small true = omega arith
+    taking-small false = omega arith
+
+    taken-serves : (g : Receipt) → (K → MayRun (Downloading g)) → Serves K s d (segmentSent (Downloading g) rq s d)
+    unfolding segmentSent concluded continued acknowledged
+    taken-serves g kept =
+        let P : Effect → Type 0 = Serves K s d in
+        let says : Replied K s (acknowledged g s) =
+        echoes (segmentTaken + flag toggleBit (g .toggle)) 0 nowhere (taking-small (g .toggle)) (λ k. run-object NoTransfer nothing-runs) in
+        whichever P (Bool·beq (toggleOf rq) (g .toggle))
+        (whichever P (isLast rq)
+        (downloads-serve says (λ k. run-object (Downloading g) (kept k)) (joined (gathered g (carried rq))) (λ x. refl)
+        (λ k x. value-take (sizeOf x) (bytesIn (gathered g (carried rq))) (carried-runs g rq (octets k) (kept k) .octets .1)) (sought (objectIn g))
+        refl)
+        (replies (Downloading (turned (gathered g (carried rq)))) says))
+        (unfits wrongToggle)
+
+    segment-served : (t : Transfer) → (K → MayRun t) → Serves K s d (segmentSent t rq s d)
+    unfolding segmentSent
+    segment-served NoTransfer kept = unfits unknownCommand
+    segment-served (Uploading k) kept = unfits unknownCommand
+    segment-served (Downloading g) kept = taken-serves g kept
 
     uploaded-small : (t : ValueType) → uploaded t < 256
     uploaded-small t = elim t [ u8 ↦ omega arith | u16 ↦ omega arith | u32 ↦ omega arith | i8 ↦ omega arith | i32 ↦ omega arith ]
 
-    download-serves : (f : Found) → lookup (askedIndex rq) (askedSubindex rq) ≡ f → Serves K s d (toObject true rq f s d)
-    unfolding toObject toRow
-    download-serves (found x) e = row-serves x (found-in _ _ e) (downloadVerdict rq (s .node .nmt) d x) refl
-    download-serves noObject e = aborts absent
-    download-serves noSubindex e = aborts absentSub
+    module _ (long : length rq ≡ requestLength) where
+      object : K → IsObject (objectOf rq)
+      object k = request-object rq long (octets k)
 
-    upload-serves : (f : Found) → Serves K s d (toObject false rq f s d)
-    unfolding toObject toRow
-    upload-serves (found x) = replies (uploaded (x .type)) (read d x) rq (uploaded-small (x .type)) octets
-    upload-serves noObject = aborts absent
-    upload-serves noSubindex = aborts absentSub
+      uploads-serve : (f : Found) → Serves K s d (uploads (objectOf rq) f (withoutTransfer s) d)
+      unfolding uploads nameAsked reply
+      uploads-serve (found x) = replies NoTransfer (echoes (uploaded (x .type)) (read d x) (objectOf rq) (uploaded-small (x .type)) object)
+      uploads-serve theName = replies (Uploading 0) (echoes uploadBegun (length deviceName) (objectOf rq) (omega arith) object)
+      uploads-serve noObject = aborts absent object
+      uploads-serve noSubindex = aborts absentSub object
 
-    pub asked-serves : (c : SdoCommand) → Serves K s d (asked c rq s d)
-    unfolding asked
-    asked-serves Download = download-serves (lookup (askedIndex rq) (askedSubindex rq)) refl
-    asked-serves Upload = upload-serves (lookup (askedIndex rq) (askedSubindex rq))
-    asked-serves ClientAbort = nothing
-    asked-serves Unknown = aborts unknownCommand
+      pub asked-serves : (c : SdoCommand) → Serves K s d (asked c rq s d)
+      unfolding asked downloadBegun askedValue
+      asked-serves Download =
+          downloads-serve (echoes downloaded 0 (objectOf rq) (omega arith) object) object (expedited rq) (λ x. refl)
+          (λ k x. value-take (sizeOf x) (drop dataPlace rq) (all-drop dataPlace rq (octets k))) (sought (objectOf rq)) refl
+      asked-serves DownloadBySegments = replies (Downloading (nothingYet (objectOf rq))) (echoes downloaded 0 (objectOf rq) (omega arith) object)
+      asked-serves DownloadSegment = segment-served (s .transfer) runs
+      asked-serves Upload = uploads-serve (sought (objectOf rq))
+      asked-serves UploadSegment = segment-answered (s .transfer)
+      asked-serves ClientAbort = replies NoTransfer silent
+      asked-serves Unknown = aborts unknownCommand object
 
   -- PDO
   refused-serves : (b : Bool) → Serves K s d (sends (longer b s d) (sends (emergency valueRefused s d) (becomes s)))
@@ -198,7 +264,7 @@ module _ (K : Type 0) (s : State) (d : List ℕ) where
       (λ short. by-test (λ e. P (sends (longer long s d) e)) (areLegal d (unpacked (mapped d p) bs))
       (λ legal. by-test (λ e. P (sends (longer long s d) e)) (isSynchronous (typeOf d p))
       (λ later. holds bs long i on later (ltb-false (length bs) k short) legal)
-      (λ now. applies front (warned long)
+      (λ now. applies (s .transfer) front (warned long)
       (λ q law. values-may s d (take k bs) i
       (ap (areLegal d) (unpacked-same (mapped d p) (take k bs) bs (take-take k k bs (omega arith))) ∙ legal) law)))
       (λ e. refused-serves long))
@@ -238,13 +304,15 @@ module _ (K : Type 0) (s : State) (d : List ℕ) where
       (whichever P (not (eqb (length bs) 0)) (alarms false badSyncLength)
       (whichever P (isOperational (s .node .nmt)) (releases (release-serves receivePdos s d (λ p i. i) law)) nothing))
 
-  pub framed-serves : (i : ℕ) (bs : List ℕ) → (K → areBytes bs ≡ true) → Lawful s d → sound s d ≡ true → Serves K s d (framed i bs s d)
+  pub framed-serves : (i : ℕ) (bs : List ℕ) → (K → areBytes bs ≡ true) → (K → MayRun (s .transfer)) → Lawful s d → sound s d ≡ true →
+      Serves K s d (framed i bs s d)
   unfolding framed sdo
-  framed-serves i bs octets law h =
+  framed-serves i bs octets runs law h =
       let P : Effect → Type 0 = Serves K s d in
       whichever P (eqb i nmtIdentifier) (nmt-serves K s d bs h)
       (whichever P (eqb i syncBase) (sync-serves bs law)
       (whichever P (eqb i (requestBase + s .node .id))
-      (whichever P (eqb (length bs) requestLength && not (isStopped (s .node .nmt))) (asked-serves K s d bs octets (commandOf (commandByte bs)))
-      nothing)
+      (by-test P (eqb (length bs) requestLength && not (isStopped (s .node .nmt)))
+      (λ e. asked-serves K s d runs bs octets (eqb-true _ _ (and-left (eqb (length bs) requestLength) _ e)) (commandOf (commandByte bs)))
+      (λ e. nothing))
       (received-by-serves K s d receivePdos i bs (λ p j. j))))

@@ -4,12 +4,13 @@ use lib.Seq.{drop-append-le, drop-at}
 use mathlib.Core.Bool.{and-false}
 use Rattle.theorems.proofs.Words.{ℕ, _+_, _≤_, _^_, _<_, arith, _≡_, refl, sym, _∙_, ap, subst, inl, inr, Bool, true, false, cond, not, _&&_}
 use Rattle.theorems.proofs.Words.{_||_, false≢true, drop-of-length-le, List, [], _∷_, _++_, append-nil, append-assoc, length, length-append}
-use Rattle.theorems.proofs.Words.{eqb, length-drop, drop, drop-drop, leb, DriveState, SetPoint, Store, Empty, Rested, Moving, Queued, Drive}
-use Rattle.theorems.proofs.Words.{State, In, here, there, Told, Happened, Bad, Started, QuickStopDone, ReactionDone, SetPointReached, Tick}
-use Rattle.theorems.proofs.Words.{CauseGone, Feedback, Voltage, within, same-or-apart, apart, same-self, length-store, read-same, read-apart}
-use Rattle.theorems.proofs.Words.{and-left, and-right, all-in, by-test, by-match, whichever, either, clash, implied}
+use Rattle.theorems.proofs.Words.{length-drop, drop, drop-drop, DriveState, SetPoint, Store, Empty, Rested, Moving, Queued, Drive, State, In}
+use Rattle.theorems.proofs.Words.{here, there, Happened, Started, QuickStopDone, ReactionDone, SetPointReached, Tick, CauseGone, Feedback}
+use Rattle.theorems.proofs.Words.{Voltage, within, same-or-apart, apart, same-self, length-store, read-same, read-apart, and-left, and-right}
+use Rattle.theorems.proofs.Words.{all-in, by-test, whichever, either, clash, implied, Event}
 use Rattle.theorems.proofs.Services.{Serves, Releases, applied-all}
-use Rattle.theorems.proofs.Runs.{Decides, decides, power-up-decided}
+use Rattle.theorems.proofs.Runs.{Holds, Known, Decides, decides, step-holds, begun-holds, run-holds, power-up-decided}
+use Rattle.theorems.proofs.Decisions.{Decided, decided-by}
 use Rattle.theorems.proofs.Settled.{control-in, register-in}
 use Rattle.theorems.proofs.Writes.{Fitting}
 use Rattle.theorems.proofs.Lawful.{Lawful, finally}
@@ -21,13 +22,11 @@ use Rattle.drive.specs.SetPoints.{positions, emptied, enters, withState, behind
 use Rattle.drive.specs.SetPoints.{setPointRule, modeWritten, controlWritten, reached, newSetPointBit, atOnceBit}
 use Rattle.rules_services.specs.Written.{wrote, countRestarted, modeActed, faultReset, controlActed, applied}
 use Rattle.rules_services.specs.Nmt.{commanded, powerUp, freshState, left, voltageDisabled}
-use Rattle.rules_services.specs.Events.{eventOf, isInPlace, happens, faulted}
-use Rattle.rules_services.specs.Effects.{Effect, andThen, withHeld}
+use Rattle.rules_services.specs.Events.{isInPlace, happens, faulted}
+use Rattle.rules_services.specs.Effects.{Effect, andThen, withHeld, withTransfer}
 use Rattle.rules_services.specs.declared.Event.the-variants.{Fault}
-use Rattle.rules.specs.Calls.{Call, powerUpCall, frameCall, eventCall, Decision, decided, decision, eventDecision, refused, accepted, answered}
-use Rattle.rules.specs.Calls.{answer, outputLength}
+use Rattle.rules.specs.Calls.{Call, Decision, refused, accepted, answered, answer, does as performs}
 use Rattle.rules.specs.Outcome.{ended}
-use Rattle.rules.specs.Sound.{sound}
 use Rattle.rules.proofs.AtEnd.{at-end}
 use Rattle.theorems.specs.Promises.{Step, Stand, after, octets, allOctets, Run, begun, reached as reachedBy, points, heldAt, decidedAt}
 use Rattle.theorems.specs.Promises.{writesOf, wordAfter, rise, edges, edgesIn, isReached, tellsReached, isAccepted, reachedIn, Passed}
@@ -237,9 +236,9 @@ releases-pass {s = s} {d = d} (Releases.next q ws {e} cleared may rest) =
 passes : {K : Type 0} {s : State} {d : List ℕ} {e : Effect} → Serves K s d e → K → Lawful s d → PassesBy s d e
 unfolding commanded powerUp freshState voltageDisabled left faulted
 passes Serves.nothing k law = stays
-passes (Serves.replies c v rq small octet) k law = stays
+passes (Serves.replies t said) k law = stays
 passes (Serves.alarms l code) k law = stays
-passes {s = s} {d = d} (Serves.applies ws before may) k law = applied-passes ws s d (law .long) (may k law .fit)
+passes {s = s} {d = d} (Serves.applies t ws before may) k law = applied-passes ws (withTransfer t s) d (law .long) (may k law .fit)
 passes (Serves.holds bs l i on synchronous long legal) k law = stays
 passes (Serves.releases r) k law = releases-pass r
 passes (Serves.starts q idle) k law = stays
@@ -268,7 +267,7 @@ abbrev PassesAs : ℕ → State → List ℕ → List ℕ → Decision → Type 
 PassesAs n s d o x =
     Passed (edges (read d controlWord) (writesOf x)) n (points (s .axis .drive .store)) (points (answered x s d o .state .axis .drive .store))
 
-answered-passes : {c : Call} {x : Decision} {s : State} {d : List ℕ} (o : List ℕ) → Decides s d c x → octets c ≡ true → PassesAs 0 s d o x
+answered-passes : {c : Call} {x : Decision} {s : State} {d : List ℕ} (o : List ℕ) → Decides s d c x → Known c s → PassesAs 0 s d o x
 unfolding answered refused accepted ended powerUp freshState
 answered-passes o (Decides.refuses r q) b = stays
 answered-passes {d = d} o (Decides.begins n legal long) b = rw (finally-store d (powerUp n)) (empties _)
@@ -279,47 +278,43 @@ module _ (s : State) (d o : List ℕ) where
   abbrev reachedIf : Bool → Decision → ℕ
   reachedIf six x = cond (isAccepted x && six) 1 0
 
-  told-passes : (t : Told) → isReached t ≡ true → PassesAs (reachedIf (isReached t) (eventDecision t s d)) s d o (eventDecision t s d)
-  unfolding eventDecision isInPlace happens answered refused accepted ended
-  told-passes (Happened SetPointReached) h =
-      by-match (λ x. PassesAs (reachedIf true x) s d o x) (isMoving (s .axis .drive .store))
-      (λ m. rw (finally-store d (happens SetPointReached s d)) (reached-passes (s .axis .drive .store) m (omega arith))) (λ m. stays)
-  told-passes (Happened Started) h = absurd (false≢true h)
-  told-passes (Happened QuickStopDone) h = absurd (false≢true h)
-  told-passes (Happened ReactionDone) h = absurd (false≢true h)
-  told-passes (Happened Tick) h = absurd (false≢true h)
-  told-passes (Happened CauseGone) h = absurd (false≢true h)
-  told-passes (Happened (Fault code register)) h = absurd (false≢true h)
-  told-passes (Happened (Feedback at speed)) h = absurd (false≢true h)
-  told-passes (Happened (Voltage b)) h = absurd (false≢true h)
-  told-passes Bad h = absurd (false≢true h)
+  event-passes : (e : Event) → isReached (Happened e) ≡ true → isInPlace e s ≡ true → PassesAs 1 s d o (performs (happens e s d))
+  unfolding isInPlace happens answered accepted ended
+  event-passes SetPointReached h moves =
+      rw (finally-store d (happens SetPointReached s d)) (reached-passes (s .axis .drive .store) moves (omega arith))
+  event-passes Started h placed = absurd (false≢true h)
+  event-passes QuickStopDone h placed = absurd (false≢true h)
+  event-passes ReactionDone h placed = absurd (false≢true h)
+  event-passes Tick h placed = absurd (false≢true h)
+  event-passes CauseGone h placed = absurd (false≢true h)
+  event-passes (Fault code register) h placed = absurd (false≢true h)
+  event-passes (Feedback at speed) h placed = absurd (false≢true h)
+  event-passes (Voltage b) h placed = absurd (false≢true h)
 
-  six-passes : (c : Call) → tellsReached c ≡ true → PassesAs (reachedIf (tellsReached c) (decided c s d o)) s d o (decided c s d o)
-  unfolding decided decision answered refused
-  six-passes (powerUpCall n) h = absurd (false≢true h)
-  six-passes (frameCall i bs) h = absurd (false≢true h)
-  six-passes (eventCall k xs) h =
-      let P : Decision → Type 0 = λ x. PassesAs (reachedIf (isReached (eventOf k xs)) x) s d o x in
-      by-match P (eqb (length d) dictionaryLength)
-      (λ l. by-match P (leb outputLength (length o))
-      (λ r. by-match P (sound s d) (λ q. told-passes (eventOf k xs) h) (λ q. stays)) (λ r. stays)) (λ l. stays)
+  six-passes : {c : Call} {x : Decision} → Decided s d c x → tellsReached c ≡ true → PassesAs (reachedIf (tellsReached c) x) s d o x
+  unfolding answered refused
+  six-passes (Decided.refusing r given why) six = stays
+  six-passes (Decided.powering n legal l) six = absurd (false≢true six)
+  six-passes (Decided.framing i bs l h) six = absurd (false≢true six)
+  six-passes (Decided.happening k xs e q placed l h) six = rw six (event-passes e (rw q at six) placed)
 
-step-passes : (k : Step) (a : Stand) → octets (k .call) ≡ true →
+step-passes : (k : Step) (a : Stand) → octets (k .call) ≡ true → Holds a →
     PassesAs (cond (isAccepted (decidedAt k a) && tellsReached (k .call)) 1 0) (a .state) (a .dictionary) (k .output) (decidedAt k a)
-step-passes k a b =
+step-passes k a b h =
     elim (either (tellsReached (k .call))) [
-      | inl e ↦ six-passes (a .state) (a .dictionary) (k .output) (k .call) e
-      | inr e ↦ rw (e, and-false) (answered-passes (k .output) (decides (a .state) (a .dictionary) (k .call) (k .output)) b)
+      | inl e ↦ six-passes (a .state) (a .dictionary) (k .output) (decided-by (a .state) (a .dictionary) (k .call) (k .output)) e
+      | inr e ↦ rw (e, and-false) (answered-passes (k .output) (decides (a .state) (a .dictionary) (k .call) (k .output)) (b, h .came))
     ]
 
 -- THE COUNT
-after-passes : (ks : List Step) (a : Stand) → allOctets ks → Passed (edgesIn ks a) (reachedIn ks a) (heldAt a) (heldAt (after ks a))
+after-passes : (ks : List Step) (a : Stand) → allOctets ks → Holds a → Passed (edgesIn ks a) (reachedIn ks a) (heldAt a) (heldAt (after ks a))
 unfolding after allOctets edgesIn reachedIn answer
-after-passes [] a b = stays
-after-passes (k ∷ ks) a b = onward (step-passes k a (b .0)) (after-passes ks (Promises.left k a) (b .1)) (omega arith) (omega arith)
+after-passes [] a b h = stays
+after-passes (k ∷ ks) a b h =
+    onward (step-passes k a (b .0) h) (after-passes ks (Promises.left k a) (b .1) (step-holds k a (b .0) h)) (omega arith) (omega arith)
 
 pub one-edge-takes-one : OneEdgeTakesOne
-one-edge-takes-one r ks b = after-passes ks (reachedBy r) b
+one-edge-takes-one r ks b = after-passes ks (reachedBy r) b (run-holds r)
 
 -- ---- since power-up, which leaves no set-point
 
@@ -334,7 +329,7 @@ begun-empty r =
 
 pub never-more-than-edges : NeverMoreThanEdges
 never-more-than-edges r =
-    let p = after-passes (r .steps) (begun r) (r .given) in
+    let p = after-passes (r .steps) (begun r) (r .given) (begun-holds r) in
     omega (
       arith,
       p .few,

@@ -3,13 +3,21 @@
 -- Assumes nothing.
 use Rattle.theorems.proofs.Words.{ℕ, zero, suc, _+_, _≡_, refl, Bool, true, not, _&&_, List, [], _∷_, _++_, map, eqb, ltb, length, getD}
 use Rattle.theorems.proofs.Words.{PdoData, ap, arith, drop, and-eq-true-iff, false, false≢true, Refusal, Accepted, OutOfPlace, SetPoint, _*_}
-use Rattle.theorems.proofs.Words.{cond, Empty, Rested, Moving, Queued, Store, isStopped, Pace, State}
+use Rattle.theorems.proofs.Words.{cond, Empty, Rested, Moving, Queued, Store, isStopped, Pace, State, Transfer, NoTransfer, Uploading}
+use Rattle.theorems.proofs.Words.{Downloading}
+use Rattle.theorems.proofs.Runs.{standing}
 use Rattle.rules_dictionary.specs.Plans.{mapped, plansOf}
 use Rattle.rules_dictionary.specs.Numbers.{all, areBytes, value, part, bit}
 use Rattle.rules_dictionary.specs.Table.{Row, statusWord, eachWay, controlWord, mode, same, modeDisplay}
 use Rattle.rules_dictionary.specs.Values.{write, read, stored, unpacked}
+use Rattle.rules_dictionary.specs.Aborts.{Verdict, abortCode, good, bad}
+use Rattle.rules_dictionary.specs.Legal.{modeNumber}
+use Rattle.drive.specs.SetPoints.{newSetPointBit}
+use Rattle.drive.specs.DriveStates.{stateWord}
 use Rattle.rules_services.specs.Effects.{frame, Frame}
 use Rattle.rules_services.specs.PdoTraffic.{listens, mappedLength, noData, works, areLegal}
+use Rattle.rules_services.specs.Nmt.{stateByte}
+use Rattle.rules_services.specs.Segments.{objectIn, bytesIn}
 use Rattle.rules.specs.Outcome.{statusOf, sameBy, samePlan, sameData, encoded, frameSize, sentInto}
 use Rattle.rules.specs.Calls.{Call, powerUpCall, frameCall, eventCall, Outcome, refusalNumber, answer}
 use Rattle.rules.specs.Sound.{sound}
@@ -17,43 +25,37 @@ use Rattle.rules.specs.Scripts.{blank, nothing, zeros, open-rules, Answers, giv
 use Rattle.rules.specs.Examples.{request, nmt, reply, example4, open-examples}
 use Rattle.theorems.specs.Promises.{Step, Stand, does, left, after, mayChange, open-promises, inOrderOfCause, heldAt, edges, edgesIn, reachedIn}
 use Rattle.theorems.specs.Promises.{Passed, keepsBitFour, HoldsBitFour, keepsExamples, RefusesEverything, RepliesAlike, SendsAlways}
-use Rattle.theorems.specs.Promises.{SendsNothingLater, ChangesNothingLater, requestVerdict, frameAt, dataFrom, uploadStatus}
-use Rattle.drive.specs.SetPoints.{newSetPointBit}
-use Rattle.rules_dictionary.specs.Aborts.{Verdict, abortCode, good, bad}
-use Rattle.rules_dictionary.specs.Legal.{modeNumber}
-use Rattle.drive.specs.DriveStates.{stateWord}
-use Rattle.rules_services.specs.Nmt.{stateByte}
-use Rattle.theorems.proofs.Runs.{standing}
+use Rattle.theorems.specs.Promises.{SendsNothingLater, ChangesNothingLater, frameAt, dataFrom, uploadStatus, nothingRuns, verdictAt}
 
 -- ---- the calls of the runs
 
-abbrev step : Call → Step
+abbrev pub step : Call → Step
 step c = record { call = c; output = blank }
 
 -- a run of node 5 from an empty dictionary
-abbrev ran : List Call → Stand
+abbrev pub ran : List Call → Stand
 ran cs = after (map step (powerUpCall 5 ∷ cs)) (record { state = nothing; dictionary = zeros })
 
 -- the call at the end of such a run
-abbrev answers : Call → List Call → Outcome
+abbrev pub answers : Call → List Call → Outcome
 answers c cs = does (step c) (ran cs)
 
 -- a test of a stand or an outcome, which is then worked out once
-abbrev seen : {A : Type 0} → A → (A → Bool) → Bool
+abbrev pub seen : {A : Type 0} → A → (A → Bool) → Bool
 seen a test = test a
 
-abbrev started : Call
+abbrev pub started : Call
 started = eventCall 1 []
 
 -- 6040h by SDO
-abbrev control : ℕ → Call
+abbrev pub control : ℕ → Call
 control w = request (0x2B ∷ 0x40 ∷ 0x60 ∷ 0x00 ∷ w ∷ 0x00 ∷ 0x00 ∷ 0x00 ∷ [])
 
 -- an entry of one byte by SDO
-abbrev write1 : ℕ → ℕ → ℕ → ℕ → Call
+abbrev pub write1 : ℕ → ℕ → ℕ → ℕ → Call
 write1 low high subindex b = request (0x2F ∷ low ∷ high ∷ subindex ∷ b ∷ 0x00 ∷ 0x00 ∷ 0x00 ∷ [])
 
-abbrev operational : Call
+abbrev pub operational : Call
 operational = nmt 0x01
 
 -- Ready in mode 1
@@ -92,22 +94,22 @@ fresh-when-started = refl
 abbrev blanked : List Row → List ℕ → List ℕ
 blanked xs d = stored (map (λ x. write x 0) xs) d
 
-abbrev keepsOthers : Call → Stand → Bool
+abbrev pub keepsOthers : Call → Stand → Bool
 keepsOthers c a =
     let xs = mayChange c (a .state) (a .dictionary) in sameBy eqb (blanked xs (does (step c) a .dictionary)) (blanked xs (a .dictionary))
 
 -- the list of the call is 6041h, 6061h and those indices, and the bytes of all other rows stay
-abbrev lists : Call → List ℕ → Stand → Bool
+abbrev pub lists : Call → List ℕ → Stand → Bool
 lists c xs a = sameBy eqb (map (λ x. x .index) (mayChange c (a .state) (a .dictionary))) (0x6041 ∷ 0x6061 ∷ xs) && keepsOthers c a
 
 -- tests of one stand, worked out once; and of the one that a further call leaves
-abbrev passes : List (Stand → Bool) → Stand → Bool
+abbrev pub passes : List (Stand → Bool) → Stand → Bool
 passes ts a = all (λ t. t a) ts
 
-abbrev then : Call → List (Stand → Bool) → Stand → Bool
+abbrev pub then : Call → List (Stand → Bool) → Stand → Bool
 then c ts a = passes ts (left (step c) a)
 
-abbrev syncOf : List ℕ → Call
+abbrev pub syncOf : List ℕ → Call
 syncOf bs = frameCall 0x080 bs
 
 -- in Pre-operational: 6040h outside Fault, a request of seven bytes, and a mode that 6060h does not take, by SDO; 82h for another node, and of
@@ -195,7 +197,7 @@ refused-keeps-output = refl
 
 -- ---- two stands, part by part
 
-abbrev flag : Bool → ℕ
+abbrev pub flag : Bool → ℕ
 flag b = cond b 1 0
 
 abbrev pointNumbers : SetPoint → List ℕ
@@ -207,7 +209,12 @@ storeNumbers (Rested t) = t ∷ []
 storeNumbers (Moving p) = pointNumbers p
 storeNumbers (Queued p q) = pointNumbers p ++ pointNumbers q
 
--- the node's part and the drive
+abbrev pub transferNumbers : Transfer → List ℕ
+transferNumbers NoTransfer = 0 ∷ []
+transferNumbers (Uploading k) = 1 ∷ k ∷ []
+transferNumbers (Downloading g) = 2 ∷ flag (g .toggle) ∷ g .count ∷ objectIn g ++ bytesIn g
+
+-- the node's part, the transfer and the drive
 abbrev stateNumbers : State → List ℕ
 stateNumbers s =
     let v = s .axis .drive in
@@ -220,12 +227,12 @@ stateNumbers s =
     ∷ flag (v .taken)
     ∷ flag (v .limit)
     ∷ flag (v .cause)
-    ∷ storeNumbers (v .store)
+    ∷ transferNumbers (s .transfer) ++ storeNumbers (v .store)
 
 abbrev samePace : Pace → Pace → Bool
 samePace k l = eqb (k .count) (l .count) && eqb (flag (k .due)) (flag (l .due))
 
-abbrev sameStand : Stand → Stand → Bool
+abbrev pub sameStand : Stand → Stand → Bool
 sameStand a b =
     let x = a .state .axis in
     let y = b .state .axis in
@@ -236,18 +243,22 @@ sameStand a b =
     && sameBy samePace (x .paces) (y .paces)
     && sameBy eqb (a .dictionary) (b .dictionary)
 
--- the call is accepted, sends so many frames, which are these bytes, and leaves the stand as it was: its whole answer
-abbrev onlySays : Call → Stand → ℕ → List ℕ → Bool
-onlySays c a n bs =
+-- the call is accepted, sends so many frames, which are these bytes, and leaves that stand: its whole answer
+abbrev pub saysAndLeaves : Call → Stand → ℕ → List ℕ → Stand → Bool
+saysAndLeaves c a n bs b =
     let u = does (step c) a in
     eqb (refusalNumber (u .refusal)) 0
     && eqb (u .frames) n
-    && sameStand (standing u) a
+    && sameStand (standing u) b
     && sameBy eqb (u .output) (bs ++ drop (frameSize * n) blank)
+
+-- .. and leaves it as it was
+abbrev pub onlySays : Call → Stand → ℕ → List ℕ → Bool
+onlySays c a n bs = saysAndLeaves c a n bs a
 
 -- a stand with much to lose: transmit PDO 3 of type 0 is due, transmit PDO 2 of type 3 and the heartbeat are counted once, and receive PDO 4
 -- of type 1 holds a frame
-abbrev busy : List Call
+abbrev pub busy : List Call
 busy =
     write1 0x02 0x18 0x02 0x00
     ∷ write1 0x01 0x18 0x02 0x03
@@ -260,7 +271,7 @@ busy =
     ∷ eventCall 7 []
     ∷ []
 
-abbrev isBusy : Stand → Bool
+abbrev pub isBusy : Stand → Bool
 isBusy a =
     let x = a .state .axis in
     sameBy eqb (map (λ k. k .count) (x .paces)) (0 ∷ 1 ∷ 0 ∷ 0 ∷ [])
@@ -271,22 +282,23 @@ isBusy a =
 -- ---- RefusedWriteChangesNothing: a write of the constant 1000h
 
 -- the code of a verdict; good is 0
-abbrev verdictCode : Verdict → ℕ
+abbrev pub verdictCode : Verdict → ℕ
 verdictCode good = 0
 verdictCode (bad c) = abortCode c
 
-abbrev verdictAt : Stand → List ℕ → ℕ
-verdictAt a rq = verdictCode (requestVerdict rq (a .state .node .nmt) (a .dictionary))
+abbrev pub codeAt : Stand → List ℕ → ℕ
+codeAt a rq = verdictCode (verdictAt rq a)
 
-abbrev writeConstant : List ℕ
+abbrev pub writeConstant : List ℕ
 writeConstant = 0x23 ∷ 0x00 ∷ 0x10 ∷ 0x00 ∷ 0x01 ∷ 0x00 ∷ 0x00 ∷ 0x00 ∷ []
 
 refused-write-stores-nothing :
-    seen (ran busy) (λ a. isBusy a && eqb (verdictAt a writeConstant) 0x06010002 && sameStand (left (step (request writeConstant)) a) a) ≡ true
+    seen (ran busy) (λ a. isBusy a && eqb (codeAt a writeConstant) 0x06010002 && sameStand (left (step (request writeConstant)) a) a) ≡ true
 unfolding open-rules open-promises
 refused-write-stores-nothing = refl
 
--- ---- AbortSaysWhy, TwelveCodes: each of the twelve, from one stand: transmit PDO 1 is invalid and maps nothing, with nine bytes in its entries
+-- ---- AbortSaysWhy, ThirteenCodes: each of the thirteen, from one stand: transmit PDO 1 is invalid and maps nothing, with nine bytes in its
+-- entries, and a download of 6060h by segments runs, which each of them ends
 abbrev unmapped : List Call
 unmapped =
     request (0x23 ∷ 0x00 ∷ 0x18 ∷ 0x01 ∷ 0x85 ∷ 0x01 ∷ 0x00 ∷ 0xC0 ∷ [])
@@ -294,29 +306,37 @@ unmapped =
     ∷ request (0x23 ∷ 0x00 ∷ 0x1A ∷ 0x01 ∷ 0x20 ∷ 0x00 ∷ 0x64 ∷ 0x60 ∷ [])
     ∷ request (0x23 ∷ 0x00 ∷ 0x1A ∷ 0x02 ∷ 0x20 ∷ 0x00 ∷ 0x6C ∷ 0x60 ∷ [])
     ∷ request (0x23 ∷ 0x00 ∷ 0x1A ∷ 0x03 ∷ 0x08 ∷ 0x00 ∷ 0x61 ∷ 0x60 ∷ [])
+    ∷ request (0x20 ∷ 0x60 ∷ 0x60 ∷ 0x00 ∷ 0x00 ∷ 0x00 ∷ 0x00 ∷ 0x00 ∷ [])
     ∷ []
 
 -- a request, the code of its verdict, and the bytes of its reply
-record Why : Type 0 where
+pub record Why : Type 0 where
   code : ℕ
   request : List ℕ
   reply : List ℕ
 
-abbrev why : ℕ → List ℕ → List ℕ → Why
+abbrev pub why : ℕ → List ℕ → List ℕ → Why
 why code rq bs = record { code = code; request = rq; reply = bs }
 
--- the verdict is that code, and the reply is the whole answer
-abbrev saysWhy : Stand → Why → Bool
+-- the verdict is that code, and the reply is the whole answer; then nothing runs
+abbrev pub saysWhy : Stand → Why → Bool
 saysWhy a w =
-    not (isStopped (a .state .node .nmt)) && eqb (verdictAt a (w .request)) (w .code) && onlySays (request (w .request)) a 1 (w .reply)
+    not (isStopped (a .state .node .nmt))
+    && eqb (codeAt a (w .request)) (w .code)
+    && saysAndLeaves (request (w .request)) a 1 (w .reply) (nothingRuns a)
 
-twelve-told :
+-- a segment of the name, asked for
+abbrev pub askSegment : List ℕ
+askSegment = 0x60 ∷ 0x00 ∷ 0x00 ∷ 0x00 ∷ 0x00 ∷ 0x00 ∷ 0x00 ∷ 0x00 ∷ []
+
+thirteen-told :
     all (saysWhy (ran unmapped))
     (
     why 0x05040001 (0xE0 ∷ 0x40 ∷ 0x60 ∷ 0x00 ∷ 0x06 ∷ 0x00 ∷ 0x00 ∷ 0x00 ∷ [])
     (0x85 ∷ 0x05 ∷ 0x08 ∷ 0x80 ∷ 0x40 ∷ 0x60 ∷ 0x00 ∷ 0x01 ∷ 0x00 ∷ 0x04 ∷ 0x05 ∷ [])
-    ∷ why 0x05040001 (0x21 ∷ 0x40 ∷ 0x60 ∷ 0x00 ∷ 0x06 ∷ 0x00 ∷ 0x00 ∷ 0x00 ∷ [])
-    (0x85 ∷ 0x05 ∷ 0x08 ∷ 0x80 ∷ 0x40 ∷ 0x60 ∷ 0x00 ∷ 0x01 ∷ 0x00 ∷ 0x04 ∷ 0x05 ∷ [])
+    ∷ why 0x05040001 askSegment (0x85 ∷ 0x05 ∷ 0x08 ∷ 0x80 ∷ 0x60 ∷ 0x60 ∷ 0x00 ∷ 0x01 ∷ 0x00 ∷ 0x04 ∷ 0x05 ∷ [])
+    ∷ why 0x05030000 (0x1D ∷ 0x01 ∷ 0x00 ∷ 0x00 ∷ 0x00 ∷ 0x00 ∷ 0x00 ∷ 0x00 ∷ [])
+    (0x85 ∷ 0x05 ∷ 0x08 ∷ 0x80 ∷ 0x60 ∷ 0x60 ∷ 0x00 ∷ 0x00 ∷ 0x00 ∷ 0x03 ∷ 0x05 ∷ [])
     ∷ why 0x06020000 (0x40 ∷ 0x00 ∷ 0x20 ∷ 0x00 ∷ 0x00 ∷ 0x00 ∷ 0x00 ∷ 0x00 ∷ [])
     (0x85 ∷ 0x05 ∷ 0x08 ∷ 0x80 ∷ 0x00 ∷ 0x20 ∷ 0x00 ∷ 0x00 ∷ 0x00 ∷ 0x02 ∷ 0x06 ∷ [])
     ∷ why 0x06090011 (0x40 ∷ 0x00 ∷ 0x10 ∷ 0x01 ∷ 0x00 ∷ 0x00 ∷ 0x00 ∷ 0x00 ∷ [])
@@ -341,18 +361,25 @@ twelve-told :
     (0x85 ∷ 0x05 ∷ 0x08 ∷ 0x80 ∷ 0x00 ∷ 0x1A ∷ 0x00 ∷ 0x42 ∷ 0x00 ∷ 0x04 ∷ 0x06 ∷ [])
     ∷ []) ≡ true
 unfolding open-rules open-promises
-twelve-told = refl
+thirteen-told = refl
+
+-- where none runs, a segment's abort names zeros
+none-to-name :
+    seen (ran []) (λ a. saysWhy a (why 0x05040001 askSegment (0x85 ∷ 0x05 ∷ 0x08 ∷ 0x80 ∷ 0x00 ∷ 0x00 ∷ 0x00 ∷ 0x01 ∷ 0x00 ∷ 0x04 ∷ 0x05 ∷ [])))
+    ≡ true
+unfolding open-rules open-promises
+none-to-name = refl
 
 -- ---- GoodIsServed: a download of 6040h, whose 60h goes before the transmit PDOs; an upload of 6041h; a client abort
 abbrev shutdownRequest : List ℕ
 shutdownRequest = 0x2B ∷ 0x40 ∷ 0x60 ∷ 0x00 ∷ 0x06 ∷ 0x00 ∷ 0x00 ∷ 0x00 ∷ []
 
-abbrev clientAborts : List ℕ
+abbrev pub clientAborts : List ℕ
 clientAborts = 0x80 ∷ 0x40 ∷ 0x60 ∷ 0x00 ∷ 0x00 ∷ 0x00 ∷ 0x04 ∷ 0x05 ∷ []
 
 good-served :
     seen (ran (started ∷ operational ∷ []))
-    (λ a. sameBy eqb (map (verdictAt a) (shutdownRequest ∷ uploadStatus ∷ clientAborts ∷ [])) (0 ∷ 0 ∷ 0 ∷ [])
+    (λ a. sameBy eqb (map (codeAt a) (shutdownRequest ∷ uploadStatus ∷ clientAborts ∷ [])) (0 ∷ 0 ∷ 0 ∷ [])
     && sameBy eqb (frameAt 0 (does (step (request shutdownRequest)) a .output))
     (0x85 ∷ 0x05 ∷ 0x08 ∷ 0x60 ∷ 0x40 ∷ 0x60 ∷ 0x00 ∷ 0x00 ∷ 0x00 ∷ 0x00 ∷ 0x00 ∷ [])
     && onlySays (request uploadStatus) a 1 (0x85 ∷ 0x05 ∷ 0x08 ∷ 0x4B ∷ 0x41 ∷ 0x60 ∷ 0x00 ∷ 0x40 ∷ 0x02 ∷ 0x00 ∷ 0x00 ∷ [])
@@ -384,11 +411,11 @@ abbrev cut : ℕ → List ℕ → List (List ℕ)
 cut zero o = []
 cut (suc n) o = (value (part 0 2 o) ∷ getD o 2 0 ∷ value (part 3 2 o) ∷ []) ∷ cut n (drop frameSize o)
 
-abbrev sentBy : Outcome → List (List ℕ)
+abbrev pub sentBy : Outcome → List (List ℕ)
 sentBy u = cut (u .frames) (u .output)
 
 -- a fault whose cause is gone, in Operational
-abbrev inFault : List Call
+abbrev pub inFault : List Call
 inFault = eventCall 3 (0x10 ∷ 0x23 ∷ 0x02 ∷ []) ∷ eventCall 4 [] ∷ eventCall 8 [] ∷ operational ∷ []
 
 -- an SDO write that resets it: the reply on 585h, the emergency on 085h, and behind them the four transmit PDOs

@@ -12,7 +12,7 @@ pub use borrow.Author.Tests.{eqb-true, eq-eqb, leb-false, ltb-false, ne-eqb, leb
 pub use lib.Dec.{eqb, leb, ltb}
 pub use lib.ListN.{drop-of-length-le, length, getD, set, drop, take-append-drop, length-drop, take, length-append, length-take}
 pub use lib.Seq.{sets, getD-set-other, sets-eq, length-take-le, drop-drop, take-take, take-nil}
-pub use lib.Seq.{take-at, drop-at}
+pub use lib.Seq.{take-at, drop-at, set-out}
 pub use lib.Bits.{bitOr, or-lt}
 pub use Rattle.drive.specs.declared.Command.the-variants.{DisableVoltage}
 pub use Rattle.drive.specs.declared.DriveState.the-variants.{SwitchOnDisabled, FaultReactionActive, Fault}
@@ -26,10 +26,13 @@ pub use Rattle.rules_dictionary.specs.Members.{In, here, there}
 pub use Rattle.rules_dictionary.specs.{declared.Access.Access, declared.Mode.Mode, declared.PdoData.PdoData, declared.Plan.Plan, declared.Role.Role}
 pub use Rattle.rules_services.specs.declared.Event.the-variants.{Started, QuickStopDone, ReactionDone, SetPointReached, Tick, CauseGone, Feedback}
 pub use Rattle.rules_services.specs.declared.Event.the-variants.{Voltage}
-pub use Rattle.rules_services.specs.declared.SdoCommand.the-variants.{Download, Upload, ClientAbort, Unknown}
+pub use Rattle.rules_services.specs.declared.SdoCommand.the-variants.{Download, DownloadBySegments, DownloadSegment, Upload, UploadSegment}
+pub use Rattle.rules_services.specs.declared.SdoCommand.the-variants.{ClientAbort, Unknown}
 pub use Rattle.rules_services.specs.declared.Told.the-variants.{Happened, Bad}
 pub use Rattle.rules_services.specs.{declared.Event.Event, declared.Paced.Paced, declared.SdoCommand.SdoCommand, declared.Told.Told}
 pub use Rattle.state.specs.declared.NmtState.the-variants.{PreOperational, Operational, Stopped}
+pub use Rattle.state.specs.declared.Transfer.the-variants.{NoTransfer, Uploading, Downloading}
+pub use Rattle.state.specs.{declared.Receipt.Receipt, declared.Transfer.Transfer}
 pub use Rattle.state.specs.declared.Refusal.the-variants.{Accepted, DictionaryLength, OutputLength, NodeId, NotSound, BadFrame, BadEvent, OutOfPlace}
 pub use Rattle.state.specs.NmtStates.{isStopped, isOperational, isPreOperational}
 pub use Rattle.state.specs.{declared.NmtState.NmtState, declared.Occasion.Occasion, declared.Occasion.the-variants.Synced}
@@ -40,7 +43,7 @@ pub use Rattle.rules_dictionary.proofs.Members.{in-append, in-map, in-left, wor
 pub use Rattle.rules_dictionary.proofs.Members.{entry-in, type-in, in-right}
 pub use Rattle.rules_dictionary.proofs.Rows.{bytes-value, part-bytes, read-fits, read-apart, read-same, length-store, length-stored, stored-bytes}
 pub use Rattle.rules_dictionary.proofs.Rows.{store-bytes, all-drop, all-take, bytes-are, field-stored, value-take}
-pub use Rattle.rules_dictionary.proofs.Rows.{value-bytes}
+pub use Rattle.rules_dictionary.proofs.Rows.{value-bytes, all-set}
 pub use Rattle.rules_dictionary.proofs.{LookUp.found-in, Packing.within, Packing.same-or-apart, Packing.apart, Packing.same-self}
 pub use Rattle.rules_dictionary.proofs.{Padded.length-padded, Padded.take-padded, Plans.joined-same}
 pub use Rattle.drive.proofs.Every.{on-states, on-ways}

@@ -1,25 +1,30 @@
 -- What holds after any calls: the statements that are made to the customer, in the order of his demands, with the few definitions that they
 -- need. They speak of the rules of document 01 alone; their proofs stand in proofs/.
 -- Assumes nothing.
-use Prim.Native.Nat.{ℕ, _+_, _*_, _<_, _≤_}
+use Prim.Native.Nat.{ℕ, _+_, _-_, _*_, _/_, _<_, _≤_}
 use mathlib.Core.Path.{_≡_}
 use mathlib.Core.Logic.{_⊎_}
-use mathlib.Core.Bool.{Bool, true, false, cond, not, _&&_, _||_}
-use mathlib.Core.List.{List, [], _∷_, _++_, map}
+use mathlib.Core.Bool.{Bool, true, false, cond, not, _&&_, _||_, Bool·beq}
+use mathlib.Core.List.{List, [], _∷_, _++_, map, flatMap}
 use lib.Dec.{eqb, leb, ltb}
-use lib.ListN.{length, getD, drop}
+use lib.ListN.{length, getD, take, drop}
 use Rattle.drive.specs.declared.SetPoint.{SetPoint}
 use Rattle.drive.specs.declared.Store.{Store}
 use Rattle.drive.specs.declared.Store.the-variants.{Empty, Rested, Moving, Queued}
+use Rattle.state.specs.declared.Receipt.{Receipt}
+use Rattle.state.specs.declared.Transfer.{Transfer}
+use Rattle.state.specs.declared.Transfer.the-variants.{NoTransfer, Uploading, Downloading}
 use Rattle.state.specs.declared.State.{State}
 use Rattle.state.specs.declared.Refusal.the-variants.{Accepted, NotSound}
-use Rattle.rules_dictionary.specs.Numbers.{all, any, areBytes, filter, bit, value, part, bytes}
+use Rattle.rules_dictionary.specs.Numbers.{all, any, areBytes, filter, bit, value, part, bytes, padded}
 use Rattle.rules_dictionary.specs.TheNode.{isNodeId}
-use Rattle.rules_dictionary.specs.Table.{Row, table, sizeOf, same, dictionaryLength, placeOf, isReset, Found, found, noObject, noSubindex, lookup}
+use Rattle.rules_dictionary.specs.Table.{Row, table, sizeOf, same, dictionaryLength, placeOf, isReset, Found, found, theName, noObject, noSubindex}
+use Rattle.rules_dictionary.specs.DeviceName.{deviceName}
 use Rattle.rules_dictionary.specs.Table.{statusWord, mode, modeDisplay, controlWord, errorCode, errorRegister, position, velocity, identifier}
 use Rattle.rules_dictionary.specs.Table.{mappingRows, eachWay, pdos, receivePdos, transmitPdos}
 use Rattle.rules_dictionary.specs.Values.{Write, write, read, field, stored, unpacked}
-use Rattle.rules_dictionary.specs.Aborts.{Abort, bad, isGood, abortCode, Verdict, good, test, firstOf, unknownCommand, noObject as absent}
+use Rattle.rules_dictionary.specs.Aborts.{Abort, bad, isGood, abortCode, Verdict, good, test, firstOf, unknownCommand, wrongToggle}
+use Rattle.rules_dictionary.specs.Aborts.{noObject as absent}
 use Rattle.rules_dictionary.specs.Aborts.{noSubindex as absentSub, noWriting, tooLong, tooShort, wrongTime, belowRange, aboveRange, badValue}
 use Rattle.rules_dictionary.specs.Aborts.{notMappable, overLength}
 use Rattle.rules_dictionary.specs.Legal.{isSynchronous, frameIdentifier}
@@ -29,14 +34,19 @@ use Rattle.rules_dictionary.specs.declared.PdoData.{PdoData}
 use Rattle.drive.specs.DriveStates.{isFault, faultResetBit}
 use Rattle.drive.specs.SetPoints.{newSetPointBit}
 use Rattle.drive.specs.declared.Drive.{Drive}
-use Rattle.rules_services.specs.Effects.{Frame, frame}
+use Rattle.rules_services.specs.Effects.{Frame, frame, withTransfer}
 use Rattle.state.specs.NmtStates.{isStopped, isOperational}
 use Rattle.rules_services.specs.Emergency.{emergencyBase, pdoTooShort, faultGone, valueRefused, pdoTooLong}
 use Rattle.rules_services.specs.declared.SdoCommand.{SdoCommand as Command}
-use Rattle.rules_services.specs.declared.SdoCommand.the-variants.{Download as download, Upload as upload, ClientAbort as clientAbort}
-use Rattle.rules_services.specs.declared.SdoCommand.the-variants.{Unknown as unknown}
-use Rattle.rules_services.specs.Sdo.{commandOf, commandByte, askedIndex, askedSubindex, askedValue, downloadVerdict, requestBase, requestLength}
-use Rattle.rules_services.specs.Sdo.{replyBase, commandNumber, expeditedBit, uploaded, dataSize}
+use Rattle.rules_services.specs.declared.SdoCommand.the-variants.{Download as download, DownloadBySegments as downloadBySegments}
+use Rattle.rules_services.specs.declared.SdoCommand.the-variants.{DownloadSegment as downloadSegment, Upload as upload}
+use Rattle.rules_services.specs.declared.SdoCommand.the-variants.{UploadSegment as uploadSegment}
+use Rattle.rules_services.specs.declared.SdoCommand.the-variants.{ClientAbort as clientAbort, Unknown as unknown}
+use Rattle.rules_services.specs.Sdo.{commandByte, objectOf, sought, requestBase, requestLength, replyBase, uploaded, dataSize, dataPlace}
+use Rattle.rules_services.specs.Sdo.{Offer, expedited, offerVerdict, sizeToldBit, unusedBytes}
+use Rattle.rules_services.specs.Segments.{toggleOf, isLast, carried, flag, toggleBit, objectRun, nameObject, segment, isLastOf, toggleAt, nextOf}
+use Rattle.rules_services.specs.Segments.{objectIn, bytesIn, nothingYet, gathered, turned, joined, tooMany, segmentSize}
+use Rattle.rules_services.specs.SdoServer.{commandOf}
 use Rattle.rules_services.specs.PdoTraffic.{listens, typeOf, mappedLength, areLegal, transmitted, noData, isHeld, syncBase, works}
 use Rattle.rules_services.specs.Nmt.{nmtIdentifier, nmtLength, everyNode, heartbeatBase, commandOf as nmtCommandOf, NmtCommand, start, stop}
 use Rattle.rules_services.specs.Nmt.{enterPreOperational, resetNode, resetCommunication, unknown as unknownNmt}
@@ -110,6 +120,13 @@ reached r = after (r .steps) (begun r)
 abbrev pub onlySends : List Frame → Stand → List ℕ → Outcome
 onlySends fs a o = record { refusal = Accepted; frames = length fs; state = a .state; dictionary = a .dictionary; output = sentInto o fs }
 
+-- the same with another transfer in progress, or with none
+abbrev pub running : Transfer → Stand → Stand
+running t a = record { state = withTransfer t (a .state); dictionary = a .dictionary }
+
+abbrev pub nothingRuns : Stand → Stand
+nothingRuns a = running NoTransfer a
+
 -- the eleven bytes of an output's frame of that number, from 0 on
 abbrev pub frameAt : ℕ → List ℕ → List ℕ
 frameAt n o = part (frameSize * n) frameSize o
@@ -122,79 +139,144 @@ RefusedMeansNothing = (k : Step) (a : Stand) → (does k a .refusal ≡ Accepted
 
 -- ---- demand 1, "A refused SDO write gives the abort code that document 01 names": what it names for a request, in its order
 
--- "Command bits 7-5: 1 download, 2 upload, 4 client abort (no reply)"
-abbrev pub isDownload : ℕ → Bool
-isDownload c = eqb (commandNumber c) 1
+-- "Then, in order: no object 06020000h; no subindex 06090011h; download to c or o ..": what follows is a download's. 1008h is a constant
+unfoldable pub objectVerdict : Bool → (Row → Offer) → NmtState → List ℕ → Found → Verdict
+objectVerdict writing offer nmt d noObject = bad absent
+objectVerdict writing offer nmt d noSubindex = bad absentSub
+objectVerdict writing offer nmt d theName = cond writing (bad noWriting) good
+objectVerdict writing offer nmt d (found x) = cond writing (offerVerdict nmt d (offer x)) good
 
-abbrev pub isUpload : ℕ → Bool
-isUpload c = eqb (commandNumber c) 2
+-- ticket 1: "a segment with no transfer of its direction running, 05040001h", looked at before "wrong toggle 05030000h"
+unfoldable pub segmentVerdict : Bool → List ℕ → Verdict → Verdict
+segmentVerdict due rq v = firstOf (test (not (Bool·beq (toggleOf rq) due)) wrongToggle ∷ []) v
 
-abbrev pub isClientAbort : ℕ → Bool
-isClientAbort c = eqb (commandNumber c) 4
+unfoldable pub askedVerdict : Transfer → List ℕ → Verdict
+askedVerdict NoTransfer rq = bad unknownCommand
+askedVerdict (Uploading k) rq = segmentVerdict (toggleAt k) rq good
+askedVerdict (Downloading g) rq = bad unknownCommand
 
--- "Then, in order: no object 06020000h; no subindex 06090011h; download to c or o ..": what follows is a download's
-unfoldable pub objectVerdict : Bool → List ℕ → NmtState → List ℕ → Found → Verdict
-objectVerdict writing rq nmt d noObject = bad absent
-objectVerdict writing rq nmt d noSubindex = bad absentSub
-objectVerdict writing rq nmt d (found x) = cond writing (downloadVerdict rq nmt d x) good
+-- "A download is checked as an expedited one is, in 01's order, at its last segment"
+unfoldable pub sentVerdict : Transfer → List ℕ → NmtState → List ℕ → Verdict
+sentVerdict NoTransfer rq nmt d = bad unknownCommand
+sentVerdict (Uploading k) rq nmt d = bad unknownCommand
+sentVerdict (Downloading g) rq nmt d =
+    segmentVerdict (g .toggle) rq (cond (isLast rq) (objectVerdict true (joined (gathered g (carried rq))) nmt d (sought (objectIn g))) good)
 
--- ".. else abort 05040001h. Download: bit 1 must be 1, else 05040001h"
-unfoldable pub requestVerdict : List ℕ → NmtState → List ℕ → Verdict
-requestVerdict rq nmt d =
-    let c = commandByte rq in
-    firstOf
-    (test (not (isDownload c || isUpload c || isClientAbort c)) unknownCommand
-    ∷ test (isDownload c && not (bit expeditedBit c)) unknownCommand
-    ∷ [])
-    (cond (isClientAbort c) good (objectVerdict (isDownload c) rq nmt d (lookup (askedIndex rq) (askedSubindex rq))))
+-- "Command bits 7-5: 1 download, 2 upload, 4 client abort (no reply), else abort 05040001h"
+unfoldable pub verdictOn : Command → List ℕ → State → List ℕ → Verdict
+verdictOn download rq s d = objectVerdict true (expedited rq) (s .node .nmt) d (sought (objectOf rq))
+verdictOn downloadBySegments rq s d = good
+verdictOn downloadSegment rq s d = sentVerdict (s .transfer) rq (s .node .nmt) d
+verdictOn upload rq s d = objectVerdict false (expedited rq) (s .node .nmt) d (sought (objectOf rq))
+verdictOn uploadSegment rq s d = askedVerdict (s .transfer) rq
+verdictOn clientAbort rq s d = good
+verdictOn unknown rq s d = bad unknownCommand
+
+abbrev pub commandIn : List ℕ → Command
+commandIn rq = commandOf (commandByte rq)
+
+abbrev pub requestVerdict : List ℕ → State → List ℕ → Verdict
+requestVerdict rq s d = verdictOn (commandIn rq) rq s d
+
+abbrev pub verdictAt : List ℕ → Stand → Verdict
+verdictAt rq a = requestVerdict rq (a .state) (a .dictionary)
+
+-- "Index and subindex are echoed"; "a segment's abort names its object, zeros if none ran"
+abbrev pub objectOn : Command → List ℕ → Transfer → List ℕ
+objectOn download rq t = objectOf rq
+objectOn downloadBySegments rq t = objectOf rq
+objectOn downloadSegment rq t = objectRun t
+objectOn upload rq t = objectOf rq
+objectOn uploadSegment rq t = objectRun t
+objectOn clientAbort rq t = objectOf rq
+objectOn unknown rq t = objectOf rq
 
 -- a request to the node that stands there
 abbrev pub requested : List ℕ → List ℕ → Stand → Step
 requested rq o a = record { call = frameCall (requestBase + a .state .node .id) rq; output = o }
 
--- "80h and code. Index and subindex are echoed": whatever is aborted gives the code of its verdict, and this is the whole answer
-abbrev pub AbortSaysWhy : Type 0
-AbortSaysWhy = (r : Run) (rq o : List ℕ) (c : Abort) → length rq ≡ requestLength → isStopped (reached r .state .node .nmt) ≡ false →
-    outputLength ≤ length o → requestVerdict rq (reached r .state .node .nmt) (reached r .dictionary) ≡ bad c →
-    does (requested rq o (reached r)) (reached r)
-    ≡ onlySends (frame (replyBase + reached r .state .node .id) (0x80 ∷ part 1 3 rq ++ bytes dataSize (abortCode c)) ∷ []) (reached r) o
+-- it is served: "in Pre-operational and Operational, 600h+N, length 8", with room for what is sent
+pub record Heard (rq o : List ℕ) (a : Stand) : Type 0 where
+  pub whole : length rq ≡ requestLength
+  pub served : isStopped (a .state .node .nmt) ≡ false
+  pub room : outputLength ≤ length o
 
--- the codes as the paper prints them
+-- a frame on 580h+N
+abbrev pub says : Stand → List ℕ → Frame
+says a content = frame (replyBase + a .state .node .id) content
+
+-- "80h and code": whatever is aborted gives the code of its verdict, "any abort .. ends a running transfer", and this is the whole answer
+abbrev pub AbortSaysWhy : Type 0
+AbortSaysWhy = (r : Run) (rq o : List ℕ) (c : Abort) → Heard rq o (reached r) → verdictAt rq (reached r) ≡ bad c →
+    does (requested rq o (reached r)) (reached r)
+    ≡ onlySends (says (reached r) (0x80 ∷ objectOn (commandIn rq) rq (reached r .state .transfer) ++ bytes dataSize (abortCode c)) ∷ [])
+    (nothingRuns (reached r)) o
+
+-- the codes as the paper and the ticket print them
 abbrev pub codes : List ℕ
 codes =
-    0x05040001 ∷ 0x06020000 ∷ 0x06090011 ∷ 0x06010002 ∷ 0x06070012 ∷ 0x06070013 ∷ 0x08000022 ∷ 0x06090032 ∷ 0x06090031 ∷ 0x06090030
+    0x05040001 ∷ 0x05030000 ∷ 0x06020000 ∷ 0x06090011 ∷ 0x06010002 ∷ 0x06070012 ∷ 0x06070013 ∷ 0x08000022 ∷ 0x06090032 ∷ 0x06090031 ∷ 0x06090030
     ∷ 0x06040041 ∷ 0x06040042 ∷ []
 
 -- each has its name, and no abort has another code
-abbrev pub TwelveCodes : Type 0
-TwelveCodes =
+abbrev pub ThirteenCodes : Type 0
+ThirteenCodes =
     (map abortCode
-    (unknownCommand ∷ absent ∷ absentSub ∷ noWriting ∷ tooLong ∷ tooShort ∷ wrongTime ∷ belowRange ∷ aboveRange ∷ badValue
+    (unknownCommand ∷ wrongToggle ∷ absent ∷ absentSub ∷ noWriting ∷ tooLong ∷ tooShort ∷ wrongTime ∷ belowRange ∷ aboveRange ∷ badValue
     ∷ notMappable ∷ overLength ∷ [])
     ≡ codes)
     × ((c : Abort) → any (eqb (abortCode c)) codes ≡ true)
 
--- and a request with no fault is not aborted. Its reply is 60h to a download, before all else that is sent; to an upload the object's value,
--- and this is the whole answer; to a client abort there is none
+-- and a request with no fault is not aborted. To an upload the reply is the object's value, of 1008h its length, and this is the whole answer
+abbrev pub Uploaded : Found → List ℕ → Stand → List ℕ → Outcome → Type 0
+Uploaded (found x) rq a o u =
+    u ≡ onlySends (says a (uploaded (x .type) ∷ objectOf rq ++ bytes dataSize (read (a .dictionary) x)) ∷ []) (nothingRuns a) o
+Uploaded theName rq a o u = u ≡ onlySends (says a (0x41 ∷ objectOf rq ++ bytes dataSize (length deviceName)) ∷ []) (running (Uploading 0) a) o
+Uploaded noObject rq a o u = ⊥
+Uploaded noSubindex rq a o u = ⊥
+
+-- to a segment of 1008h it is that segment, the whole answer too
+abbrev pub SegmentAnswered : Transfer → Stand → List ℕ → Outcome → Type 0
+SegmentAnswered NoTransfer a o u = ⊥
+SegmentAnswered (Uploading k) a o u = u ≡ onlySends (segment k (a .state)) (running (nextOf k) a) o
+SegmentAnswered (Downloading g) a o u = ⊥
+
+abbrev pub fourZeros : List ℕ
+fourZeros = 0x00 ∷ 0x00 ∷ 0x00 ∷ 0x00 ∷ []
+
+-- 20h or 30h, and seven zeros
+abbrev pub taking : Bool → Stand → Frame
+taking b a = says a ((0x20 + flag toggleBit b) ∷ 0x00 ∷ 0x00 ∷ 0x00 ∷ fourZeros)
+
+-- to a download's segment it is this, before all else that is sent; before the last one it is the whole answer
+abbrev pub SegmentTaken : Transfer → List ℕ → Stand → List ℕ → Outcome → Type 0
+SegmentTaken NoTransfer rq a o u = ⊥
+SegmentTaken (Uploading k) rq a o u = ⊥
+SegmentTaken (Downloading g) rq a o u =
+    (u .refusal ≡ Accepted) × (frameAt 0 (u .output) ≡ encoded (taking (g .toggle) a))
+    × (isLast rq ≡ false → u ≡ onlySends (taking (g .toggle) a ∷ []) (running (Downloading (turned (gathered g (carried rq)))) a) o)
+
+-- and to a download 60h: an expedited one is stored and acted on behind it, one by segments begins
 abbrev pub Served : Command → List ℕ → Stand → List ℕ → Outcome → Type 0
 Served download rq a o u =
-    (u .refusal ≡ Accepted)
-    × (frameAt 0 (u .output) ≡ encoded (frame (replyBase + a .state .node .id) (0x60 ∷ part 1 3 rq ++ (0x00 ∷ 0x00 ∷ 0x00 ∷ 0x00 ∷ []))))
-Served upload rq a o u =
-    (x : Row) × (lookup (askedIndex rq) (askedSubindex rq) ≡ found x)
-    × (u ≡ onlySends (frame (replyBase + a .state .node .id) (uploaded (x .type) ∷ part 1 3 rq ++ bytes dataSize (read (a .dictionary) x)) ∷ []) a o)
-Served clientAbort rq a o u = u ≡ onlySends [] a o
+    (u .refusal ≡ Accepted) × (frameAt 0 (u .output) ≡ encoded (says a (0x60 ∷ objectOf rq ++ fourZeros))) × (u .state .transfer ≡ NoTransfer)
+Served downloadBySegments rq a o u =
+    u ≡ onlySends (says a (0x60 ∷ objectOf rq ++ fourZeros) ∷ []) (running (Downloading (nothingYet (objectOf rq))) a) o
+Served downloadSegment rq a o u = SegmentTaken (a .state .transfer) rq a o u
+Served upload rq a o u = Uploaded (sought (objectOf rq)) rq a o u
+Served uploadSegment rq a o u = SegmentAnswered (a .state .transfer) a o u
+Served clientAbort rq a o u = u ≡ onlySends [] (nothingRuns a) o
 Served unknown rq a o u = ⊥
 
 abbrev pub GoodIsServed : Type 0
-GoodIsServed = (r : Run) (rq o : List ℕ) → length rq ≡ requestLength → isStopped (reached r .state .node .nmt) ≡ false → outputLength ≤ length o →
-    requestVerdict rq (reached r .state .node .nmt) (reached r .dictionary) ≡ good →
-    Served (commandOf (commandByte rq)) rq (reached r) o (does (requested rq o (reached r)) (reached r))
+GoodIsServed = (r : Run) (rq o : List ℕ) → Heard rq o (reached r) → verdictAt rq (reached r) ≡ good →
+    Served (commandIn rq) rq (reached r) o (does (requested rq o (reached r)) (reached r))
 
--- "and a refused write .. changes no object": whatever is aborted leaves the dictionary and the state as they were, where it is not served as well
+-- "and a refused write .. changes no object": whatever is aborted leaves the dictionary, and the state but for the transfer, as they were, where
+-- it is not served as well
 abbrev pub RefusedWriteChangesNothing : Type 0
-RefusedWriteChangesNothing = (r : Run) (rq o : List ℕ) (c : Abort) →
-    requestVerdict rq (reached r .state .node .nmt) (reached r .dictionary) ≡ bad c → left (requested rq o (reached r)) (reached r) ≡ reached r
+RefusedWriteChangesNothing = (r : Run) (rq o : List ℕ) (c : Abort) → verdictAt rq (reached r) ≡ bad c →
+    nothingRuns (left (requested rq o (reached r)) (reached r)) ≡ nothingRuns (reached r)
 
 -- ---- "or a dropped process frame changes no object"
 
@@ -388,15 +470,25 @@ ChangesOnlyItsWrites = (k : Step) (a : Stand) (i : ℕ) →
 
 -- the frames that a call applies, each as the values that it brings
 
--- an SDO write: a download of an object that is there, which no abort answers
-abbrev pub toFound : List ℕ → State → List ℕ → Found → List (List Write)
-toFound rq s d (found x) = cond (isGood (downloadVerdict rq (s .node .nmt) d x)) ((write x (askedValue rq x) ∷ []) ∷ []) []
-toFound rq s d noObject = []
-toFound rq s d noSubindex = []
+-- an SDO write: a download of an object that is there, which no abort answers; by segments, at the last of them
+abbrev pub toFound : (Row → Offer) → State → List ℕ → Found → List (List Write)
+toFound offer s d (found x) = cond (isGood (offerVerdict (s .node .nmt) d (offer x))) ((write x (offer x .value) ∷ []) ∷ []) []
+toFound offer s d theName = []
+toFound offer s d noObject = []
+toFound offer s d noSubindex = []
+
+abbrev pub bySegment : Transfer → List ℕ → State → List ℕ → List (List Write)
+bySegment NoTransfer rq s d = []
+bySegment (Uploading k) rq s d = []
+bySegment (Downloading g) rq s d =
+    cond (Bool·beq (toggleOf rq) (g .toggle) && isLast rq) (toFound (joined (gathered g (carried rq))) s d (sought (objectIn g))) []
 
 abbrev pub bySdo : Command → List ℕ → State → List ℕ → List (List Write)
-bySdo download rq s d = toFound rq s d (lookup (askedIndex rq) (askedSubindex rq))
+bySdo download rq s d = toFound (expedited rq) s d (sought (objectOf rq))
+bySdo downloadBySegments rq s d = []
+bySdo downloadSegment rq s d = bySegment (s .transfer) rq s d
 bySdo upload rq s d = []
+bySdo uploadSegment rq s d = []
 bySdo clientAbort rq s d = []
 bySdo unknown rq s d = []
 
@@ -424,7 +516,7 @@ unfoldable pub applies : ℕ → List ℕ → State → List ℕ → List (List 
 applies i bs s d =
     cond (eqb i syncBase) (cond (isOperational (s .node .nmt) && eqb (length bs) 0) (bySync s d) [])
     (cond (eqb i (requestBase + s .node .id))
-    (cond (eqb (length bs) requestLength && not (isStopped (s .node .nmt))) (bySdo (commandOf (commandByte bs)) bs s d) [])
+    (cond (eqb (length bs) requestLength && not (isStopped (s .node .nmt))) (bySdo (commandIn bs) bs s d) [])
     (byPdo i bs s d))
 
 -- a fault that a fault reset clears: "Fault: Fault reset without cause to disabled, 1001h to 0"
@@ -520,7 +612,7 @@ NoOldMapping = (r : Run) (k : Step) → octets (k .call) ≡ true →
 
 -- "a status word in a sent frame that differs from the one read by SDO a moment later": of any call, take a frame on the identifier of a
 -- working transmit PDO that maps 6041h. An upload of 6041h right after the call answers with the very two bytes that stand in that frame, and
--- changes nothing
+-- changes nothing but that no transfer runs
 
 -- the place of a frame's data in its eleven bytes: behind the identifier (2) and the length
 abbrev pub dataFrom : ℕ
@@ -537,8 +629,8 @@ SameStatusWord = (r : Run) (k : Step) (t n : ℕ) (xs ys : List Row) (o : List �
     works (a .state .node .nmt) (a .dictionary) (eachWay + t) ≡ true → mapped (a .dictionary) (eachWay + t) ≡ xs ++ statusWord ∷ ys →
     n < u .frames → part 0 2 (frameAt n (u .output)) ≡ bytes 2 (frameIdentifier (read (a .dictionary) (identifier (eachWay + t)))) →
     does (requested uploadStatus o a) a
-    ≡ onlySends (frame (replyBase + a .state .node .id)
-    (0x4B ∷ 0x41 ∷ 0x60 ∷ 0x00 ∷ part (dataFrom + mappedLength xs) 2 (frameAt n (u .output)) ++ (0x00 ∷ 0x00 ∷ [])) ∷ []) a o
+    ≡ onlySends (says a
+    (0x4B ∷ 0x41 ∷ 0x60 ∷ 0x00 ∷ part (dataFrom + mappedLength xs) 2 (frameAt n (u .output)) ++ (0x00 ∷ 0x00 ∷ [])) ∷ []) (nothingRuns a) o
 
 -- "set-points taken twice because somebody looked at the level of a bit and missed its edge": by counting, so that one which is taken again
 -- with the same numbers counts too
@@ -631,7 +723,165 @@ abbrev pub HeldBitTakesNothing : Type 0
 HeldBitTakesNothing = (r : Run) (ks : List Step) → allOctets ks → HoldsBitFour ks (reached r) →
     (n : ℕ) × (heldAt (after ks (reached r)) ≡ drop n (heldAt (reached r))) × (reachedIn ks (reached r) ≤ n) × (n ≤ length (heldAt (reached r)))
 
+-- ---- ticket 1, segments: "Demand 2 reads the transfer in progress as part of the state."
+
+-- "A new initiate, any abort, 82h or leaving the NMT states that serve SDO ends a running transfer": what is in progress after a call, of every
+-- state. A request makes of it ..
+abbrev pub afterSent : Transfer → List ℕ → Transfer
+afterSent NoTransfer rq = NoTransfer
+afterSent (Uploading k) rq = NoTransfer
+afterSent (Downloading g) rq =
+    cond (Bool·beq (toggleOf rq) (g .toggle) && not (isLast rq)) (Downloading (turned (gathered g (carried rq)))) NoTransfer
+
+abbrev pub afterAsked : Transfer → List ℕ → Transfer
+afterAsked NoTransfer rq = NoTransfer
+afterAsked (Uploading k) rq = cond (Bool·beq (toggleOf rq) (toggleAt k)) (nextOf k) NoTransfer
+afterAsked (Downloading g) rq = NoTransfer
+
+abbrev pub afterUpload : Found → Transfer
+afterUpload (found x) = NoTransfer
+afterUpload theName = Uploading 0
+afterUpload noObject = NoTransfer
+afterUpload noSubindex = NoTransfer
+
+abbrev pub afterRequest : Command → List ℕ → Transfer → Transfer
+afterRequest download rq t = NoTransfer
+afterRequest downloadBySegments rq t = Downloading (nothingYet (objectOf rq))
+afterRequest downloadSegment rq t = afterSent t rq
+afterRequest upload rq t = afterUpload (sought (objectOf rq))
+afterRequest uploadSegment rq t = afterAsked t rq
+afterRequest clientAbort rq t = NoTransfer
+afterRequest unknown rq t = NoTransfer
+
+-- .. an NMT command to this node ..
+abbrev pub afterCommand : NmtCommand → Transfer → Transfer
+afterCommand start t = t
+afterCommand stop t = NoTransfer
+afterCommand enterPreOperational t = t
+afterCommand resetNode t = NoTransfer
+afterCommand resetCommunication t = NoTransfer
+afterCommand unknownNmt t = t
+
+-- .. and nothing else touches it: no other frame, no request of another length or while Stopped, no event
+unfoldable pub afterFrame : ℕ → List ℕ → State → Transfer
+afterFrame i bs s =
+    cond (eqb i nmtIdentifier)
+    (cond (eqb (length bs) nmtLength && (eqb (getD bs 1 0) everyNode || eqb (getD bs 1 0) (s .node .id)))
+    (afterCommand (nmtCommandOf (getD bs 0 0)) (s .transfer)) (s .transfer))
+    (cond (eqb i (requestBase + s .node .id) && eqb (length bs) requestLength && not (isStopped (s .node .nmt)))
+    (afterRequest (commandIn bs) bs (s .transfer)) (s .transfer))
+
+abbrev pub afterCall : Call → State → Transfer
+afterCall (powerUpCall n) s = NoTransfer
+afterCall (frameCall i bs) s = afterFrame i bs s
+afterCall (eventCall k xs) s = s .transfer
+
+abbrev pub EndsTransfers : Type 0
+EndsTransfers = (k : Step) (a : Stand) → does k a .refusal ≡ Accepted → does k a .state .transfer ≡ afterCall (k .call) (a .state)
+
+-- "before anything is stored": an initiate, and a segment that is not the last, leave the dictionary, and the state but for the transfer, as they
+-- were
+abbrev pub isBeforeLast : Command → List ℕ → Bool
+isBeforeLast download rq = false
+isBeforeLast downloadBySegments rq = true
+isBeforeLast downloadSegment rq = not (isLast rq)
+isBeforeLast upload rq = false
+isBeforeLast uploadSegment rq = false
+isBeforeLast clientAbort rq = false
+isBeforeLast unknown rq = false
+
+abbrev pub NothingBeforeTheLast : Type 0
+NothingBeforeTheLast = (r : Run) (rq o : List ℕ) → isBeforeLast (commandIn rq) rq ≡ true →
+    nothingRuns (left (requested rq o (reached r)) (reached r)) ≡ nothingRuns (reached r)
+
+-- "A download is checked as an expedited one is, in 01's order, at its last segment": the last segment in turn, and an expedited write of all the
+-- bytes to the same object from where the run stands, its size told, ..
+pub record SameWrite (g : Receipt) (last rq : List ℕ) : Type 0 where
+  pub isLastSegment : commandIn last ≡ downloadSegment
+  pub inTurn : toggleOf last ≡ g .toggle
+  pub ends : isLast last ≡ true
+  pub isExpedited : commandIn rq ≡ download
+  pub told : bit sizeToldBit (commandByte rq) ≡ true
+  pub sameObject : objectOf rq ≡ objectIn g
+  pub sameSize : dataSize - unusedBytes (commandByte rq) ≡ gathered g (carried last) .count
+  pub sameBytes : part dataPlace (gathered g (carried last) .count) rq ≡ take (gathered g (carried last) .count) (bytesIn (gathered g (carried last)))
+
+-- .. leave the same dictionary and state, with nothing running, and the same frames behind the reply; refused they are one and the same answer
+pub record SameBehindReply (v : Verdict) (u w : Outcome) : Type 0 where
+  pub refusal : u .refusal ≡ w .refusal
+  pub state : u .state ≡ w .state
+  pub dictionary : u .dictionary ≡ w .dictionary
+  pub frames : u .frames ≡ w .frames
+  pub behind : drop frameSize (u .output) ≡ drop frameSize (w .output)
+  pub refused : isGood v ≡ false → u ≡ w
+
+abbrev pub SegmentsWriteAsExpedited : Type 0
+SegmentsWriteAsExpedited = (r : Run) (g : Receipt) (last rq o : List ℕ) → reached r .state .transfer ≡ Downloading g →
+    Heard last o (reached r) → Heard rq o (reached r) → SameWrite g last rq →
+    SameBehindReply (verdictAt rq (reached r)) (does (requested last o (reached r)) (reached r)) (does (requested rq o (reached r)) (reached r))
+
+-- the bytes of all segments: after an initiate and any segments in turn, from 0 on, what is kept is their bytes joined, of which four are kept and
+-- more than four are counted as five
+
+-- requests in a row, each to the node as the one before left it
+unfoldable pub afterRequests : List (List ℕ) → List ℕ → Stand → Stand
+afterRequests [] o a = a
+afterRequests (rq ∷ rqs) o a = afterRequests rqs o (left (requested rq o a) a)
+
+-- those of one command, of eight bytes, whose toggles alternate from that one on
+unfoldable pub InTurn : Command → Bool → List (List ℕ) → Type 0
+InTurn c b [] = Unit
+InTurn c b (rq ∷ rqs) = (length rq ≡ requestLength) × (commandIn rq ≡ c) × (toggleOf rq ≡ b) × InTurn c (not b) rqs
+
+pub record Gathers (object bs : List ℕ) (t : Transfer) : Type 0 where
+  pub receipt : Receipt
+  pub is : t ≡ Downloading receipt
+  pub objectKept : objectIn receipt ≡ object
+  pub counted : receipt .count ≡ cond (ltb (length bs) tooMany) (length bs) tooMany
+  pub kept : bytesIn receipt ≡ padded 0 dataSize bs
+
+abbrev pub SegmentsJoin : Type 0
+SegmentsJoin = (r : Run) (first o : List ℕ) (rqs : List (List ℕ)) → Heard first o (reached r) → commandIn first ≡ downloadBySegments →
+    InTurn downloadSegment false rqs → any isLast rqs ≡ false →
+    Gathers (objectOf first) (flatMap carried rqs) (afterRequests (first ∷ rqs) o (reached r) .state .transfer)
+
+-- "Toggle bits must alternate": of two segments of one direction and one toggle the second is not taken, whatever calls that leave the transfer come
+-- between them
+abbrev pub isSegment : Command → Bool
+isSegment download = false
+isSegment downloadBySegments = false
+isSegment downloadSegment = true
+isSegment upload = false
+isSegment uploadSegment = true
+isSegment clientAbort = false
+isSegment unknown = false
+
+abbrev pub TogglesAlternate : Type 0
+TogglesAlternate = (r : Run) (rq rq′ o : List ℕ) (ks : List Step) → Heard rq o (reached r) → isSegment (commandIn rq) ≡ true →
+    commandIn rq′ ≡ commandIn rq → toggleOf rq′ ≡ toggleOf rq → verdictAt rq (reached r) ≡ good →
+    let a = left (requested rq o (reached r)) (reached r) in
+    after ks a .state .transfer ≡ a .state .transfer → verdictAt rq′ (after ks a) ≡ good → ⊥
+
+-- the segments answered for 1008h, joined, are the name, and then nothing runs
+
+-- the eight bytes of the reply to each of those requests
+unfoldable pub repliesTo : List (List ℕ) → List ℕ → Stand → List (List ℕ)
+repliesTo [] o a = []
+repliesTo (rq ∷ rqs) o a = part dataFrom mostData (frameAt 0 (does (requested rq o a) a .output)) ∷ repliesTo rqs o (left (requested rq o a) a)
+
+-- how many segments the name has
+unfoldable pub nameSegments : ℕ
+nameSegments = (length deviceName + (segmentSize - 1)) / segmentSize
+
+abbrev pub NameBySegments : Type 0
+NameBySegments = (r : Run) (first o : List ℕ) (rqs : List (List ℕ)) → Heard first o (reached r) → commandIn first ≡ upload →
+    objectOf first ≡ nameObject → InTurn uploadSegment false rqs → length rqs ≡ nameSegments →
+    let a = left (requested first o (reached r)) (reached r) in
+    (flatMap carried (repliesTo rqs o a) ≡ deviceName) × (afterRequests rqs o a .state .transfer ≡ NoTransfer)
+
 -- opens every definition of this module, where a proof computes
 unfoldable pub open-promises : Unit {0}
-unfolding after allOctets objectVerdict requestVerdict byPdo bySync applies written byNmt byFrame mayChange laid edges edgesIn reachedIn HoldsBitFour
+unfolding after allOctets objectVerdict segmentVerdict askedVerdict sentVerdict verdictOn byPdo bySync applies written byNmt byFrame mayChange laid
+    edges edgesIn reachedIn HoldsBitFour
+    afterFrame afterRequests InTurn repliesTo nameSegments
 open-promises = tt

@@ -7,11 +7,12 @@ use Rattle.rules_dictionary.specs.Numbers.{areBytes}
 use Rattle.rules_dictionary.specs.Plans.{pdoData}
 use Rattle.rules.specs.Outcome.{ended}
 use Rattle.rules.specs.Calls.{frameCall, framed, does, accepted, answered}
-use Rattle.theorems.proofs.Lawful.{sound-lawful}
+use Rattle.theorems.proofs.Lawful.{clauses, sound-lawful}
 use Rattle.theorems.proofs.Services.{framed-serves}
 use Rattle.form.specs.Form.{stateOf}
 use Rattle.mapping.proofs.Assembly.{are-bytes}
 use Rattle.output.specs.Laying.{OnBus, dataOf}
+use Rattle.calls.proofs.Serving.{runs-in}
 use Rattle.calls.proofs.Refusals.{stands-lent, decides, decides-not, no-identifier, too-long, a-frame}
 use Rattle.calls.proofs.Telling.{on-bus, data-back}
 use Rattle.calls.proofs.Concluding.{may-finish, concludes}
@@ -65,7 +66,9 @@ finish-requires c κs =
     let k = start .pre .stands in
     let b : areBytes (a .d .now) ≡ true = are-bytes (a .d .now) (λ i l. omega (arith, slice-known2 .slice-known2 .given i)) in
     let on = subst OnBus (sym (content .content-of .ensures)) (carried short) in
-    let serves = framed-serves Unit s (a .d .now) (a .identifier) (dataOf (content .content-of .result)) (λ x. on .bytes)
+    let runs = runs-in (a .state .now) (λ i. omega (arith, slice-known2 .before .slice-known .given i))
+    (clauses s (a .d .now) (k .sound) .transfer) in
+    let serves = framed-serves Unit s (a .d .now) (a .identifier) (dataOf (content .content-of .result)) (λ x. on .bytes) (λ x. runs)
     (sound-lawful s (a .d .now) (k .long) (k .sound)) (k .sound) in
     let left = serve-frame .serve-frame .ensures in
     rw (is-operational .is-operational .ensures) (may-finish k b serves (left .0) (left .1))
@@ -85,7 +88,9 @@ returns-3 c =
     let k = start .pre .stands in
     let b : areBytes (a .d .now) ≡ true = are-bytes (a .d .now) (λ i l. omega (arith, slice-known2 .slice-known2 .given i)) in
     let on = subst OnBus (sym (content .content-of .ensures)) (carried short) in
-    let serves = framed-serves Unit s (a .d .now) (a .identifier) (dataOf (content .content-of .result)) (λ x. on .bytes)
+    let runs = runs-in (a .state .now) (λ i. omega (arith, slice-known2 .before .slice-known .given i))
+    (clauses s (a .d .now) (k .sound) .transfer) in
+    let serves = framed-serves Unit s (a .d .now) (a .identifier) (dataOf (content .content-of .result)) (λ x. on .bytes) (λ x. runs)
     (sound-lawful s (a .d .now) (k .long) (k .sound)) (k .sound) in
     let left = serve-frame .serve-frame .ensures in
     given-answers (concludes k b serves (left .0) (left .1) (rw (is-operational .is-operational .ensures) at (finish .finish .ensures)))

@@ -78,7 +78,7 @@ renew-all-requires c κs =
     let n = a .n in
     let k = clear n (a .d .now) (a .output .now) (s .pre .1) in
     let made = rw (fresh-node .fresh-node .ensures, fresh-drive .fresh-drive .ensures n) at (settle .settle .ensures .0) in
-    let held = all-written (now (a .state)) _ _ _ _ _ _ (s .pre .0) (write-plans .write-plans .ensures) (write-head .write-head .ensures) in (
+    let held = all-written (now (a .state)) _ _ _ _ _ _ _ (s .pre .0) (write-plans .write-plans .ensures) (write-head .write-head .ensures) in (
       rw (held-state held) held,
       (
         gives-plans n (k .first) (k .last) (k .long) (start .start .ensures) made,
@@ -113,7 +113,7 @@ returns c =
     let node = fresh-node .fresh-node .ensures in
     let drive = fresh-drive .fresh-drive .ensures n in
     let made = rw (node, drive) at (settle .settle .ensures .0) in
-    let held = all-written (now (a .state)) _ _ _ _ _ _ (s .pre .0) (write-plans .write-plans .ensures) (write-head .write-head .ensures) in
+    let held = all-written (now (a .state)) _ _ _ _ _ _ _ (s .pre .0) (write-plans .write-plans .ensures) (write-head .write-head .ensures) in
     let worked = rw (held-state held) at (renew-all .renew-all .ensures .0) in
     let fresh = rw (all-plans .all-plans .ensures, node, drive) at worked in
     λ x. rw (

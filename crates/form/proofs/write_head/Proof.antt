@@ -13,10 +13,11 @@ returns c =
     let h = w .before .before .before .before in
     let r = h .before .before .before .before in
     let v = r .before .before .before .before in
-    let n = v .before .before .before .before in
+    let f = v .before .before .before .before in
+    let n = f .before .before .before .before in
     let start = n .before .before .before in
     let a = start .args in
-    let s = withPlans [] (a .node) (a .drive) (a .ready) (a .held) (a .paces) in
+    let s = withPlans [] (a .node) (a .transfer) (a .drive) (a .ready) (a .held) (a .paces) in
     let typed : HeadTyped s =
     record {
       heartbeat = n .write-node .ensures .1;
@@ -26,11 +27,12 @@ returns c =
       paces = w .write-paces .ensures .1;
     } in (
       rw (w .write-paces .ensures .0, h .write-frames2 .ensures .0, r .write-frames .ensures .0)
-          (rw (v .write-drive .ensures .0, n .write-node .ensures .0) (head-written (now (a .bytes)) s (start .pre) typed)),
+          (rw (v .write-drive .ensures .0, f .write-transfer .ensures, n .write-node .ensures .0)
+          (head-written (now (a .bytes)) s (start .pre) typed)),
       typed,
     )
 
 pub write-head-spec : {M : Type 1} → statement M
 write-head-spec =
     tie.close (tie.spec (λ c κs. search needs) (λ c κs. search needs) (λ c κs. search needs) (λ c κs. search needs) (λ c κs. search needs)
-    (λ c. search needs) returns)
+    (λ c κs. search needs) (λ c. search needs) returns)

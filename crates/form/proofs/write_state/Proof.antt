@@ -15,8 +15,8 @@ returns c =
     let x = s .axis in
     let held : HoldsPlans (c .before .before .before .before .before .before .write-plans .last .0) (x .plans) =
     rw (p .0) (plans-written (now (start .args .bytes)) (x .plans) (start .pre) (p .1)) in (
-      h .0 ∙ head-over _ (x .plans) (s .node) (x .drive) (x .ready) (x .held) (x .paces) held,
-      typed-whole (x .plans) (s .node) (x .drive) (x .ready) (x .held) (x .paces) (h .1) (p .1),
+      h .0 ∙ head-over _ (x .plans) (s .node) (s .transfer) (x .drive) (x .ready) (x .held) (x .paces) held,
+      typed-whole (x .plans) (s .node) (s .transfer) (x .drive) (x .ready) (x .held) (x .paces) (h .1) (p .1),
     )
 
 pub write-state-spec : {M : Type 1} → statement M

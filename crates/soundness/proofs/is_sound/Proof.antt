@@ -13,7 +13,7 @@ returns c =
     let s = k .before .before in
     sym (form-parts (s .args .state .now) (s .args .d .now) (λ i. omega (arith, k .before .shared-slice-known .given i)) (s .pre .0)
     (λ i. omega (arith, k .shared-slice-known2 .given i)) (s .pre .1) refl refl
-    ∙ rw (sym (c .before .is-head-own .ensures) ∙ not-true _ (c .if1 .taken)))
+    ∙ rw (sym (c .before .is-head-clear .ensures) ∙ not-true _ (c .if1 .taken)))
 
 returns-2 : tie.Need-returns-2
 returns-2 c =
@@ -24,7 +24,7 @@ returns-2 c =
     sym (form-parts (s .args .state .now) (s .args .d .now) (λ i. omega (arith, k .before .shared-slice-known .given i)) (s .pre .0)
     (λ i. omega (arith, k .shared-slice-known2 .given i)) (s .pre .1)
     (i .read-node .ensures) refl
-    ∙ rw (sym (h .before .is-head-own .ensures) ∙ not-false _ (h .if1 .left), sym (c .before .is-node-id .ensures) ∙ not-true _ (c .if2 .taken)))
+    ∙ rw (sym (h .before .is-head-clear .ensures) ∙ not-false _ (h .if1 .left), sym (c .before .is-node-id .ensures) ∙ not-true _ (c .if2 .taken)))
 
 returns-3 : tie.Need-returns-3
 returns-3 c =
@@ -36,7 +36,7 @@ returns-3 c =
     sym (form-parts (s .args .state .now) (s .args .d .now) (λ i. omega (arith, k .before .shared-slice-known .given i)) (s .pre .0)
     (λ i. omega (arith, k .shared-slice-known2 .given i)) (s .pre .1)
     (i .read-node .ensures) refl
-    ∙ rw (sym (h .before .is-head-own .ensures) ∙ not-false _ (h .if1 .left), sym (n .before .is-node-id .ensures) ∙ not-false _ (n .if2 .left))
+    ∙ rw (sym (h .before .is-head-clear .ensures) ∙ not-false _ (h .if1 .left), sym (n .before .is-node-id .ensures) ∙ not-false _ (n .if2 .left))
     (rw (sym (c .before .dictionary-legal .ensures) ∙ not-true _ (c .if3 .taken))))
 
 returns-4 : tie.Need-returns-4
@@ -51,7 +51,7 @@ returns-4 c =
     sym (form-parts (s .args .state .now) (s .args .d .now) (λ i. omega (arith, k .before .shared-slice-known .given i)) (s .pre .0)
     (λ i. omega (arith, k .shared-slice-known2 .given i)) (s .pre .1)
     (i .read-node .ensures) (v .read-drive .ensures)
-    ∙ rw (sym (h .before .is-head-own .ensures) ∙ not-false _ (h .if1 .left), sym (n .before .is-node-id .ensures) ∙ not-false _ (n .if2 .left))
+    ∙ rw (sym (h .before .is-head-clear .ensures) ∙ not-false _ (h .if1 .left), sym (n .before .is-node-id .ensures) ∙ not-false _ (n .if2 .left))
     (rw (
       sym (l .before .dictionary-legal .ensures) ∙ not-false _ (l .if3 .left),
       sym (c .before .is-drive-clear .ensures) ∙ not-true _ (c .if4 .taken),
@@ -70,7 +70,7 @@ returns-5 c =
     sym (form-parts (s .args .state .now) (s .args .d .now) (λ i. omega (arith, k .before .shared-slice-known .given i)) (s .pre .0)
     (λ i. omega (arith, k .shared-slice-known2 .given i)) (s .pre .1)
     (i .read-node .ensures) (v .read-drive .ensures)
-    ∙ rw (sym (h .before .is-head-own .ensures) ∙ not-false _ (h .if1 .left), sym (n .before .is-node-id .ensures) ∙ not-false _ (n .if2 .left))
+    ∙ rw (sym (h .before .is-head-clear .ensures) ∙ not-false _ (h .if1 .left), sym (n .before .is-node-id .ensures) ∙ not-false _ (n .if2 .left))
     (rw (
       sym (l .before .dictionary-legal .ensures) ∙ not-false _ (l .if3 .left),
       sym (f .before .is-drive-clear .ensures) ∙ not-false _ (f .if4 .left),

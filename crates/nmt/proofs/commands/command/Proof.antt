@@ -30,13 +30,14 @@ returns-2 c =
 returns-3 : tie.Need-returns-3
 unfolding commandOf commanded left voltageDisabled
 returns-3 c =
-    let put = c .before .before .before in
+    let idle = c .before .before .before in
+    let put = idle .before .before .before .before in
     let drive = put .before .before .before .before in
     let key = drive .before .before in
     let at = key .before .before .before .before in
     let s = stateOf (at .args .state .now) in
     rw (c .nothing-done2 .ensures, key .match .keys2)
-    (restated s _ _ _ (put .leave .ensures _ (drive .disable-voltage .ensures s (at .pre .lent .own))))
+    (restated s _ _ _ (idle .put-no-transfer .ensures _ (put .leave .ensures _ (drive .disable-voltage .ensures s (at .pre .lent .own)))))
 
 returns-4 : tie.Need-returns-4
 unfolding commandOf commanded left
@@ -76,7 +77,7 @@ returns-7 c =
 pub command-spec : {M : Type 1} → statement M
 command-spec =
     tie.close (tie.spec (λ c κs. search needs) (λ c κs. search needs) (λ c κs. search needs) (λ c κs. search needs) (λ c κs. search needs)
-    (λ c κs. search needs) (λ c κs. search needs) (λ c κs. search needs) (λ c. search needs) returns (λ c κs. search needs)
+    (λ c κs. search needs) (λ c κs. search needs) (λ c κs. search needs) (λ c κs. search needs) (λ c. search needs) returns (λ c κs. search needs)
     (λ c κs. search needs) (λ c κs. search needs) (λ c κs. search needs) (λ c κs. search needs) (λ c. search needs) returns-2 (λ c. search needs)
     returns-3 (λ c. search needs) returns-4 (λ c. search needs) (λ c. search needs) (λ c. search needs) returns-5 (λ c. search needs)
     (λ c. search needs) (λ c. search needs) returns-6 returns-7)

@@ -18,7 +18,8 @@ write-requires c κs =
 returns : tie.Need-returns
 unfolding commanded left voltageDisabled
 returns c =
-    let held = c .before .before in
+    let idle = c .before .before in
+    let held = idle .before .before .before .before in
     let drive = held .before .before .before .before in
     let node = drive .before .before .before .before in
     let sent = node .before .before .before .before in
@@ -27,7 +28,8 @@ returns c =
     let at = read .before .before .before .before .before in
     let s = stateOf (at .args .state .now) in
     let is = read .read-node .ensures in
-    let holds = held .put-none-held .ensures _ (drive .disable-voltage .ensures _ (node .put-node .ensures s (at .pre .lent .own))) in (
+    let started = node .put-node .ensures s (at .pre .lent .own) in
+    let holds = idle .put-no-transfer .ensures _ (held .put-none-held .ensures _ (drive .disable-voltage .ensures _ started)) in (
       set-back (s .node .id) s _ _ _ _ _ (rw is at holds) (rw is at (written .write-communication-defaults .ensures))
           (rw is at (sent .boot-up .ensures)),
       loud s _ _ refl,
@@ -36,4 +38,4 @@ returns c =
 pub reset-communication-spec : {M : Type 1} → statement M
 reset-communication-spec =
     tie.close (tie.spec (λ c κs. search needs) write-requires (λ c κs. search needs) (λ c κs. search needs) (λ c κs. search needs)
-    (λ c κs. search needs) (λ c. search needs) (λ c. search needs) (λ c. search needs) returns)
+    (λ c κs. search needs) (λ c κs. search needs) (λ c. search needs) (λ c. search needs) (λ c. search needs) returns)

@@ -1,34 +1,51 @@
--- Refused, or applied. Assumes nothing.
+-- By what the look-up found. Assumes nothing.
 use borrow.Author.Needs.{needs}
-use Rattle.sdo.proofs.Verdicts.{pdo-fits}
-use Rattle.sdo.proofs.Downloading.{download-refused, download-writable, download-applied}
+use Rattle.rules_services.specs.Sdo.{downloads, abort, reply}
+use Rattle.sdo.specs.Requests.{isWritten}
+use Rattle.sdo.proofs.Downloading.{looked-up}
 use Rattle.sdo.proofs.downloads.download.Statement.{statement}
 use Rattle.sdo.proofs.downloads.download.Tie as tie
 
+to-entry-requires : tie.Need-to-entry-requires
+to-entry-requires c κs =
+    let x = c .before .before .before in
+    let g = x .before .before in
+    let f = g .before .before in
+    let s = f .before .before .before .before .before .before in
+    (s .pre, rw (x .entry .ensures) (looked-up (s .args .t2) (f .before .read2 .ensures) (f .find .ensures) (g .found .given .1)))
+
+the-name : tie.Need-returns-2
+unfolding downloads abort reply isWritten
+the-name c =
+    let k = c .before .before .before .before in
+    let g = k .before .before .before in
+    let f = g .before .before in
+    let a = f .before .before .before .before .before .before .args in
+    rw (looked-up (a .t2) (f .before .read2 .ensures) (f .find .ensures) (g .enum-told .given .1)) (k .abort .ensures (a .d .now))
+
+no-object : tie.Need-returns-3
+unfolding downloads abort reply isWritten
+no-object c =
+    let k = c .before .before .before .before in
+    let g = k .before .before .before in
+    let f = g .before .before in
+    let a = f .before .before .before .before .before .before .args in
+    rw (looked-up (a .t2) (f .before .read2 .ensures) (f .find .ensures) (g .enum-told2 .given .1)) (k .abort2 .ensures (a .d .now))
+
+no-subindex : tie.Need-returns-4
+unfolding downloads abort reply isWritten
+no-subindex c =
+    let k = c .before .before .before .before in
+    let g = k .before .before .before in
+    let f = g .before .before in
+    let a = f .before .before .before .before .before .before .args in
+    rw (looked-up (a .t2) (f .before .read2 .ensures) (f .find .ensures) (g .enum-told3 .given .1)) (k .abort3 .ensures (a .d .now))
+
 pub download-spec : {M : Type 1} → statement M
 download-spec =
-    tie.close (tie.spec (λ c κs. search needs) (λ c κs. search needs)
-    (λ c κs. let s = c .before .before .before .before .before .before .before in (search needs, pdo-fits (s .args .e) (s .pre .1)))
-    (λ c κs. search needs)
-    (λ c. search needs) (λ c. search needs) (λ c. search needs)
-    (λ c. let k = c .before .before in let w = k .before .before .before in let n = w .before .before in let x = n .before .before in
-    let s = x .before .before .before .before in
-    let a = s .args in
-    download-refused (a .request) (a .state .now) (a .d .now) (s .pre .1) (x .expedited .ensures)
-    (rw (n .read-node .ensures) at (w .offer-verdict .ensures)) (k .before .before .if1 .taken) (s .pre .0 .own)
-    (rw (n .read-node .ensures) at (k .answer .ensures)))
-    (λ c κs. let w = c .before .before .before .before in let n = w .before .before in let x = n .before .before in
-    let s = x .before .before .before .before in let a = s .args in (
-      s .pre .0,
-      (
-        s .pre .1,
-        download-writable (a .request) (a .state .now) (a .d .now) (s .pre .1) (x .expedited .ensures)
-            (rw (n .read-node .ensures) at (w .offer-verdict .ensures)) (c .before .before .before .if1 .left),
-      ),
-    ))
-    (λ c. search needs) (λ c. search needs) (λ c. search needs)
-    (λ c. let k = c .before .before .before .before .before .before in let w = k .before .before .before .before .before in
-    let n = w .before .before in let x = n .before .before in
-    let s = x .before .before .before .before in let a = s .args in
-    download-applied (a .request) (a .state .now) (a .d .now) (s .pre .1) (x .expedited .ensures)
-    (rw (n .read-node .ensures) at (w .offer-verdict .ensures)) (k .before .before .before .before .if1 .left) (k .apply .ensures)))
+    tie.close (tie.spec (λ c. search needs) (λ c κs. search needs) (λ c. search needs) (λ c κs. search needs) (λ c. search needs)
+    (λ c κs. search needs) to-entry-requires
+    (λ c. search needs) (λ c κs. search needs) (λ c. search needs) (λ c κs. search needs) (λ c. search needs) (λ c κs. search needs)
+    (λ c. search needs) (λ c. search needs) (λ c. search needs) (λ c. search needs)
+    (λ c. search needs) (λ c. search needs) the-name (λ c. search needs) (λ c. search needs) no-object (λ c. search needs) (λ c. search needs)
+    no-subindex)

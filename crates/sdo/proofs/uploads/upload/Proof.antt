@@ -1,27 +1,51 @@
--- The value of the row, read where it stands. Assumes nothing.
+-- By what the look-up found. Assumes nothing.
 use borrow.Author.Needs.{needs}
-use Rattle.rules_services.specs.Sdo.{toObject, toRow}
-use Rattle.dictionary.specs.Lines.{entryIn}
-use Rattle.dictionary.specs.Entries.{entryAt}
-use Rattle.sdo.proofs.Answering.{uploaded-by, replied}
+use Rattle.rules_services.specs.Sdo.{abort, reply}
+use Rattle.rules_services.specs.Segments.{nameAsked}
+use Rattle.rules_services.specs.SdoServer.{uploads}
+use Rattle.sdo.proofs.Downloading.{looked-up}
 use Rattle.sdo.proofs.uploads.upload.Statement.{statement}
 use Rattle.sdo.proofs.uploads.upload.Tie as tie
 
+upload-row-requires : tie.Need-upload-row-requires
+upload-row-requires c κs =
+    let f = c .before .before .before .before .before in
+    let s = c .before .before .before .before .before .before .before .before .before .before .before in
+    (s .pre, looked-up (s .args .t1) (f .before .read2 .ensures) (f .find .ensures) (c .before .before .before .found .given .1))
+
+the-name : tie.Need-returns-2
+unfolding uploads nameAsked reply
+the-name c =
+    let k = c .before .before .before .before in
+    let p = k .before .before .before in
+    let g = p .before in
+    let f = g .before .before in
+    let a = f .before .before .before .before .before .before .args in
+    rw (looked-up (a .t1) (f .before .read2 .ensures) (f .find .ensures) (g .enum-told .given .1))
+    (rw (p .reply-to .ensures) at (k .answer .ensures (a .d .now)))
+
+no-object : tie.Need-returns-3
+unfolding uploads abort reply
+no-object c =
+    let k = c .before .before .before .before in
+    let g = k .before .before .before in
+    let f = g .before .before in
+    let a = f .before .before .before .before .before .before .args in
+    rw (looked-up (a .t1) (f .before .read2 .ensures) (f .find .ensures) (g .enum-told2 .given .1)) (k .abort .ensures (a .d .now))
+
+no-subindex : tie.Need-returns-4
+unfolding uploads abort reply
+no-subindex c =
+    let k = c .before .before .before .before in
+    let g = k .before .before .before in
+    let f = g .before .before in
+    let a = f .before .before .before .before .before .before .args in
+    rw (looked-up (a .t1) (f .before .read2 .ensures) (f .find .ensures) (g .enum-told3 .given .1)) (k .abort2 .ensures (a .d .now))
+
 pub upload-spec : {M : Type 1} → statement M
-unfolding toObject toRow entryIn
 upload-spec =
-    tie.close (tie.spec (λ c κs. search needs) (λ c. search needs)
-    (λ c κs. let z = c .before in let s = z .before .before .before .before in let st = s .pre .1 in
-    (rw (z .size .ensures, s .pre .0 .long) (st .within), rw (z .size .ensures) (st .sized))) (λ c κs. search needs)
-    (λ c κs. search needs) (λ c κs. search needs) (λ c. search needs)
-    (λ c. let k = c .before .before in let u = k .before .before in let n = u .before in let v = n .before in let z = v .before .before in
-    let s = z .before .before .before .before in let st = s .pre .1 in let d = s .args .d .now in
-    rw (
-      st .finds,
-      ← uploaded-by (entryAt (s .args .row)) (st .row) (st .is-entry),
-      ← z .size .ensures,
-      ← u .uploaded .ensures,
-      ← st .reads d,
-      ← z .size .ensures,
-      ← v .read .ensures,
-    ) (replied d (s .pre .0 .own) (rw (n .read-node .ensures) at (k .answer .ensures)))))
+    tie.close (tie.spec (λ c. search needs) (λ c κs. search needs) (λ c. search needs) (λ c κs. search needs) (λ c. search needs) upload-row-requires
+    (λ c. search needs) (λ c. search needs) (λ c κs. search needs) (λ c κs. search needs) (λ c. search needs) (λ c κs. search needs)
+    (λ c. search needs) (λ c κs. search needs) (λ c. search needs) (λ c. search needs) (λ c. search needs)
+    (λ c. search needs) (λ c. search needs) the-name (λ c. search needs) (λ c. search needs) no-object (λ c. search needs) (λ c. search needs)
+    no-subindex)
