@@ -3,7 +3,7 @@
 use Prim.Native.Nat.{ℕ, zero, suc, _+_}
 use mathlib.Core.Path.{_≡_, refl, sym, _∙_, ap}
 use mathlib.Core.Bool.{Bool, true, false, and-not-self}
-use mathlib.Core.List.{List, [], _∷_}
+use mathlib.Core.List.{List, []}
 use borrow.Author.Tests.{eqb-true}
 use lib.Dec.{eqb}
 use lib.ListN.{length, getD}
@@ -27,6 +27,7 @@ use Rattle.rules.specs.Sound.{sound, statusAsMade, modeAsMade, waitingSound, pa
 use Rattle.theorems.proofs.Lawful.{clauses, data-refl}
 use Rattle.theorems.proofs.Still.{idles, at-each}
 use Rattle.mapping.specs.Afresh.{whichChange}
+use Rattle.mapping.proofs.Renewed.{untold}
 use Rattle.tpdo.specs.Sending.{turn}
 use Rattle.calls.specs.Ending.{settledBy, turnsOf, endWith, endOf}
 use Rattle.calls.proofs.StatusMade.{both-stand}
@@ -34,9 +35,6 @@ use Rattle.calls.proofs.StatusMade.{both-stand}
 -- ---- the end of a call that changed nothing, at no SYNC
 
 -- ready frames that are as they were: none is told
-abbrev untold : List Bool
-untold = false ∷ false ∷ false ∷ false ∷ []
-
 pub none-change : {kept ready : List PdoData} → kept ≡ ready → whichChange kept ready ≡ untold
 none-change {ready = ready} e =
     rw (e, data-refl (getD ready 0 noData), data-refl (getD ready 1 noData), data-refl (getD ready 2 noData), data-refl (getD ready 3 noData))

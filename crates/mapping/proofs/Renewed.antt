@@ -37,7 +37,7 @@ kept-plan d {plans} own p i x = ap (λ (l : List Plan). getD l p x) own ∙ of-p
 -- ---- the ready frames worked again, one after another
 
 -- nothing told of them yet
-abbrev untold : List Bool
+abbrev pub untold : List Bool
 untold = false ∷ false ∷ false ∷ false ∷ []
 
 -- those of the first k transmit PDOs; which of them changed is told

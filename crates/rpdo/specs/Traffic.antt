@@ -29,6 +29,13 @@ says code s d = sends (emergency code s d) (becomes s)
 unfoldable pub judged : ℕ → List ℕ → State → List ℕ → Effect
 judged p bs s d = cond (areLegal d (unpacked (mapped d p) bs)) (heldOrApplied p bs s d) (says valueRefused s d)
 
+-- a SYNC of that length
+unfoldable pub syncOf : ℕ → State → List ℕ → Effect
+syncOf n s d =
+    cond (isStopped (s .node .nmt)) (becomes s)
+    (cond (not (eqb n 0)) (says badSyncLength s d)
+    (cond (isOperational (s .node .nmt)) (on Synced (releaseAll receivePdos s d)) (becomes s)))
+
 -- ---- where nothing is left to do at the call's end
 
 -- as many bytes as the PDO maps: nothing, unless its values are taken at once
@@ -51,11 +58,3 @@ releaseRests p s d = not (isHeld (getD (s .axis .held) p noData))
 -- a SYNC that is not served, or of another length
 abbrev pub syncRests : ℕ → State → List ℕ → Bool
 syncRests n s d = not (isOperational (s .node .nmt) && eqb n 0)
-
--- ---- a SYNC of that length
-
-unfoldable pub syncOf : ℕ → State → List ℕ → Effect
-syncOf n s d =
-    cond (isStopped (s .node .nmt)) (becomes s)
-    (cond (not (eqb n 0)) (says badSyncLength s d)
-    (cond (isOperational (s .node .nmt)) (on Synced (releaseAll receivePdos s d)) (becomes s)))

@@ -82,18 +82,10 @@ module _ (i s : ℕ) where
   unfolding lookup
   elsewhere n = rw (ne-eqb _ _ n)
 
-  -- the device name has no row, so that a row is found where it stands
+  -- the device name has no row
   pub no-row : i ≡ nameIndex → rowOf i s ≡ noObject
   unfolding rowOf search table
   no-row q = rw q refl
-
-  pub found-row : {x : Row} → rowOf i s ≡ found x → lookup i s ≡ found x
-  unfolding lookup
-  found-row {x} e = go (eqb i nameIndex) refl
-    where
-      go : (a : Bool) → eqb i nameIndex ≡ a → cond a (cond (eqb s nameSubindex) theName noSubindex) (rowOf i s) ≡ found x
-      go true q = let n : _≡_ {A = Found} noObject (found x) = sym (no-row (eqb-true _ _ q)) ∙ e in cc
-      go false q = e
 
   pub is-row : {x : Row} → lookup i s ≡ found x → rowOf i s ≡ found x
   unfolding lookup

@@ -3,7 +3,7 @@
 -- Assumes nothing.
 use Prim.Native.Nat.{ℕ, _+_, _-_}
 use mathlib.Core.List.{List, [], _∷_, _++_}
-use mathlib.Core.Bool.{Bool, true, false, cond, not, _||_}
+use mathlib.Core.Bool.{Bool, false, cond, not, _||_}
 use lib.Dec.{eqb, ltb}
 use lib.ListN.{getD}
 use Rattle.state.specs.declared.NmtState.{NmtState}
@@ -45,11 +45,20 @@ objectSize = 3
 abbrev pub objectOf : List ℕ → List ℕ
 objectOf rq = part objectPlace objectSize rq
 
+abbrev pub indexPlace : ℕ
+indexPlace = 0
+
+abbrev pub indexSize : ℕ
+indexSize = 2
+
+abbrev pub subindexPlace : ℕ
+subindexPlace = 2
+
 abbrev pub indexIn : List ℕ → ℕ
-indexIn o = value (part 0 2 o)
+indexIn o = value (part indexPlace indexSize o)
 
 abbrev pub subindexIn : List ℕ → ℕ
-subindexIn o = getD o 2 0
+subindexIn o = getD o subindexPlace 0
 
 -- what stands there
 abbrev pub sought : List ℕ → Found
@@ -129,9 +138,6 @@ offerVerdict nmt d t =
     ∷ test (isWrongTime nmt d (x .role)) wrongTime
     ∷ [])
     (valueVerdict d x (t .value))
-
-abbrev pub downloadVerdict : List ℕ → NmtState → List ℕ → Row → Verdict
-downloadVerdict rq nmt d x = offerVerdict nmt d (expedited rq x)
 
 -- ---- the services, on the object of those three bytes
 

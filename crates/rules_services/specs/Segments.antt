@@ -2,7 +2,7 @@
 -- Assumes nothing.
 use Prim.Native.Nat.{ℕ, suc, _+_, _-_, _*_, _^_}
 use mathlib.Core.List.{List, [], _∷_, _++_}
-use mathlib.Core.Bool.{Bool, true, false, cond, not, Bool·beq}
+use mathlib.Core.Bool.{Bool, false, cond, not, Bool·beq}
 use lib.Dec.{eqb, ltb, leb}
 use lib.ListN.{length, getD, take}
 use Rattle.state.specs.declared.Receipt.{Receipt}
@@ -14,7 +14,8 @@ use Rattle.rules_dictionary.specs.DeviceName.{nameIndex, nameSubindex, deviceNa
 use Rattle.rules_dictionary.specs.Table.{Row, sizeOf}
 use Rattle.rules_dictionary.specs.Aborts.{Abort, unknownCommand, wrongToggle}
 use Rattle.rules_services.specs.Effects.{Effect, Frame, frame, becomes, sends, withTransfer, withoutTransfer}
-use Rattle.rules_services.specs.Sdo.{commandByte, dataSize, Offer, reply, replyBase, downloaded, abort, downloads, sought}
+use Rattle.rules_services.specs.Sdo.{commandByte, indexPlace, indexSize, subindexIn, sought, dataSize, Offer, reply, replyBase, downloaded}
+use Rattle.rules_services.specs.Sdo.{abort, downloads}
 
 -- ---- a segment, either way: toggle in bit 4, 7 minus the bytes carried in bits 3-1, bit 0 at the last, then seven bytes
 
@@ -30,9 +31,12 @@ segmentPlace = 1
 abbrev pub segmentSize : ℕ
 segmentSize = 7
 
--- bits 3-1: how many of the seven bytes hold nothing
+-- from this bit up to the toggle, bits 3-1: how many of the seven bytes hold nothing
+abbrev pub unusedBit : ℕ
+unusedBit = 1
+
 abbrev pub unusedIn : ℕ → ℕ
-unusedIn c = bits 1 4 c
+unusedIn c = bits unusedBit toggleBit c
 
 abbrev pub toggleOf : List ℕ → Bool
 toggleOf rq = bit toggleBit (commandByte rq)
@@ -54,7 +58,7 @@ abbrev pub nowhere : List ℕ
 nowhere = 0x00 ∷ 0x00 ∷ 0x00 ∷ []
 
 abbrev pub nameObject : List ℕ
-nameObject = bytes 2 nameIndex ++ nameSubindex ∷ []
+nameObject = bytes indexSize nameIndex ++ nameSubindex ∷ []
 
 -- the object of a download, and the bytes that came
 abbrev pub objectIn : Receipt → List ℕ
@@ -92,7 +96,7 @@ abbrev pub toggleAt : ℕ → Bool
 toggleAt k = bit 0 k
 
 abbrev pub segmentByte : ℕ → ℕ
-segmentByte k = flag toggleBit (toggleAt k) + 2 * (segmentSize - length (segmentOf k)) + flag lastBit (isLastOf k)
+segmentByte k = flag toggleBit (toggleAt k) + 2 ^ unusedBit * (segmentSize - length (segmentOf k)) + flag lastBit (isLastOf k)
 
 unfoldable pub segment : ℕ → State → List Frame
 segment k s = frame (replyBase + s .node .id) (segmentByte k ∷ padded 0 segmentSize (segmentOf k)) ∷ []
@@ -112,9 +116,9 @@ segmentAsked (Downloading g) rq s = unfit unknownCommand s
 abbrev pub nothingYet : List ℕ → Receipt
 nothingYet o =
     record {
-      low = getD o 0 0;
-      high = getD o 1 0;
-      subindex = getD o 2 0;
+      low = getD o indexPlace 0;
+      high = getD o (suc indexPlace) 0;
+      subindex = subindexIn o;
       toggle = false;
       count = 0;
       first = 0;

@@ -1,7 +1,6 @@
 -- The loop's invariant: what is left of the segment's bytes, gathered from here, is what all of them gather. Assumes nothing.
 use borrow.Author.Needs.{needs}
 use Prim.Native.Nat.{_-_, _≤_}
-use native.Mathlib.Omega.{arith}
 use mathlib.Core.Path.{_≡_, refl, sym, _∙_}
 use lib.ListN.{length, drop, drop-of-length-le}
 use Rattle.rules_services.specs.Sdo.{requestLength}

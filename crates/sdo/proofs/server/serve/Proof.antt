@@ -1,7 +1,6 @@
 -- By the command. Assumes nothing.
 use borrow.Author.Needs.{needs}
 use mathlib.Core.Path.{refl}
-use mathlib.Core.List.{[]}
 use Rattle.rules_services.specs.Sdo.{abort, reply}
 use Rattle.rules_services.specs.SdoServer.{sdo, asked}
 use Rattle.form.specs.Form.{stateOf}
