@@ -22,8 +22,8 @@ extern "C" {
 /* ---- places and lengths: tools/header writes them from the source */
 
 /* The lengths of the three buffers. State and dictionary have just these; output has this many bytes or more. */
-#define CENDURAK_STATE_LEN 397u
-#define CENDURAK_DICT_LEN 389u
+#define CENDURAK_STATE_LEN 399u
+#define CENDURAK_DICT_LEN 391u
 #define CENDURAK_OUT_LEN 66u
 
 /* The most frames that a call sends, and the bytes of each in the output. */
@@ -38,17 +38,18 @@ extern "C" {
 #define CENDURAK_FIRST_NODE 1u
 #define CENDURAK_LAST_NODE 127u
 
-/* In the dictionary: 603Fh, 6040h, 6041h, 6061h, 6064h, 606Ch, 607Ah, 6083h, 6084h and 60FFh. */
+/* In the dictionary: 603Fh, 6040h, 6041h, 6061h, 6064h, 6068h, 606Ch, 607Ah, 6083h, 6084h and 60FFh. */
 #define CENDURAK_DICT_AT_ERROR_CODE 332u
 #define CENDURAK_DICT_AT_CONTROL_WORD 334u
 #define CENDURAK_DICT_AT_STATUS_WORD 336u
 #define CENDURAK_DICT_AT_MODE_DISPLAY 339u
 #define CENDURAK_DICT_AT_POSITION 340u
-#define CENDURAK_DICT_AT_VELOCITY 348u
-#define CENDURAK_DICT_AT_TARGET_POSITION 356u
-#define CENDURAK_DICT_AT_ACCELERATION 373u
-#define CENDURAK_DICT_AT_DECELERATION 377u
-#define CENDURAK_DICT_AT_TARGET_VELOCITY 381u
+#define CENDURAK_DICT_AT_WINDOW_TIME 348u
+#define CENDURAK_DICT_AT_VELOCITY 350u
+#define CENDURAK_DICT_AT_TARGET_POSITION 358u
+#define CENDURAK_DICT_AT_ACCELERATION 375u
+#define CENDURAK_DICT_AT_DECELERATION 379u
+#define CENDURAK_DICT_AT_TARGET_VELOCITY 383u
 
 /* In the state: what the accessors below read. */
 #define CENDURAK_STATE_AT_NMT 1u
@@ -56,11 +57,12 @@ extern "C" {
 #define CENDURAK_STATE_AT_DRIVE 15u
 #define CENDURAK_STATE_AT_MODE 16u
 #define CENDURAK_STATE_AT_CAUSE 19u
-#define CENDURAK_STATE_AT_STORE 20u
-#define CENDURAK_STATE_AT_ACTIVE_TARGET 21u
-#define CENDURAK_STATE_AT_ACTIVE_VELOCITY 25u
-#define CENDURAK_STATE_AT_ACTIVE_ACCELERATION 29u
-#define CENDURAK_STATE_AT_ACTIVE_DECELERATION 33u
+#define CENDURAK_STATE_AT_STAY 20u
+#define CENDURAK_STATE_AT_STORE 22u
+#define CENDURAK_STATE_AT_ACTIVE_TARGET 23u
+#define CENDURAK_STATE_AT_ACTIVE_VELOCITY 27u
+#define CENDURAK_STATE_AT_ACTIVE_ACCELERATION 31u
+#define CENDURAK_STATE_AT_ACTIVE_DECELERATION 35u
 
 /* ---- end of places and lengths */
 
@@ -234,6 +236,21 @@ static inline struct cendurak_set_point cendurak_active_set_point(const uint8_t 
         cendurak_signed(state + CENDURAK_STATE_AT_ACTIVE_TARGET), cendurak_word(state + CENDURAK_STATE_AT_ACTIVE_VELOCITY),
         cendurak_word(state + CENDURAK_STATE_AT_ACTIVE_ACCELERATION), cendurak_word(state + CENDURAK_STATE_AT_ACTIVE_DECELERATION)};
     return active;
+}
+
+/*
+ * How many ticks the position has been inside the window: within 6067h of the active set-point's target, or of the target at rest. It stops at
+ * 65,535, and is 0 outside. Bit 10 of the status word waits until it is cendurak_window_time.
+ */
+static inline uint16_t cendurak_stay(const uint8_t *state)
+{
+    return cendurak_half(state + CENDURAK_STATE_AT_STAY);
+}
+
+/* The window time 6068h, in ticks. */
+static inline uint16_t cendurak_window_time(const uint8_t *dict)
+{
+    return cendurak_half(dict + CENDURAK_DICT_AT_WINDOW_TIME);
 }
 
 /* Objects of the dictionary: error code 603Fh, control word 6040h, position 6064h, velocity 606Ch. */

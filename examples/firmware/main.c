@@ -30,6 +30,7 @@ static struct {
     struct axis_command command;
     struct master master;
     uint8_t drive;         /* the drive state that was last printed */
+    uint16_t stay;         /* ticks inside the window, after the last pass */
 } world;
 
 /* ---- the account's lines of the amplifier */
@@ -58,6 +59,18 @@ static void log_drive(void)
     if (drive != world.drive)
         printf("%7u ms  drive   %s, position %d\n", world.now, names[drive], motor_position(&world.motor));
     world.drive = drive;
+}
+
+/* The axis left the window at speed, before target reached was shown. */
+static void log_glide(void)
+{
+    uint16_t stay = cendurak_stay(world.node.state);
+
+    if (!world.node.is_stopped && stay == 0 && world.stay != 0 && world.stay < cendurak_window_time(world.node.dict)
+        && motor_velocity(&world.motor) != 0)
+        printf("%7u ms  axis    glided out of the window after %u ms, position %d, velocity %d\n", world.now, world.stay,
+               motor_position(&world.motor), motor_velocity(&world.motor));
+    world.stay = stay;
 }
 
 /* ---- the planted troubles */
@@ -128,6 +141,7 @@ static void main_loop_pass(void)
     node_run(&world.node, &inputs);
     world.command = node_command(&world.node);
     log_drive();
+    log_glide();
 }
 
 static void millisecond(void)

@@ -65,6 +65,7 @@ static void begin(struct master *master, const struct step *step)
     struct heard *heard = &master->heard;
 
     heard->has_reply = heard->has_any = false;
+    heard->shown = heard->status;
     master->upload = (struct upload){.is_running = false};
     switch (step->kind) {
     case STEP_NMT: send(master, NMT, 2, step->value + 256 * NODE_ID, 0); break;
@@ -78,6 +79,12 @@ static void begin(struct master *master, const struct step *step)
 }
 
 /* ---- hearing */
+
+static void hear_status(struct heard *heard, const uint8_t *data)
+{
+    heard->status = (uint16_t)(data[0] + 256u * data[1]);
+    heard->shown |= heard->status;
+}
 
 void master_hear(struct master *master, const struct can_frame *frame)
 {
@@ -101,10 +108,10 @@ void master_hear(struct master *master, const struct can_frame *frame)
         break;
     case POSITION_FRAME:
         heard->position = cendurak_signed(data + 2);
-        heard->status = (uint16_t)(data[0] + 256u * data[1]);
+        hear_status(heard, data);
         break;
     case STATUS_FRAME:
-        heard->status = (uint16_t)(data[0] + 256u * data[1]);
+        hear_status(heard, data);
         break;
     case MOTION_FRAME:
         heard->velocity = cendurak_signed(data + 4);
@@ -191,6 +198,8 @@ static bool holds(struct master *master, const struct step *step)
     case STEP_EMERGENCY: return takes(&heard->has_emergency, heard->emergency_code == step->value && heard->emergency_register == step->expected);
     case STEP_POSITION: return heard->position == step->target;
     case STEP_SPEED: return heard->velocity == step->target;
+    case STEP_SILENCE: return !heard->has_any;
+    case STEP_WITHOUT: return (heard->shown & step->mask) == 0;
     default: return false;
     }
 }
@@ -245,6 +254,7 @@ static void say_checked(const struct step *step)
     case STEP_EMERGENCY: printf("emergency %04X %s, register %02X\n", step->value, step->says, step->expected); break;
     case STEP_POSITION: printf("position %d\n", step->target); break;
     case STEP_SPEED: printf("velocity %d\n", step->target); break;
+    case STEP_WITHOUT: printf("no status word has %04X %s for %u ms\n", step->mask, step->says, step->within); break;
     default: printf("silence for %u ms\n", step->within); break;
     }
 }
@@ -296,14 +306,14 @@ static bool is_sent_step_over(struct master *master, const struct step *step, ui
     return now - master->begun >= step->within;
 }
 
-/* A check is over when it holds, or when its time is; silence the other way round. */
+/* A check is over when it holds, or when its time is; one of what must not be heard the other way round. */
 static bool is_check_over(struct master *master, const struct step *step, uint32_t now)
 {
     bool is_late = now - master->begun >= step->within;
-    bool is_silence = step->kind == STEP_SILENCE;
-    bool has_held = is_silence ? !master->heard.has_any : holds(master, step);
+    bool is_to_last = step->kind == STEP_SILENCE || step->kind == STEP_WITHOUT;
+    bool has_held = holds(master, step);
 
-    if (has_held == is_silence && !is_late)
+    if (has_held == is_to_last && !is_late)
         return false;
     end_check(master, step, now, has_held);
     return true;

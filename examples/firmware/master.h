@@ -18,6 +18,7 @@ struct heard {
     int32_t position, velocity;
     /* heard since the step began */
     bool has_reply, has_emergency, has_heartbeat, has_any;
+    uint16_t shown; /* all bits of the status words, that of the step's start too */
 };
 
 /* A text that comes by segments. */

@@ -25,6 +25,7 @@ enum { SOON = 50, A_WHILE = 4000 };
 #define POSITION(at) {.kind = STEP_POSITION, .target = (at), .within = SOON}
 #define SPEED(at) {.kind = STEP_SPEED, .target = (at), .within = A_WHILE}
 #define SILENCE(ms) {.kind = STEP_SILENCE, .within = (ms)}
+#define WITHOUT(bits, ms) {.kind = STEP_WITHOUT, .says = #bits, .mask = (bits), .within = (ms)}
 #define END {.kind = STEP_END}
 
 /* NMT commands, and the states that a heartbeat tells. */
@@ -38,6 +39,7 @@ enum {
     QUICK_STOP = 0x000B,
     ENABLE = 0x000F,
     NEW_SET_POINT = 0x001F,
+    NEW_AT_ONCE = 0x003F,
     NEW_RELATIVE = 0x005F,
     FAULT_RESET = 0x0080,
     HALT = 0x010F
@@ -76,6 +78,7 @@ static const struct step commission[] = {
     WRITE(0x6060, 0, 1, 1),
     REFUSED(0x6060, 0, 1, 7, VALUE_INVALID),
     WRITE(0x6067, 0, 4, 5),
+    WRITE(0x6068, 0, 2, 20),
     WRITE(0x607D, 1, 4, (uint32_t)-20000),
     WRITE(0x607D, 2, 4, 20000),
     WRITE(0x6081, 0, 4, 10000),
@@ -121,6 +124,22 @@ static const struct step positions[] = {
     STATUS(SET_POINT_TAKEN | LIMIT_ACTIVE, LIMIT_ACTIVE),
     POSITION(-3000),
     CONTROL(ENABLE),
+    END,
+};
+
+/* On the way a new target at once, too near to stop at: the axis glides through its window, and comes back. Target reached is shown after the
+ * stop alone, so that whatever waits for it, a knife or a gripper, does not start too early. */
+static const struct step glide[] = {
+    MOVE(NEW_SET_POINT, 10000),
+    STATUS(SET_POINT_TAKEN, SET_POINT_TAKEN),
+    CONTROL(ENABLE),
+    WAIT(500),
+    MOVE(NEW_AT_ONCE, 2200),
+    STATUS(SET_POINT_TAKEN, SET_POINT_TAKEN),
+    CONTROL(ENABLE),
+    WITHOUT(TARGET_REACHED, 300),
+    STATUS(TARGET_REACHED, TARGET_REACHED),
+    POSITION(2200),
     END,
 };
 
@@ -248,7 +267,7 @@ static const struct step jam[] = {
 
 /* ---- scripts */
 
-static const struct step *const moves_parts[] = {commission, enable, positions, velocities, quick_stop, enable, fault, enable, home, reset, 0};
+static const struct step *const moves_parts[] = {commission, enable, positions, glide, velocities, quick_stop, enable, fault, enable, home, reset, 0};
 static const struct step *const flood_parts[] = {commission, enable, flood, enable, home, 0};
 static const struct step *const damage_parts[] = {commission, enable, damage, 0};
 static const struct step *const stall_parts[] = {commission, enable, stall, 0};

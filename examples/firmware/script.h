@@ -24,6 +24,7 @@ enum step_kind {
     STEP_POSITION,  /* the position is `target` */
     STEP_SPEED,     /* the velocity is `target` */
     STEP_SILENCE,   /* nothing is heard for `within` ms */
+    STEP_WITHOUT,   /* no status word has a bit of `mask` for `within` ms */
     STEP_END
 };
 

@@ -162,6 +162,26 @@ static void set_points(void)
     check(event(CENDURAK_SET_POINT_REACHED, 0, 0) == 256 * CENDURAK_OUT_OF_PLACE, "none to be reached");
 }
 
+static void window_time(void)
+{
+    const uint8_t at[8] = {0};
+
+    power_up();
+    event(CENDURAK_STARTED, 0, 0);
+    write(0x6068, 0, 0x1234);
+    check(cendurak_window_time(dict) == 0x1234 && cendurak_stay(state) == 0, "window time");
+    write(0x6060, 0, 1);
+    control(0x06);
+    control(0x0F);
+    set_point(0, 1, 1, 1);
+    event(CENDURAK_FEEDBACK, at, 8);
+    for (uint32_t i = 0; i < 0x0203; i++)
+        event(CENDURAK_TICK, 0, 0);
+    check(cendurak_stay(state) == 0x0203, "ticks inside the window");
+    write(0x6060, 0, 3);
+    check(cendurak_stay(state) == 0, "no ticks inside in another mode");
+}
+
 /* ---- random calls: the accessors agree with the status word, and event 6 is in place just where a set-point waits */
 
 static uint64_t seed = 1;
@@ -216,6 +236,7 @@ int main(void)
     nmt_states();
     objects();
     set_points();
+    window_time();
     random_calls();
     printf("%u passed, %u failed\n", passed, failed);
     return failed != 0;

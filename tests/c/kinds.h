@@ -160,6 +160,41 @@ static inline void last_download_segment(uint32_t i)
     frame(0x605, request, 8);
 }
 
+/* ---- a drive at rest in profile position, inside the window of its target or not, for which the ticks are counted */
+
+enum { WINDOW = 20, SHORT_TIME = 10, LONG_TIME = 65535, REACHED_IN_HIGH_BYTE = 0x04 };
+
+/* The ready frames stand directly behind the store's two set-points (docs/STATE.md): a length, and eight bytes. By default each begins with 6041h. */
+enum { READY_AT = CENDURAK_STATE_AT_ACTIVE_TARGET + 2 * sizeof(struct cendurak_set_point), READY_LENGTH = 9, STATUS_HIGH_BYTE = 2 };
+
+static inline void rest(int32_t position, uint32_t window_time, uint32_t ticks)
+{
+    const uint8_t at[8] = {(uint8_t)position};
+
+    sdo(0x2F, 0x6060, 0, 1);
+    sdo(0x23, 0x6067, 0, WINDOW);
+    sdo(0x2B, 0x6068, 0, window_time);
+    sdo(0x2B, 0x6040, 0, 0x06);
+    sdo(0x2B, 0x6040, 0, 0x1F);
+    event(CENDURAK_SET_POINT_REACHED, 0, 0);
+    event(CENDURAK_FEEDBACK, at, 8);
+    for (uint32_t i = 0; i < ticks; i++)
+        event(CENDURAK_TICK, 0, 0);
+    operational();
+}
+
+/* The tick that comes to the window time. Before each the node is put back to one tick before: the count, and bit 10 wherever it is shown. */
+static inline void last_tick(char maps)
+{
+    state[CENDURAK_STATE_AT_STAY] = SHORT_TIME - 1;
+    if (dict[CENDURAK_DICT_AT_STATUS_WORD + 1] & REACHED_IN_HIGH_BYTE) {
+        dict[CENDURAK_DICT_AT_STATUS_WORD + 1] ^= REACHED_IN_HIGH_BYTE;
+        for (uint32_t i = 0; i < 4 && maps == 0; i++)
+            state[READY_AT + READY_LENGTH * i + STATUS_HIGH_BYTE] ^= REACHED_IN_HIGH_BYTE;
+    }
+    event(CENDURAK_TICK, 0, 0);
+}
+
 static inline void prepare(const char *kind)
 {
     ready();
@@ -171,6 +206,10 @@ static inline void prepare(const char *kind)
     case 'e': case 'g': case 'i': case 'j': case 'l': case 'm': case 'n': operational(); break;
     case 'p': start_transfer(0x40, 0x1008); break;
     case 'q': operational(); start_transfer(0x20, 0x607A); break;
+    case 'r': rest(0, LONG_TIME, 1); break;
+    case 's': rest(0, SHORT_TIME, SHORT_TIME - 1); break;
+    case 't': case 'u': rest(0, SHORT_TIME, SHORT_TIME); break;
+    case 'v': case 'w': rest(WINDOW + 1, SHORT_TIME, 0); break;
     default: break;
     }
 }
@@ -188,12 +227,13 @@ static inline void call(const char *kind, uint32_t i)
     case 'i': sdo(0x23, 0x607A, 0, i); break;
     case 'j': sdo(0x2B, 0x6040, 0, i % 2 ? 0x07 : 0x06); break;
     case 'k': sdo(0x40, 0x6042, 0, 0); break;
-    case 'l': frame(0x7FF, 0, 0); break;
-    case 'm': event(CENDURAK_TICK, 0, 0); break;
+    case 'l': case 't': case 'v': frame(0x7FF, 0, 0); break;
+    case 'm': case 'r': case 'u': case 'w': event(CENDURAK_TICK, 0, 0); break;
     case 'n': feedback(i); break;
     case 'o': machine_cycle(kind[1], i); break;
     case 'p': upload_segment(); break;
     case 'q': last_download_segment(i); break;
+    case 's': last_tick(kind[1]); break;
     }
 }
 

@@ -272,6 +272,19 @@ static void all_flips(void)
     flips(&b, &b.state, "state's bytes in Operational");
     flips(&b, &b.dict, "dictionary's bytes in Operational");
 
+    started(&b);
+    sdo(&b, 0x2F, 0x6060, 0, 1);
+    sdo(&b, 0x23, 0x6067, 0, 20);
+    sdo(&b, 0x2B, 0x6068, 0, 2);
+    sdo(&b, 0x23, 0x607A, 0, 10);
+    control(&b, 0x06);
+    control(&b, 0x1F);
+    event(&b, CENDURAK_TICK, 0, 0);
+    event(&b, CENDURAK_TICK, 0, 0);
+    check(cendurak_stay(lent(&b.state)) == 2 && status(&b) == 0x1637, "two ticks inside the window");
+    flips(&b, &b.state, "state's bytes inside the window");
+    flips(&b, &b.dict, "dictionary's bytes inside the window");
+
     fresh(&b);
     sdo(&b, 0x40, 0x1008, 0, 0);
     sdo(&b, 0x60, 0, 0, 0);

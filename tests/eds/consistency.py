@@ -4,7 +4,7 @@ import re
 
 from sheet import DEVICE_NAME, MAPPING, NODE_ID, PDO_ROOM, RECEIVE, SUBOBJECT, TRANSMIT, Sheet, entry_of, number, place_of, sections_of
 
-ENTRIES = 122  # of the dictionary's bytes
+ENTRIES = 123  # of the dictionary's bytes
 MANDATORY = [0x1000, 0x1001, 0x1018]
 VARIABLE, ARRAY, RECORD = "0x7", "0x8", "0x9"
 MANUFACTURER = range(0x2000, 0x6000)

@@ -1,6 +1,7 @@
 """Wrong sheets: what each changes in the true one, and a sentence that must be among those that refuse it.
 
 A change gives keys of a section their new values; None takes a key or a whole section away."""
+from consistency import ENTRIES
 
 VARIABLE = {
     "ParameterName": "Another", "ObjectType": "0x7", "DataType": "0x0007",
@@ -10,12 +11,14 @@ VARIABLE = {
 # The optional objects behind 1008h. Without it each of them is listed one number lower.
 BEHIND_DEVICE_NAME = [
     0x1014, 0x1017, *range(0x1400, 0x1404), *range(0x1600, 0x1604), *range(0x1800, 0x1804), *range(0x1A00, 0x1A04), 0x603F, 0x6040, 0x6041,
-    0x6060, 0x6061, 0x6064, 0x6067, 0x606C, 0x606D, 0x606F, 0x607A, 0x607D, 0x6081, 0x6083, 0x6084, 0x60FF, 0x6502,
+    0x6060, 0x6061, 0x6064, 0x6067, 0x6068, 0x606C, 0x606D, 0x606F, 0x607A, 0x607D, 0x6081, 0x6083, 0x6084, 0x60FF, 0x6502,
 ]
+LISTED = 2 + len(BEHIND_DEVICE_NAME)  # with 1005h and 1008h
+ONE_LESS = {"SupportedObjects": str(LISTED - 1), str(LISTED): None}
 NO_DEVICE_NAME = {
     "1008": None,
     "OptionalObjects": {
-        "SupportedObjects": "36", "37": None, **{str(number): f"0x{index:04X}" for number, index in enumerate(BEHIND_DEVICE_NAME, 2)},
+        **ONE_LESS, **{str(number): f"0x{index:04X}" for number, index in enumerate(BEHIND_DEVICE_NAME, 2)},
     },
 }
 
@@ -111,7 +114,7 @@ AGAINST_RULES_AND_NODE = {
         "node 127 has 607D:02, and the sheet has no such entry",
     ),
     "an object left out": (
-        {"6502": None, "OptionalObjects": {"37": None, "SupportedObjects": "36"}},
+        {"6502": None, "OptionalObjects": ONE_LESS},
         "node 127 has 6502:00, and the sheet has no such entry",
     ),
     "an entry too many": (
@@ -127,7 +130,7 @@ AGAINST_RULES_AND_NODE = {
         "the rules have a row for 607D:02, and the sheet has no such entry",
     ),
     "an object too many": (
-        {"6503": VARIABLE, "OptionalObjects": {"38": "0x6503", "SupportedObjects": "38"}},
+        {"6503": VARIABLE, "OptionalObjects": {str(LISTED + 1): "0x6503", "SupportedObjects": str(LISTED + 1)}},
         "[6503] DataType=0x0007 DefaultValue=0: upload 6503:00 must give value 00 00 00 00, and node 127 gave abort 06020000",
     ),
     "no device name": (NO_DEVICE_NAME, "node 127 has 1008:00, and the sheet has no such entry"),
@@ -176,10 +179,13 @@ AGAINST_RULES_AND_NODE = {
 
 AGAINST_ITSELF = {
     "a count of entries": (
-        {"6502": None, "OptionalObjects": {"37": None, "SupportedObjects": "36"}},
-        "the sheet has 121 entries besides the device name, and the dictionary 122",
+        {"6502": None, "OptionalObjects": ONE_LESS},
+        f"the sheet has {ENTRIES - 1} entries besides the device name, and the dictionary {ENTRIES}",
     ),
-    "a count of objects": ({"OptionalObjects": {"SupportedObjects": "36"}}, "[OptionalObjects] SupportedObjects=36, and there are 37"),
+    "a count of objects": (
+        {"OptionalObjects": {"SupportedObjects": str(LISTED - 1)}},
+        f"[OptionalObjects] SupportedObjects={LISTED - 1}, and there are {LISTED}",
+    ),
     "an object in the wrong list": (
         {"ManufacturerObjects": {"1": "0x6502", "SupportedObjects": "1"}},
         "[ManufacturerObjects] lists 0x6502, which belongs to [OptionalObjects]",

@@ -34,7 +34,8 @@ class Row:
 
 
 DEVICE_TYPE, ERROR_REGISTER, HEARTBEAT_TIME, ERROR_CODE = (0x1000, 0), (0x1001, 0), (0x1017, 0), (0x603F, 0)
-CONTROL_WORD, STATUS_WORD, SUPPORTED_MODES = (0x6040, 0), (0x6041, 0), (0x6502, 0)
+CONTROL_WORD, STATUS_WORD, SUPPORTED_MODES = can.CONTROL_WORD, (0x6041, 0), (0x6502, 0)
+TIMES = (HEARTBEAT_TIME, can.WINDOW_TIME)  # in milliseconds
 NO_OBJECT = (0, 0)  # as an abort names none
 MOST_NUMBER = 4  # bytes that are shown as a number
 
@@ -48,6 +49,7 @@ class Decoder:
         # as they were before the frame that is put in or out
         self.running: Optional[Transfer] = None
         self.asked: Optional[Sdo] = None
+        self.status = 0  # the status word that was shown last
 
     # what goes in and out
 
@@ -62,6 +64,7 @@ class Decoder:
         elif isinstance(what, PowerUp):
             if accepted:
                 self.node.power_up(what.node)
+                self.status = 0
             row = Row(0, AMPLIFIER, 'power-up', details=[f'node-ID {what.node}'])
         elif isinstance(what, Event):
             row = Row(0, AMPLIFIER, *event_texts(what))
@@ -156,7 +159,7 @@ class Decoder:
         if sdo.command in can.READ_SIZES:
             row = self.make(OUT, 'SDO value', frame, [self.object_text(sdo.place, sdo.data[:can.READ_SIZES[sdo.command]])])
             if sdo.place == STATUS_WORD:
-                row.shows_status = int.from_bytes(sdo.data[:2], 'little')
+                self.show_status(row, int.from_bytes(sdo.data[:2], 'little'))
             return row
         if sdo.command == can.ABORTED:
             return self.make(OUT, 'SDO abort', frame, [self.abort_text(sdo)], BAD)
@@ -208,7 +211,7 @@ class Decoder:
             data = frame.data[part.start:part.start + part.size]
             row.details.append(self.object_text(part.place, data))
             if part.place == STATUS_WORD:
-                row.shows_status = int.from_bytes(data, 'little')
+                self.show_status(row, int.from_bytes(data, 'little'))
         if len(frame.data) > needed:
             row.details.append(f'{len(frame.data) - needed} bytes more than mapped')
         return row
@@ -245,7 +248,7 @@ class Decoder:
             return words.error_register(value)
         if place in (can.MODE, can.MODE_DISPLAY):
             return f"{int.from_bytes(data, 'little', signed=True)} {words.MODES.get(value, 'unknown')}"
-        if place == HEARTBEAT_TIME:
+        if place in TIMES:
             return f'{value} ms'
         if place == DEVICE_TYPE:
             return f'{value:08X}h device profile {value & 0xFFFF}'
@@ -269,7 +272,16 @@ class Decoder:
     def status_row(self, time: int, status: int) -> Row:
         """The node's status word after a call that changed it."""
         text = self.object_text(STATUS_WORD)._replace(value=words.status_word(status, self.node.mode))
-        return Row(time, '', 'state', details=[text], style=GOOD)
+        row = Row(time, '', 'state', details=[text], style=GOOD)
+        self.show_status(row, status)
+        return row
+
+    def show_status(self, row: Row, status: int) -> None:
+        """The row shows this status word. Under target reached that is new stands how long it waited."""
+        row.shows_status = status
+        if status & ~self.status & words.REACHED and self.node.window_time:
+            row.details.append(self.remark(can.WINDOW_TIME, f'inside for {self.node.window_time} ms'))
+        self.status = status
 
 
 def byte_count(count: int) -> str:

@@ -4,7 +4,7 @@ This follows a trace as far as it shows; it decides nothing. What the node does 
 """
 from typing import Iterator, NamedTuple, Optional
 
-from . import segments
+from . import segments, words
 from .eds import Objects, Place
 from .records import Frame
 from .segments import Transfer, segment_of
@@ -23,7 +23,7 @@ RECEIVE, TRANSMIT = 'R', 'T'
 COMMUNICATION = {RECEIVE: 0x1400, TRANSMIT: 0x1800}
 MAPPING = {RECEIVE: 0x1600, TRANSMIT: 0x1A00}
 NOT_VALID = 0x80000000
-MODE, MODE_DISPLAY = (0x6060, 0), (0x6061, 0)
+CONTROL_WORD, MODE, MODE_DISPLAY, WINDOW_TIME = (0x6040, 0), (0x6060, 0), (0x6061, 0), (0x6068, 0)
 
 
 class Sdo(NamedTuple):
@@ -216,3 +216,9 @@ class Node:
     @property
     def mode(self) -> int:
         return self.values.get(MODE_DISPLAY, 0)
+
+    @property
+    def window_time(self) -> int:
+        """How many milliseconds target reached waits inside the window; 0 where it does not wait, as under halt."""
+        waits = self.mode == words.POSITION_MODE and not self.values.get(CONTROL_WORD, 0) & words.HALT
+        return self.values.get(WINDOW_TIME, 0) if waits else 0

@@ -85,7 +85,10 @@ STATE_BITS = 0x6F
 STATUS_BITS = {4: 'voltage', 7: 'warning', 9: 'remote', 10: 'reached', 11: 'limit', 12: 'set-point ack', 13: 'following error'}
 VELOCITY_STATUS_BITS = {**STATUS_BITS, 12: 'standstill', 13: 'slippage'}
 
+REACHED = 1 << 10  # of the status word
+
 COMMAND_BITS = 0x8F  # of the control word: the drive command is in these
+HALT = 1 << 8
 CONTROL_BITS = {8: 'halt'}
 POSITION_CONTROL_BITS = {4: 'new set-point', 5: 'at once', 6: 'relative', 8: 'halt'}
 

@@ -22,7 +22,8 @@ use Rattle.state.specs.declared.State.{State}
 use Rattle.state.specs.NmtStates.{isOperational}
 use Rattle.rules_services.specs.PdoTraffic.{noneHeld, allIdle}
 use Rattle.rules_services.specs.Nmt.{freshState, powerUp}
-use Rattle.rules.specs.Outcome.{ended}
+use Rattle.drive.specs.Window.{inside, counted, staying}
+use Rattle.rules.specs.Outcome.{ended, driveAtEnd}
 use Rattle.rules.specs.Calls.{accepted}
 use Rattle.theorems.proofs.NmtKept.{LawfulAfter, fresh-lawful}
 use Rattle.form.specs.Form.{joined, planForm, plansPlace, stateLength, formOver, withPlans}
@@ -66,7 +67,7 @@ module _ (n : ℕ) {d o : List ℕ} {r : Done} {d′ o′ : List ℕ} (first : f
     pub starts-anew : (s : State) {bs″ : List ℕ} →
         Holds bs″ (withPlans (plansOf d″) (freshState n .node) NoTransfer (freshState n .axis .drive) (readyOf d″) noneHeld allIdle) →
         Answers (accepted (ended s d (powerUp n)) o) (acceptedGiven (r .frames)) bs″ d″ o′
-    unfolding powerUp freshState
+    unfolding powerUp freshState driveAtEnd staying counted inside
     starts-anew s held =
         answers s d o (powerUp n) (keeping s (freshState n)) r (isOperational (s .node .nmt)) d′
         (rw (left .occasion, left .dictionary) (ended-idle s d (powerUp n) refl)) (left .frames) (left .output)

@@ -18,7 +18,7 @@ use Rattle.state.specs.declared.State.{State}
 use Rattle.state.specs.NmtStates.{isOperational}
 use Rattle.rules_services.specs.Effects.{Effect, Frame}
 use Rattle.rules_services.specs.PdoTraffic.{works, idle}
-use Rattle.rules.specs.Outcome.{End, ended, settled, statusOf, driveAtEnd, paceFor, entersOperational, changes, transmissions, transmitters}
+use Rattle.rules.specs.Outcome.{End, ended, settled, statusOf, paceFor, entersOperational, changes, transmissions, transmitters}
 use Rattle.rules.specs.Outcome.{frameSize, sentInto}
 use Rattle.rules.specs.Calls.{accepted}
 use Rattle.theorems.proofs.Lawful.{Lawful, clauses, sound-lawful}
@@ -32,11 +32,11 @@ use Rattle.form.specs.Holding.{Holds}
 use Rattle.form.proofs.Holding.{held-state, held-length}
 use Rattle.output.specs.declared.Done.{Done}
 use Rattle.output.specs.Laying.{emitted}
-use Rattle.output.specs.Leaves.{keeping, Leaves, Rests}
+use Rattle.output.specs.Leaves.{keeping, Leaves, Calm, Rests}
 use Rattle.output.proofs.Frames.{emitted-then, emitted-all, length-emitted}
 use Rattle.tpdo.specs.Sending.{mostBefore, turn}
 use Rattle.calls.specs.Answers.{acceptedGiven, Answers}
-use Rattle.calls.specs.Ending.{Stands, settledBy, endWith, endOf, CountsBelow, Still, MayFinish, Stepped}
+use Rattle.calls.specs.Ending.{Stands, settledBy, endWith, endOf, CountsBelow, Still, countedIn, MayRest, MayFinish, Stepped}
 use Rattle.calls.proofs.Plannable.{plannable}
 use Rattle.calls.proofs.Calm.{end-still}
 use Rattle.calls.proofs.Regular.{Regular, regular}
@@ -49,15 +49,17 @@ joined fs f = record { state = f .state; dictionary = f .dictionary; sent = fs +
 
 module _ (s : State) (d : List ℕ) (e : Effect) where
   abbrev endedBy : End
-  endedBy = joined (e .sent) (endOf (isOperational (s .node .nmt)) (keeping s (e .state)) (e .occasion) (stored (e .writes) d))
+  endedBy =
+      let d1 = stored (e .writes) d in
+      joined (e .sent) (endOf (isOperational (s .node .nmt)) (countedIn (e .occasion) d1 (keeping s (e .state))) (e .occasion) d1)
 
   -- outside Operational no pace counts
   pub ended-idle : isOperational (e .state .node .nmt) ≡ false → ended s d e ≡ endedBy
-  unfolding ended driveAtEnd settled statusOf paceFor entersOperational changes works transmissions settledBy endWith turn
+  unfolding ended settled statusOf paceFor entersOperational changes works transmissions settledBy endWith turn
   ended-idle off = rw off
 
   ended-on : e .state .axis .paces ≡ s .axis .paces → ended s d e ≡ endedBy
-  unfolding ended driveAtEnd settled statusOf paceFor entersOperational changes transmissions settledBy endWith turn
+  unfolding ended settled statusOf paceFor entersOperational changes transmissions settledBy endWith turn
   ended-on paces = rw paces
 
   ended-by : (isOperational (e .state .node .nmt) ≡ true → e .state .axis .paces ≡ s .axis .paces) → ended s d e ≡ endedBy
@@ -140,33 +142,44 @@ module _ {s : State} {d o : List ℕ} {e : Effect} {r : Done} {bs′ d′ o′ :
       let on : isOperational (e .state .node .nmt) ≡ true = and-left (isOperational (e .state .node .nmt)) _ (and-left _ _ w) in
       rw (reg .paces on) at (after .waits .counts k (transmitter k i) w c)
 
-  still-at : r .quiet ≡ true → Still (isOperational (s .node .nmt)) (keeping s (e .state)) r d′
+  rests-at : r .quiet ≡ true → MayRest (isOperational (s .node .nmt)) (keeping s (e .state)) r d′
   unfolding stored
-  still-at q =
+  rests-at q =
       let c = rest .calm (sym (rest .told) ∙ q) in
       let none : d′ ≡ d = left .dictionary ∙ rw (c .writes) in
-      rw none (end-still s (keeping s (e .state)) (r .occasion) d (h .long) b (h .sound) (c .nmt) (c .voltage) (c .drive)
-      (plans-are s d (clauses s d (h .sound) .plans)) fresh refl (rw (left .occasion) (c .occasion)))
+      record {
+        still = rw none (still c);
+        placed = rw (none, c .drive) (clauses s d (h .sound) .stay);
+      }
+    where
+      still : Calm s e → Still (isOperational (s .node .nmt)) (keeping s (e .state)) r d
+      still c =
+          end-still s (keeping s (e .state)) (r .occasion) d (h .long) b (h .sound) (c .nmt) (c .voltage) (c .drive)
+          (plans-are s d (clauses s d (h .sound) .plans)) fresh refl (rw (left .occasion) (c .occasion))
 
   -- what its service leaves, the end may finish
   pub may-finish : MayFinish (isOperational (s .node .nmt)) bs′ r d′ o′
   may-finish =
       let roomy : frameSize * (0 + length (e .sent)) ≤ length o = omega (arith, few, h .room) in
       record {
-        own = subst (Holds bs′) (sym is) (left .state);
-        whole = held-length (left .state);
-        plannable = gives;
-        room = rw (left .output, ← emitted-all, length-emitted 0 (e .sent) o roomy) (h .room);
-        few = rw (left .frames) few;
-        counts = rw is counts-at;
-        plans = λ q. rw is (plans-at q);
+        end = record {
+          own = subst (Holds bs′) (sym is) (left .state);
+          whole = held-length (left .state);
+          plannable = gives;
+          room = rw (left .output, ← emitted-all, length-emitted 0 (e .sent) o roomy) (h .room);
+          few = rw (left .frames) few;
+          counts = rw is counts-at;
+          plans = λ q. rw is (plans-at q);
+          ready = λ q t. rw is (ready-at q t);
+        };
         idle = λ q. rw is (reg .idle (sym (left .remapped) ∙ q));
-        ready = λ q t. rw is (ready-at q t);
-        still = λ q. rw is (still-at q);
+        rests = λ q. rw is (rests-at q);
       }
 
   -- THE LAW
-  pub concludes : {n : ℕ} {bs″ d″ o″ : List ℕ} → Stepped (isOperational (s .node .nmt)) (stateOf bs′) r d′ o′ n bs″ d″ o″ →
+  pub concludes : {n : ℕ} {bs″ d″ o″ : List ℕ} →
+      Stepped (isOperational (s .node .nmt)) (countedIn (r .occasion) d′ (stateOf bs′)) r d′ o′ n bs″ d″ o″ →
       Answers (accepted (ended s d e) o) (acceptedGiven n) bs″ d″ o″
-  concludes = answers s d o e (stateOf bs′) r (isOperational (s .node .nmt)) d′ (rw (is, left .occasion, left .dictionary) (ended-by s d e
-      (reg .paces))) (left .frames) (left .output)
+  concludes =
+      answers s d o e (countedIn (r .occasion) d′ (stateOf bs′)) r (isOperational (s .node .nmt)) d′
+      (rw (is, left .occasion, left .dictionary) (ended-by s d e (reg .paces))) (left .frames) (left .output)

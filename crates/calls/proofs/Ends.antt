@@ -23,7 +23,7 @@ use Rattle.output.proofs.Frames.{emitted-none}
 use Rattle.output.specs.declared.Done.{Done}
 use Rattle.tpdo.specs.declared.Sent.{Sent}
 use Rattle.tpdo.specs.Sending.{turn, MaySend, SentBy}
-use Rattle.calls.specs.Ending.{settledBy, writtenBy, turnsOf, endWith, Still, MayFinish, MayReady, Stepped, Renews}
+use Rattle.calls.specs.Ending.{settledBy, writtenBy, turnsOf, endWith, Still, MayEnd, MayReady, Stepped, Renews}
 use Rattle.calls.proofs.StatusMade.{AlikeInPdos, plans-alike, plannable-alike, made-long, made-alike, unwritten}
 use Rattle.calls.proofs.Plannable.{data-at}
 
@@ -73,7 +73,7 @@ module _ {was : Bool} {t : State} {r : Done} {d′ d″ : List ℕ} (made : d″
 pub still-plannable : (t : State) (d d″ : List ℕ) → d″ ≡ settledBy (t .node) (t .axis .drive) d → GivesPlans d → GivesPlans d″
 still-plannable t d d″ made g = rw made (plannable-alike d _ (made-alike t d) (made-long t d) g)
 
-module _ {was : Bool} {bs : List ℕ} {r : Done} {d o : List ℕ} (h : MayFinish was bs r d o) (q : r .remapped ≡ false) (d″ : List ℕ)
+module _ {bs : List ℕ} {r : Done} {d o : List ℕ} (h : MayEnd bs r d o) (q : r .remapped ≡ false) (d″ : List ℕ)
     (made : d″ ≡ settledBy (stateOf bs .node) (stateOf bs .axis .drive) d) where
   alike : AlikeInPdos d d″
   alike y i k = rw made (made-alike (stateOf bs) d y i k)

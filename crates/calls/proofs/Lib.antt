@@ -1,6 +1,7 @@
 pub mod StatusMade
 pub mod Plannable
 pub mod Calm
+pub mod Counted
 pub mod Ends
 pub mod Regular
 pub mod Stays

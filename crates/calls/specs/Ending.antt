@@ -11,16 +11,19 @@ use Rattle.state.specs.declared.Node.{Node}
 use Rattle.state.specs.declared.State.{State}
 use Rattle.state.specs.declared.Occasion.{Occasion}
 use Rattle.state.specs.NmtStates.{isOperational, isStopped}
-use Rattle.rules_dictionary.specs.Table.{dictionaryLength, eachWay, statusWord, modeDisplay}
+use Rattle.state.specs.Occasions.{isTicked}
+use Rattle.rules_dictionary.specs.Table.{dictionaryLength, eachWay, statusWord, modeDisplay, windowTime}
 use Rattle.rules_dictionary.specs.Values.{read, store}
 use Rattle.rules_dictionary.specs.Legal.{isCyclic, modeNumber}
 use Rattle.rules_dictionary.specs.Plans.{plansOf, readyOf}
+use Rattle.drive.specs.SetPoints.{withStay}
+use Rattle.drive.specs.Window.{counted}
 use Rattle.drive.specs.StatusWord.{status}
-use Rattle.rules_services.specs.Effects.{withPaces}
+use Rattle.rules_services.specs.Effects.{withDrive, withPaces}
 use Rattle.rules_services.specs.declared.Paced.{Paced}
 use Rattle.rules_services.specs.PdoTraffic.{works, typeOf, idle, allIdle}
-use Rattle.rules.specs.Outcome.{End, transmissions, transmitters}
-use Rattle.rules.specs.Sound.{sound}
+use Rattle.rules.specs.Outcome.{End, driveAtEnd, transmissions, transmitters}
+use Rattle.rules.specs.Sound.{sound, staySound}
 use Rattle.rules.specs.Calls.{outputLength}
 use Rattle.form.specs.Form.{stateLength, stateOf}
 use Rattle.form.specs.Holding.{Holds, withReady, planned}
@@ -79,6 +82,24 @@ endWith was t occasion d =
 abbrev pub endOf : Bool → State → Occasion → List ℕ → End
 endOf was t occasion d = endWith was t occasion (settledBy (t .node) (t .axis .drive) d)
 
+-- ---- first of all, the ticks inside the window
+
+-- the state with its drive as the end leaves it
+abbrev pub countedIn : Occasion → List ℕ → State → State
+countedIn occasion d t = withDrive (driveAtEnd occasion d (t .axis .drive)) t
+
+-- with so many of them
+abbrev pub withTicks : ℕ → State → State
+withTicks n t = withDrive (withStay n (t .axis .drive)) t
+
+-- with a tick they come to the window time
+abbrev pub comes : Drive → List ℕ → Bool
+comes v d = not (eqb (counted true v d) (v .stay)) && eqb (counted true v d) (read d windowTime)
+
+-- something is left to do
+abbrev pub leftBy : Done → Drive → List ℕ → Bool
+leftBy r v d = not (r .quiet) || (isTicked (r .occasion) && comes v d)
+
 -- ---- what the end needs
 
 -- the end changes nothing and sends nothing
@@ -92,7 +113,7 @@ CountsBelow t d =
     getD (t .axis .paces) k idle .count < typeOf d (eachWay + k)
 
 -- the end may come, over the bytes of the state that the service left
-pub record MayFinish (was : Bool) (bs : List ℕ) (r : Done) (d′ o′ : List ℕ) : Type 0 where
+pub record MayEnd (bs : List ℕ) (r : Done) (d′ o′ : List ℕ) : Type 0 where
   pub own : Holds bs (stateOf bs)
   pub whole : length bs ≡ stateLength
   pub plannable : GivesPlans d′
@@ -100,9 +121,17 @@ pub record MayFinish (was : Bool) (bs : List ℕ) (r : Done) (d′ o′ : List �
   pub few : r .frames ≤ mostBefore
   pub counts : CountsBelow (stateOf bs) d′
   pub plans : r .remapped ≡ false → stateOf bs .axis .plans ≡ plansOf d′
-  pub idle : r .remapped ≡ true → isOperational (stateOf bs .node .nmt) ≡ false
   pub ready : r .remapped ≡ false → r .touched ≡ false → stateOf bs .axis .ready ≡ readyOf d′
-  pub still : r .quiet ≡ true → Still was (stateOf bs) r d′
+
+-- .. or it may rest, but for the ticks inside the window, where those that stand there are sound
+pub record MayRest (was : Bool) (t : State) (r : Done) (d′ : List ℕ) : Type 0 where
+  pub still : Still was t r d′
+  pub placed : staySound (t .axis .drive) d′ ≡ true
+
+pub record MayFinish (was : Bool) (bs : List ℕ) (r : Done) (d′ o′ : List ℕ) : Type 0 where
+  pub end : MayEnd bs r d′ o′
+  pub idle : r .remapped ≡ true → isOperational (stateOf bs .node .nmt) ≡ false
+  pub rests : r .quiet ≡ true → MayRest was (stateOf bs) r d′
 
 -- what is needed to work plans and ready frames anew
 pub record MayRenew (bs d′ : List ℕ) : Type 0 where

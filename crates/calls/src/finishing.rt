@@ -5,7 +5,8 @@ ghost use Rattle.rules_dictionary.specs.Plans.{readyOf};
 ghost use Rattle.form.specs.Form.{stateOf};
 ghost use Rattle.form.specs.Holding.{Holds, withReady};
 ghost use Rattle.mapping.specs.Afresh.{whichChange};
-ghost use Rattle.calls.specs.Ending.{MayFinish, MayRenew, MayReady, Renews, Stepped};
+ghost use Rattle.calls.specs.Ending.{MayEnd, MayFinish, MayRenew, MayReady, Renews, Stepped, countedIn};
+use crate::counting::is_left;
 use crate::settling::settle;
 use form::put_paces;
 use form::put_plans;
@@ -45,7 +46,7 @@ fn renewed(written: bool, state: &mut [u8], d: &[u8]) -> [bool; 4]
 
 // 6041h and 6061h made, the ready frames worked again, and the transmit PDOs sent as they are due.
 fn end_call(done: Done, was: bool, state: &mut [u8], d: &mut [u8], output: &mut [u8]) -> u8
-    requires { ⌜ MayFinish was (now state) done (now d) (now output) × (done .remapped ≡ false) ⌝ }
+    requires { ⌜ MayEnd (now state) done (now d) (now output) × (done .remapped ≡ false) ⌝ }
     ensures { λ r. ⌜ Stepped was (stateOf (now (state .entry))) done (now (d .entry)) (now (output .entry)) r
         (now (state .exit)) (now (d .exit)) (now (output .exit)) ⌝ }
 {
@@ -74,10 +75,10 @@ fn end_call(done: Done, was: bool, state: &mut [u8], d: &mut [u8], output: &mut 
 // What a service left of a call that started Operational, or did not, finished. How many frames stand in the output then.
 pub fn finish(done: Done, was: bool, state: &mut [u8], d: &mut [u8], output: &mut [u8]) -> u8
     requires { ⌜ MayFinish was (now state) done (now d) (now output) ⌝ }
-    ensures { λ r. ⌜ Stepped was (stateOf (now (state .entry))) done (now (d .entry)) (now (output .entry)) r
+    ensures { λ r. ⌜ Stepped was (countedIn (done .occasion) (now (d .entry)) (stateOf (now (state .entry)))) done (now (d .entry)) (now (output .entry)) r
         (now (state .exit)) (now (d .exit)) (now (output .exit)) ⌝ }
 {
-    if done.quiet {
+    if !is_left(done, state, d) {
         return done.frames as u8;
     }
     if done.remapped {

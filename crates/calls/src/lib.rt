@@ -7,6 +7,7 @@
 mod opens; // the refusals that need no more than what is lent
 mod served; // a frame, by its identifier
 mod settling; // 6041h and 6061h
+mod counting; // the ticks inside the window
 mod finishing; // the call's end
 
 use events::event_of;

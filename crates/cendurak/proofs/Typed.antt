@@ -1,5 +1,6 @@
 -- Every state of a run is what the types allow, so that its form is read back as that state. Plans, ready and held frames, paces and the heartbeat's
--- count are so by soundness; the set-points are words of the dictionary and targets inside 607Dh, by the services' cases.
+-- count are so by soundness; the set-points are words of the dictionary and targets inside 607Dh, by the services' cases, and the ticks inside the
+-- window stop at 65,535.
 -- Assumes nothing.
 use Prim.Native.Nat.{ℕ, zero, suc, _-_, _*_, _^_, _<_}
 use native.Mathlib.Omega.{arith}
@@ -34,18 +35,19 @@ use Rattle.drive.specs.declared.Store.{Store}
 use Rattle.drive.specs.declared.Store.the-variants.{Empty, Rested, Moving, Queued}
 use Rattle.drive.specs.declared.Drive.{Drive}
 use Rattle.drive.specs.SetPoints.{positions, emptied, enters, withState, behind, reached, isQueued, target, withinLimits, setPoint, withTaken}
-use Rattle.drive.specs.SetPoints.{offered, setPointRule, modeWritten, controlWritten, newSetPointBit, atOnceBit}
+use Rattle.drive.specs.SetPoints.{becomesActive, movedOn, offered, setPointRule, modeWritten, controlWritten, newSetPointBit, atOnceBit}
+use Rattle.drive.specs.Window.{inside, mostTicks, oneMore, counted, staying}
 use Rattle.state.specs.declared.NmtState.{NmtState}
 use Rattle.state.specs.declared.State.{State}
+use Rattle.state.specs.Occasions.{isTicked}
 use Rattle.rules_services.specs.Effects.{Effect, andThen, withHeld, withTransfer}
 use Rattle.rules_services.specs.Written.{wrote, countRestarted, modeActed, faultReset, controlActed, applied}
 use Rattle.rules_services.specs.Nmt.{commanded, powerUp, freshState, left, voltageDisabled}
 use Rattle.rules_services.specs.Events.{faulted}
 use Rattle.rules_services.specs.PdoTraffic.{works, typeOf, isHeld, noData, mappedLength}
-use Rattle.rules.specs.Outcome.{ended, sameData, mostData}
+use Rattle.rules.specs.Outcome.{ended, driveAtEnd, sameData, mostData}
 use Rattle.rules.specs.Sound.{pairwise, heartbeatSound, waitingSound, paceSound, heldSound}
 use Rattle.rules.specs.Calls.{Call, Decision, refused, accepted, answered, answer}
-use Rattle.rules.proofs.AtEnd.{at-end}
 use Rattle.theorems.specs.Promises.{Step, Stand, octets}
 use Rattle.theorems.proofs.Booleans.{by-test, whichever, or-either}
 use Rattle.theorems.proofs.Lawful.{clauses}
@@ -168,11 +170,17 @@ behind-typed (Queued a b) p t f = t
 -- ---- the drive
 
 abbrev Fits : Drive → Type 0
-Fits v = StoreTyped (v .store)
+Fits v = StoreTyped (v .store) × (v .stay < half)
+
+anew : 0 < half
+anew = lit< tt
+
+nothing-typed : StoreTyped Empty × (0 < half)
+nothing-typed = (empty-typed, anew)
 
 emptied-typed : (v : Drive) → Fits v → Fits (emptied v)
 unfolding emptied
-emptied-typed v t = whichever Fits (positions v) t empty-typed
+emptied-typed v t = whichever Fits (positions v) t (empty-typed, t .1)
 
 enters-typed : (q : DriveState) (v : Drive) → Fits v → Fits (enters q v)
 unfolding enters
@@ -182,8 +190,10 @@ module _ (d : List ℕ) (b : areBytes d ≡ true) where
   taken-typed : (word : ℕ) (v : Drive) (t : ℤ) → withinLimits d t ≡ true → Fits v → Fits (withTaken word (setPoint d t) v)
   unfolding withTaken
   taken-typed word v t inside f =
-      let p = set-point-typed d t b inside in
-      whichever StoreTyped (bit atOnceBit word) (record { first = p; second = none-typed }) (behind-typed (v .store) (setPoint d t) f p)
+      let p = set-point-typed d t b inside in (
+        whichever StoreTyped (bit atOnceBit word) (record { first = p; second = none-typed }) (behind-typed (v .store) (setPoint d t) (f .0) p),
+        whichever (λ n. n < half) (becomesActive (bit atOnceBit word) (v .store)) anew (f .1),
+      )
 
   offered-typed : (word : ℕ) (v : Drive) → Fits v → Fits (offered d word v)
   unfolding offered
@@ -228,7 +238,7 @@ releases-typed {s = s} {d = d} (Releases.next h ws cleared may rest) b t =
 
 served-typed : {K : Type 0} {s : State} {d : List ℕ} {e : Effect} → Serves K s d e → areBytes d ≡ true →
     Fits (s .axis .drive) → FitsBy e
-unfolding commanded powerUp freshState voltageDisabled left faulted
+unfolding commanded powerUp freshState voltageDisabled left faulted movedOn
 served-typed Serves.nothing b t = t
 served-typed (Serves.replies run said) b t = t
 served-typed (Serves.alarms l code) b t = t
@@ -239,9 +249,11 @@ served-typed (Serves.starts h idle) b t = t
 served-typed Serves.leaves b t = t
 served-typed {s = s} Serves.stops b t = enters-typed _ (s .axis .drive) t
 served-typed {s = s} Serves.resets b t = enters-typed _ (s .axis .drive) t
-served-typed Serves.begins b t = empty-typed
+served-typed Serves.begins b t = nothing-typed
 served-typed {s = s} (Serves.moves q h) b t = enters-typed q (s .axis .drive) t
-served-typed {s = s} (Serves.reaches h) b t = reached-typed (s .axis .drive .store) t
+served-typed {s = s} (Serves.reaches h) b t =
+    let held = s .axis .drive .store in
+    (reached-typed held (t .0), whichever (λ n. n < half) (isQueued held) anew (t .1))
 served-typed Serves.recovers b t = t
 served-typed {s = s} (Serves.faults code register fits) b t = enters-typed _ (s .axis .drive) t
 served-typed (Serves.feeds at speed fits) b t = t
@@ -252,7 +264,7 @@ served-typed Serves.beats b t = t
 
 -- ---- THE INVARIANT
 
--- between calls: what holds in a run, and set-points that are words
+-- between calls: what holds in a run, set-points that are words, and a count that is none too large
 pub record Kept (a : Stand) : Type 0 where
   pub holds : Holds a
   pub fits : Fits (a .state .axis .drive)
@@ -268,7 +280,8 @@ kept-typed a h =
     record {
       head = record {
         heartbeat = count-typed (s .node .heartbeat) d (h .holds .at .bytes) (c .heartbeat);
-        store = h .fits;
+        store = h .fits .0;
+        stay = h .fits .1;
         ready = rw (h .holds .ready) (ready-typed d);
         held = many-pairs (heldSound m d) DataTyped (held-typed m d) receivePdos (s .axis .held) (and-right paced _ (c .waiting));
         paces = many-pairs (paceSound m d) AnyPace (λ p k e. tt) transmitPdos (s .axis .paces) (and-left paced _ (c .waiting));
@@ -276,14 +289,23 @@ kept-typed a h =
       plans = rw (h .holds .plans) (plans-typed d);
     }
 
--- the call's end leaves the store
+-- the call's end leaves the store, and counts to 65,535 at most
+more-typed : (n : ℕ) → n < half → oneMore n < half
+more-typed n h = by-test (λ k. k < half) (ltb n mostTicks) (λ e. omega (arith, ltb-true n mostTicks e)) (λ e. h)
+
+counted-typed : (ticked : Bool) (v : Drive) (d : List ℕ) → v .stay < half → counted ticked v d < half
+unfolding counted
+counted-typed ticked v d h =
+    let P : ℕ → Type 0 = λ n. n < half in
+    whichever P (inside (v .store) d) (whichever P ticked (more-typed (v .stay) h) h) anew
+
 ended-typed : (s : State) (d : List ℕ) (e : Effect) → FitsBy e → Fits (ended s d e .state .axis .drive)
-unfolding ended
-ended-typed s d e t = rw (at-end (e .occasion) (stored (e .writes) d) (e .state .axis .drive) .store) t
+unfolding ended driveAtEnd staying
+ended-typed s d e t = (t .0, counted-typed (isTicked (e .occasion)) (e .state .axis .drive) (stored (e .writes) d) (t .1))
 
 pub fresh-typed : (n : ℕ) (s : State) (d : List ℕ) → Fits (ended s d (powerUp n) .state .axis .drive)
 unfolding powerUp freshState
-fresh-typed n s d = ended-typed s d (powerUp n) empty-typed
+fresh-typed n s d = ended-typed s d (powerUp n) nothing-typed
 
 answered-typed : {c : Call} {x : Decision} {s : State} {d : List ℕ} (o : List ℕ) → Decides s d c x → areBytes d ≡ true → Fits (s .axis .drive) →
     Fits (answered x s d o .state .axis .drive)

@@ -102,7 +102,7 @@ driveRank = rows.entries - length rows.driveRows
 
 -- from this rank on, the dictionary's end is nearer than the drive's first place
 unfoldable pub middleRank : ℕ
-middleRank = (driveRank + rows.entries) / 2
+middleRank = (driveRank + rows.entries - 1) / 2
 
 -- behind the rows before it, or in front of those from it to the end
 unfoldable pub drivePlace : List ℕ → ℕ → ℕ

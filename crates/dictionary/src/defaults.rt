@@ -46,6 +46,7 @@ const DEFAULTS: [u8; DICTIONARY_LENGTH] = *b"\
     \0\
     \0\0\0\0\
     \0\0\0\0\
+    \0\0\
     \0\0\0\0\
     \0\0\
     \0\0\

@@ -9,9 +9,9 @@ use crate::values::write4;
 ghost use mathlib.Core.Path.{_≡_};
 ghost use lib.ListN.{length};
 ghost use Rattle.rules_dictionary.specs.Table.{deviceType, errorRegister, syncIdentifier, emergencyIdentifier, heartbeatTime, identityCount, vendor};
-ghost use Rattle.rules_dictionary.specs.Table.{controlWord, statusWord, mode, modeDisplay, position, positionWindow, velocity, velocityWindow};
-ghost use Rattle.rules_dictionary.specs.Table.{velocityThreshold, targetPosition, limitCount, minimumPosition, maximumPosition, profileVelocity};
-ghost use Rattle.rules_dictionary.specs.Table.{profileAcceleration, profileDeceleration, targetVelocity, supportedModes, errorCode, dictionaryLength};
+ghost use Rattle.rules_dictionary.specs.Table.{controlWord, statusWord, mode, modeDisplay, position, positionWindow, windowTime, velocity};
+ghost use Rattle.rules_dictionary.specs.Table.{velocityWindow, velocityThreshold, targetPosition, limitCount, minimumPosition, maximumPosition};
+ghost use Rattle.rules_dictionary.specs.Table.{profileVelocity, profileAcceleration, profileDeceleration, targetVelocity, supportedModes, errorCode, dictionaryLength};
 ghost use Rattle.rules_dictionary.specs.Values.{read, store};
 
 // 1000h, device type.
@@ -116,6 +116,14 @@ pub fn position_window(d: &[u8]) -> u32
     ensures { λ r. ⌜ r ≡ read (now (d .entry)) positionWindow ⌝ }
 {
     read4(d, places::POSITION_WINDOW)
+}
+
+// 6068h, window time.
+pub fn window_time(d: &[u8]) -> u16
+    requires { ⌜ length (now d) ≡ dictionaryLength ⌝ }
+    ensures { λ r. ⌜ r ≡ read (now (d .entry)) windowTime ⌝ }
+{
+    read2(d, places::WINDOW_TIME)
 }
 
 // 606Ch, velocity.

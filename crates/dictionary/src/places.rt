@@ -66,7 +66,9 @@ pub const POSITION: usize = MODE_DISPLAY + 1;
 
 pub const POSITION_WINDOW: usize = POSITION + 4;
 
-pub const VELOCITY: usize = POSITION_WINDOW + 4;
+pub const WINDOW_TIME: usize = POSITION_WINDOW + 4;
+
+pub const VELOCITY: usize = WINDOW_TIME + 2;
 
 pub const VELOCITY_WINDOW: usize = VELOCITY + 4;
 

@@ -58,10 +58,11 @@ const UP_TO_7FFFFFFF: u32 = 3 * RANGE;
 // How many rows stand before those of the drive: the node's, and of each PDO a communication and a mapping record.
 const DRIVE_RANK: usize = 7 + places::PDOS * (3 + 9);
 
-const ENTRIES: usize = DRIVE_RANK + 19;
+const ENTRIES: usize = DRIVE_RANK + 20;
 
-// From this row on, the dictionary's end is nearer than the drive's first place.
-const MIDDLE_RANK: usize = (DRIVE_RANK + ENTRIES) / 2;
+// From this row on, a place is worked from the dictionary's end and not from the drive's first place. At most eight rows are walked before it:
+// such a loop the compiler lays out in full.
+const MIDDLE_RANK: usize = (DRIVE_RANK + ENTRIES - 1) / 2;
 
 // The last index of a communication object, and that of the mode of operation.
 const LAST_COMMUNICATION: u16 = 0x1FFF;
@@ -180,6 +181,7 @@ const ROWS: [u32; ENTRIES] = [
     0x6061_00 * KEY + I8 + NODE_WRITTEN,
     0x6064_00 * KEY + I32 + NODE_WRITTEN,
     0x6067_00 * KEY + U32 + WRITABLE + UP_TO_7FFFFFFF,
+    0x6068_00 * KEY + U16 + WRITABLE,
     0x606C_00 * KEY + I32 + NODE_WRITTEN,
     0x606D_00 * KEY + U16 + WRITABLE,
     0x606F_00 * KEY + U16 + WRITABLE,

@@ -74,7 +74,7 @@ pub other : ℕ → SetPoint
 other t = record { target = t; velocity = 1; acceleration = 2; deceleration = 3 }
 
 pub drive : Store → Bool → Bool → Drive
-drive st taken limit = record { state = OperationEnabled; mode = ProfilePosition; store = st; taken = taken; limit = limit; cause = false }
+drive st taken limit = record { state = OperationEnabled; mode = ProfilePosition; store = st; taken = taken; limit = limit; cause = false; stay = 0 }
 
 unfoldable pub open-edges : Unit {0}
 unfolding bench point other drive open-numbers open-table open-values open-drive-states open-set-points open-status-word
@@ -123,7 +123,7 @@ edge-of-bit-4 = (refl, refl, refl)
 
 -- 1Fh from Ready enables and takes in one word; with bit 7 set a set-point is taken all the same
 ready : Drive
-ready = record { state = ReadyToSwitchOn; mode = ProfilePosition; store = Empty; taken = false; limit = false; cause = false }
+ready = record { state = ReadyToSwitchOn; mode = ProfilePosition; store = Empty; taken = false; limit = false; cause = false; stay = 0 }
 
 control-and-take : (controlWritten (bench (write controlWord 0x1F ∷ [])) 0x06 ready .drive ≡ drive (Moving (point 200)) true false)
     × (controlWritten (bench (write controlWord 0x9F ∷ [])) 0x0F (drive Empty false false) .drive ≡ drive (Moving (point 200)) true false)
@@ -132,9 +132,9 @@ control-and-take = (refl, refl)
 
 -- "It empties, and both marks clear, on leaving Operation enabled or mode 1."
 leaving-empties : (controlWritten (bench (write controlWord 0x1B ∷ [])) 0x1F (drive (Moving (point 1)) true true) .drive
-    ≡ record { state = QuickStopActive; mode = ProfilePosition; store = Empty; taken = false; limit = false; cause = false })
+    ≡ record { state = QuickStopActive; mode = ProfilePosition; store = Empty; taken = false; limit = false; cause = false; stay = 0 })
     × (modeWritten (bench (write mode 3 ∷ [])) (drive (Moving (point 1)) true true)
-    ≡ record { state = OperationEnabled; mode = ProfileVelocity; store = Empty; taken = false; limit = false; cause = false })
+    ≡ record { state = OperationEnabled; mode = ProfileVelocity; store = Empty; taken = false; limit = false; cause = false; stay = 0 })
     × (modeWritten (bench (write mode 1 ∷ [])) (drive (Moving (point 1)) true true) ≡ drive (Moving (point 1)) true true)
 unfolding open-edges
 leaving-empties = (refl, refl, refl)
@@ -143,7 +143,7 @@ leaving-empties = (refl, refl, refl)
 
 -- bits 4 and 9: "Bit 4 voltage; bit 9 not Stopped"
 idle : Drive
-idle = record { state = SwitchOnDisabled; mode = NoMode; store = Empty; taken = false; limit = false; cause = false }
+idle = record { state = SwitchOnDisabled; mode = NoMode; store = Empty; taken = false; limit = false; cause = false; stay = 0 }
 
 voltage-and-remote : (status true false idle (bench []) ≡ 0x0240) × (status true true idle (bench []) ≡ 0x0250)
     × (status false true idle (bench []) ≡ 0x0050)
@@ -177,7 +177,7 @@ halted = (refl, refl)
 -- mode 3: 606Ch against 606Fh for bit 12, and 60FFh against 606Dh for bit 10; the magnitude of -2^31 is 2^31
 turning : List Write → ℕ
 turning ws =
-    status true true (record { state = OperationEnabled; mode = ProfileVelocity; store = Empty; taken = false; limit = false; cause = false })
+    status true true (record { state = OperationEnabled; mode = ProfileVelocity; store = Empty; taken = false; limit = false; cause = false; stay = 0 })
     (bench (write velocityThreshold 5 ∷ write velocityWindow 2 ∷ write targetVelocity 10 ∷ ws))
 
 velocity-bits : (turning (write velocity 5 ∷ []) ≡ 0x1237) × (turning (write velocity 6 ∷ []) ≡ 0x0237)
@@ -188,7 +188,7 @@ unfolding turning open-edges
 velocity-bits = (refl, refl, refl, refl, refl, refl, refl)
 
 -- "Enabled only": a limit mark or a window shows in no other state
-enabled-only : status true true (record { state = SwitchedOn; mode = ProfilePosition; store = Rested 50; taken = true; limit = true; cause = false })
+enabled-only : status true true (record { state = SwitchedOn; mode = ProfilePosition; store = Rested 50; taken = true; limit = true; cause = false; stay = 0 })
     (bench []) ≡ 0x0233
 unfolding open-edges
 enabled-only = refl

@@ -28,7 +28,7 @@ use Rattle.drive.proofs.Edges.{bench, point, other, drive, open-edges}
 
 -- a drive in that state and mode
 inState : Mode → Store → Bool → Bool → DriveState → Drive
-inState m st mark cause s = record { state = s; mode = m; store = st; taken = mark; limit = mark; cause = cause }
+inState m st mark cause s = record { state = s; mode = m; store = st; taken = mark; limit = mark; cause = cause; stay = 0 }
 
 words : Bool → Bool → Mode → Store → Bool → List ℕ
 words remote voltage m st mark = map (λ s. status remote voltage (inState m st mark false s) (bench [])) states

@@ -100,7 +100,7 @@ not-taken-stays = (refl, refl, refl)
 -- ---- "if enabled in mode 1 and bit 4 rose against the old 6040h"
 
 inMode : DriveState → Mode → Bool → Drive
-inMode s m taken = record { state = s; mode = m; store = Empty; taken = taken; limit = false; cause = false }
+inMode s m taken = record { state = s; mode = m; store = Empty; taken = taken; limit = false; cause = false; stay = 0 }
 
 -- enabled in modes 0 and 3, and in mode 1 in another state, nothing is taken; "bit 4 zero clears the taken mark" there too
 only-where-it-positions : (map (setPointRule (bench []) 0x0F 0x1F)

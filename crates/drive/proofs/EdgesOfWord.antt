@@ -18,7 +18,7 @@ use Rattle.drive.proofs.Edges.{bench, point, open-edges}
 -- 6041h of an enabled drive, with the voltage on
 shows : Mode → Store → Bool → List Write → ℕ
 shows m st taken ws =
-    status true true (record { state = OperationEnabled; mode = m; store = st; taken = taken; limit = false; cause = false }) (bench ws)
+    status true true (record { state = OperationEnabled; mode = m; store = st; taken = taken; limit = false; cause = false; stay = 0 }) (bench ws)
 
 -- the stores: none, at rest far off, on the way far off, two with the second one near
 stores : List Store

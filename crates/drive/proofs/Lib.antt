@@ -3,6 +3,7 @@ pub mod Edges
 pub mod EdgesOfStates
 pub mod EdgesOfTargets
 pub mod EdgesOfWord
+pub mod EdgesOfWindow
 pub mod Tempting
 pub mod Raised
 pub mod Ways

@@ -1,18 +1,21 @@
 -- What the parts of the status word come to, and the ways through its rules.
 -- Assumes nothing.
-use Prim.Native.Nat.{ℕ, _+_, _≤_}
+use Prim.Native.Nat.{ℕ, _+_, _<_, _≤_}
 use mathlib.Core.Path.{_≡_, refl, ap}
-use mathlib.Core.Bool.{Bool, true, false}
+use mathlib.Core.Bool.{Bool, true, false, and-true, and-false}
 use mathlib.Core.List.{List}
 use native.Mathlib.Omega.{arith}
-use borrow.Author.Tests.{leb-true}
+use borrow.Author.Tests.{leb-true, le-leb, lt-leb, ne-eqb}
 use lib.Dec.{leb}
 use lib.IntN.{natAbs, +ℤ-idr}
 use Rattle.rules_dictionary.specs.Numbers.{integer}
 use Rattle.drive.specs.declared.DriveState.{DriveState}
 use Rattle.drive.specs.declared.Drive.{Drive}
 use Rattle.drive.specs.DriveStates.{isEnabled, stateWord}
-use Rattle.drive.specs.StatusWord.{shown, within, ackInMode, reachedInMode, enabledBits, status}
+use Rattle.rules_dictionary.specs.Table.{windowTime}
+use Rattle.rules_dictionary.specs.Values.{read}
+use Rattle.drive.specs.Window.{within, inside}
+use Rattle.drive.specs.StatusWord.{shown, ackInMode, reachedAtOnce, positionReached, reachedInMode, enabledBits, status}
 use Rattle.drive.proofs.Every.{on-states}
 
 -- the same window about the same integers
@@ -22,6 +25,21 @@ within-same w w' a a' b b' ew ea eb = rw (ew, ea, eb)
 -- the magnitude is the distance from 0
 pub within-zero : (w a : ℕ) → within w (integer a) (integer 0) ≡ leb (natAbs (integer a)) w
 within-zero w a = ap (λ z. leb (natAbs z) w) (+ℤ-idr (integer a))
+
+-- ---- bit 10 in mode 1, by the window time and the ticks inside the window, as the code has them
+
+module _ (v : Drive) (d : List ℕ) (time : ℕ) (is : time ≡ read d windowTime) where
+  pub reached-at-zero : time ≡ 0 → reachedAtOnce (v .store) d ≡ positionReached v d
+  unfolding positionReached
+  reached-at-zero e = rw (← is, e)
+
+  pub reached-early : (time ≡ 0 → ⊥) → v .stay < time → false ≡ positionReached v d
+  unfolding positionReached
+  reached-early n less = rw (← is, ne-eqb _ _ n, lt-leb _ _ less, and-false)
+
+  pub reached-late : (time ≡ 0 → ⊥) → time ≤ v .stay → inside (v .store) d ≡ positionReached v d
+  unfolding positionReached
+  reached-late n most = rw (← is, ne-eqb _ _ n, le-leb _ _ most, and-true)
 
 -- ---- how large the parts are
 

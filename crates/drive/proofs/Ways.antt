@@ -17,8 +17,8 @@ use Rattle.drive.specs.declared.Store.{Store}
 use Rattle.drive.specs.declared.Store.the-variants.{Moving}
 use Rattle.drive.specs.declared.Drive.{Drive}
 use Rattle.drive.specs.declared.Aim.the-variants.{At, Outside}
-use Rattle.drive.specs.SetPoints.{newSetPointBit, atOnceBit, relativeBit, withStore, withMarks, positions, isQueued, lastTarget, behind, target}
-use Rattle.drive.specs.SetPoints.{withinLimits, setPoint, offered, setPointRule, withTaken}
+use Rattle.drive.specs.SetPoints.{newSetPointBit, atOnceBit, relativeBit, withStore, withMarks, withStay, positions, isQueued, isMoving}
+use Rattle.drive.specs.SetPoints.{lastTarget, behind, reached, movedOn, target, withinLimits, setPoint, offered, setPointRule, withTaken}
 use Rattle.drive.specs.Words.{aimed, aimOf, setPointTo}
 
 -- ---- through a test
@@ -57,13 +57,29 @@ aim-of-words d word held relative here start step low high er eh es et el eg =
 -- ---- the edge of bit 4
 
 module _ (word : ℕ) (a : SetPoint) (v : Drive) where
-  pub take-at-once : bit atOnceBit word ≡ true → withMarks true false (withStore (Moving a) v) ≡ withTaken word a v
+  pub take-at-once : bit atOnceBit word ≡ true → withStay 0 (withMarks true false (withStore (Moving a) v)) ≡ withTaken word a v
   unfolding withTaken
-  take-at-once e = rw e
+  take-at-once e = rw e refl
 
-  pub take-behind : bit atOnceBit word ≡ false → withMarks true false (withStore (behind (v .store) a) v) ≡ withTaken word a v
+  pub take-behind : bit atOnceBit word ≡ false → isMoving (v .store) ≡ true →
+      withMarks true false (withStore (behind (v .store) a) v) ≡ withTaken word a v
   unfolding withTaken
-  take-behind e = rw e
+  take-behind e m = rw (e, m) refl
+
+  pub take-next : bit atOnceBit word ≡ false → isMoving (v .store) ≡ false →
+      withStay 0 (withMarks true false (withStore (behind (v .store) a) v)) ≡ withTaken word a v
+  unfolding withTaken
+  take-next e m = rw (e, m) refl
+
+-- event 6
+module _ (v : Drive) where
+  pub second-next : isQueued (v .store) ≡ true → withStay 0 (withStore (reached (v .store)) v) ≡ movedOn v
+  unfolding movedOn
+  second-next e = rw e refl
+
+  pub none-next : isQueued (v .store) ≡ false → withStore (reached (v .store)) v ≡ movedOn v
+  unfolding movedOn
+  none-next e = rw e refl
 
 -- `once` and `none` are the code's flags: bit 5, and that there is no room
 module _ (d : List ℕ) (word : ℕ) (v : Drive) (once none : Bool) (eo : once ≡ bit atOnceBit word)

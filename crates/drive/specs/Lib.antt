@@ -1,4 +1,5 @@
 pub mod DriveStates
 pub mod SetPoints
+pub mod Window
 pub mod StatusWord
 pub mod Words

@@ -1,8 +1,9 @@
--- Document 01, 'Set-points': the store, the two marks, and the rule at the rising edge of bit 4; a control word, acted on.
+-- Document 01, 'Set-points': the store, the two marks, and the rule at the rising edge of bit 4; a control word, acted on. Of ticket 2, where
+-- the ticks inside the window are counted from 0 again.
 -- Assumes nothing.
 use Prim.Native.Nat.{ℕ}
 use mathlib.Core.List.{List}
-use mathlib.Core.Bool.{Bool, true, false, cond, not, _&&_}
+use mathlib.Core.Bool.{Bool, true, false, cond, not, _&&_, _||_}
 use lib.Dec.{eqb}
 use lib.IntN.{ℤ, _+ℤ_}
 use lib.Signed.{leZ}
@@ -37,19 +38,23 @@ relativeBit = 6
 -- ---- the drive with one part changed
 
 abbrev pub withState : DriveState → Drive → Drive
-withState s v = record { state = s; mode = v .mode; store = v .store; taken = v .taken; limit = v .limit; cause = v .cause }
+withState s v = record { state = s; mode = v .mode; store = v .store; taken = v .taken; limit = v .limit; cause = v .cause; stay = v .stay }
 
 abbrev pub withMode : Mode → Drive → Drive
-withMode m v = record { state = v .state; mode = m; store = v .store; taken = v .taken; limit = v .limit; cause = v .cause }
+withMode m v = record { state = v .state; mode = m; store = v .store; taken = v .taken; limit = v .limit; cause = v .cause; stay = v .stay }
 
 abbrev pub withCause : Bool → Drive → Drive
-withCause b v = record { state = v .state; mode = v .mode; store = v .store; taken = v .taken; limit = v .limit; cause = b }
+withCause b v = record { state = v .state; mode = v .mode; store = v .store; taken = v .taken; limit = v .limit; cause = b; stay = v .stay }
 
 abbrev pub withStore : Store → Drive → Drive
-withStore s v = record { state = v .state; mode = v .mode; store = s; taken = v .taken; limit = v .limit; cause = v .cause }
+withStore s v = record { state = v .state; mode = v .mode; store = s; taken = v .taken; limit = v .limit; cause = v .cause; stay = v .stay }
 
 abbrev pub withMarks : Bool → Bool → Drive → Drive
-withMarks t l v = record { state = v .state; mode = v .mode; store = v .store; taken = t; limit = l; cause = v .cause }
+withMarks t l v = record { state = v .state; mode = v .mode; store = v .store; taken = t; limit = l; cause = v .cause; stay = v .stay }
+
+abbrev pub withStay : ℕ → Drive → Drive
+withStay n v =
+    record { state = v .state; mode = v .mode; store = v .store; taken = v .taken; limit = v .limit; cause = v .cause; stay = n }
 
 -- ---- the store
 
@@ -106,6 +111,11 @@ reached (Rested t) = Rested t
 reached (Moving a) = Rested (a .target)
 reached (Queued a b) = Moving b
 
+-- ticket 2: "a new active set-point starts again", also one with the same target. The second one that becomes the first is new; from Moving to
+-- Rested the target stays
+unfoldable pub movedOn : Drive → Drive
+movedOn v = withStay (cond (isQueued (v .store)) 0 (v .stay)) (withStore (reached (v .store)) v)
+
 -- ---- the edge of bit 4
 
 -- "target is 607Ah, or with bit 6 the last taken target (Empty: 6064h) plus 607Ah"
@@ -128,10 +138,17 @@ setPoint d t =
       deceleration = read d profileDeceleration;
     }
 
--- "bit 5 replaces all, else Moving, or Queued behind one. Taken sets the taken mark and clears the limit mark"
+-- what is taken becomes the active set-point: with bit 5, or where no other is on its way; else it waits behind one
+abbrev pub becomesActive : Bool → Store → Bool
+becomesActive atOnce held = atOnce || not (isMoving held)
+
+-- "bit 5 replaces all, else Moving, or Queued behind one. Taken sets the taken mark and clears the limit mark"; ticket 2: "a new active
+-- set-point starts again"
 unfoldable pub withTaken : ℕ → SetPoint → Drive → Drive
 withTaken word a v =
-    withMarks true false (withStore (cond (bit atOnceBit word) (Moving a) (behind (v .store) a)) v)
+    let atOnce = bit atOnceBit word in
+    withMarks true false
+    (withStay (cond (becomesActive atOnce (v .store)) 0 (v .stay)) (withStore (cond atOnce (Moving a) (behind (v .store) a)) v))
 
 -- "with bit 5 zero and Queued, not taken; .. outside 607Dh or i32, not taken, limit mark set. Otherwise taken"
 unfoldable pub offered : List ℕ → ℕ → Drive → Drive
@@ -170,5 +187,5 @@ controlWritten d old v =
 
 -- opens every definition of this module, where a proof computes
 unfoldable pub open-set-points : Unit {0}
-unfolding emptied target withinLimits setPoint withTaken offered setPointRule enters modeWritten controlWritten
+unfolding emptied movedOn target withinLimits setPoint withTaken offered setPointRule enters modeWritten controlWritten
 open-set-points = tt

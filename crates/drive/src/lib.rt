@@ -1,10 +1,12 @@
-// Document 01, 'Drive states' and 'Set-points': the drive and its rules, defined in specs/.
-// states: the commands of 6040h and the states. set_points: the store, its marks, the edge of bit 4. status: 6041h.
+// Document 01, 'Drive states' and 'Set-points', and ticket 2: the drive and its rules, defined in specs/.
+// states: the commands of 6040h and the states. set_points: the store, its marks, the edge of bit 4. window: the ticks inside 6067h.
+// status: 6041h.
 // words: what the integers of the rules are in words of 32 bits.
 
 pub mod set_points;
 pub mod states;
 pub mod status;
+pub mod window;
 mod words;
 
 use rules_dictionary::Mode;
@@ -48,10 +50,12 @@ pub enum Store {
     Queued(SetPoint, SetPoint),
 }
 
-// The drive: its state and mode, the set-point store, the taken and the limit mark, and whether a fault's cause is present.
+// The drive: its state and mode, the set-point store, the taken and the limit mark, whether a fault's cause is present, and the ticks that the
+// position has been inside the window of the active target, or of the target at rest.
 pub struct Drive {
     pub state: DriveState,
     pub mode: Mode,
+    pub stay: u16,
     pub store: Store,
     pub taken: bool,
     pub limit: bool,

@@ -4,9 +4,9 @@ ghost use mathlib.Core.Path.{_≡_};
 ghost use mathlib.Core.Bool.{true, false, cond, not, _&&_};
 ghost use lib.ListN.{length};
 ghost use Rattle.rules_dictionary.specs.Table.{dictionaryLength};
-ghost use Rattle.drive.specs.SetPoints.{withState, withMode, withCause, withStore, withMarks, isPosition, positions, emptied, isEmpty};
-ghost use Rattle.drive.specs.SetPoints.{isQueued, isMoving, lastTarget, behind, reached, offered, setPointRule, enters, modeOf, modeWritten};
-ghost use Rattle.drive.specs.SetPoints.{controlWritten, withTaken};
+ghost use Rattle.drive.specs.SetPoints.{withState, withMode, withCause, withStore, withMarks, withStay, isPosition, positions, emptied};
+ghost use Rattle.drive.specs.SetPoints.{isEmpty, isQueued, isMoving, lastTarget, behind, reached, movedOn, offered, setPointRule, enters, modeOf};
+ghost use Rattle.drive.specs.SetPoints.{modeWritten, controlWritten, withTaken};
 ghost use Rattle.drive.specs.Words.{aimOf, setPointTo};
 use crate::Aim;
 use crate::Controlled;
@@ -146,6 +146,7 @@ impl Drive {
             taken: self.taken,
             limit: self.limit,
             cause: self.cause,
+            stay: self.stay,
         }
     }
 
@@ -162,6 +163,7 @@ impl Drive {
             taken: self.taken,
             limit: self.limit,
             cause: self.cause,
+            stay: self.stay,
         }
     }
 
@@ -186,7 +188,16 @@ impl Drive {
             taken: self.taken,
             limit: self.limit,
             cause: self.cause,
+            stay: self.stay,
         }
+    }
+
+    // That count of ticks inside the window, and all else as it was.
+    pub fn with_stay(mut self, ticks: u16) -> Drive
+        ensures { λ r. ⌜ r ≡ withStay ticks self ⌝ }
+    {
+        self.stay = ticks;
+        self
     }
 
     // Those two marks, taken and limit, and all else as it was.
@@ -222,6 +233,19 @@ impl Drive {
             self
         } else {
             self.with_store(Store::Empty).with_marks(false, false)
+        }
+    }
+
+    // Event 6. Of two set-points the second becomes the active one, and ticks inside the window are counted from 0 again.
+    pub fn moved_on(self) -> Drive
+        ensures { λ r. ⌜ r ≡ movedOn self ⌝ }
+    {
+        let held = self.store;
+        let next = self.with_store(held.reached());
+        if held.is_queued() {
+            next.with_stay(0)
+        } else {
+            next
         }
     }
 
@@ -295,15 +319,19 @@ impl Drive {
         self.with_store(s).with_marks(true, false)
     }
 
-    // "bit 5 replaces all, else Moving, or Queued behind one".
+    // "bit 5 replaces all, else Moving, or Queued behind one". For a new active set-point ticks inside the window are counted from 0 again.
     fn take(self, word: u16, p: SetPoint) -> Drive
         ensures { λ r. ⌜ r ≡ withTaken word p self ⌝ }
     {
         let held = self.store;
         if has(word, AT_ONCE) {
-            self.holds(Store::Moving(p))
+            return self.holds(Store::Moving(p)).with_stay(0);
+        }
+        let holding = self.holds(held.behind(p));
+        if held.is_moving() {
+            holding
         } else {
-            self.holds(held.behind(p))
+            holding.with_stay(0)
         }
     }
 

@@ -1,9 +1,9 @@
-// Document 01, 'Drive states' and 'Set-points': the status word 6041h.
+// Document 01, 'Drive states' and 'Set-points': the status word 6041h. Of ticket 2, bit 10 with the window time 6068h.
 
 ghost use mathlib.Core.Path.{_≡_};
 ghost use lib.ListN.{length};
-ghost use Rattle.drive.specs.StatusWord.{haltBit, shown, slow, near, ackInMode, positionReached, velocityReached, standsStill, reachedInMode};
-ghost use Rattle.drive.specs.StatusWord.{enabledBits, status};
+ghost use Rattle.drive.specs.StatusWord.{haltBit, shown, slow, ackInMode, reachedAtOnce, positionReached, velocityReached, standsStill};
+ghost use Rattle.drive.specs.StatusWord.{reachedInMode, enabledBits, status};
 ghost use Rattle.rules_dictionary.specs.Numbers.{bit};
 ghost use Rattle.rules_dictionary.specs.Table.{controlWord, dictionaryLength};
 ghost use Rattle.rules_dictionary.specs.Values.{read};
@@ -12,6 +12,8 @@ use crate::Store;
 use crate::states::has;
 use crate::states::is_enabled;
 use crate::states::state_word;
+use crate::window::is_inside;
+use crate::window::is_near;
 use crate::words::is_within;
 use dictionary::objects;
 use rules_dictionary::Mode;
@@ -68,24 +70,33 @@ fn is_ack(m: Mode, v: Drive, d: &[u8]) -> bool
     }
 }
 
-// Is the target within 6067h of 6064h.
-fn is_near(target: u32, d: &[u8]) -> bool
-    requires { ⌜ length (now d) ≡ dictionaryLength ⌝ }
-    ensures { λ r. ⌜ r ≡ near target (now (d .entry)) ⌝ }
-{
-    is_within(objects::position_window(d), target, objects::position(d))
-}
-
 // "in mode 1 Rested or active target within 6067h of 6064h (Empty: 0)".
-fn is_position_reached(store: Store, d: &[u8]) -> bool
+fn is_reached_at_once(store: Store, d: &[u8]) -> bool
     requires { ⌜ length (now d) ≡ dictionaryLength ⌝ }
-    ensures { λ r. ⌜ r ≡ positionReached store (now (d .entry)) ⌝ }
+    ensures { λ r. ⌜ r ≡ reachedAtOnce store (now (d .entry)) ⌝ }
 {
     match store {
         Store::Empty => false,
         Store::Rested(_) => true,
         Store::Moving(a) => is_near(a.target, d),
         Store::Queued(a, _) => is_near(a.target, d),
+    }
+}
+
+// "bit 10 .. needs the position inside 6067h .. for the window time 6068h .. At 0 the answer is as before."
+fn is_position_reached(v: Drive, d: &[u8]) -> bool
+    requires { ⌜ length (now d) ≡ dictionaryLength ⌝ }
+    ensures { λ r. ⌜ r ≡ positionReached v (now (d .entry)) ⌝ }
+{
+    let store = v.store;
+    let time = objects::window_time(d);
+    if time == 0 {
+        return is_reached_at_once(store, d);
+    }
+    if v.stay < time {
+        false
+    } else {
+        is_inside(store, d)
     }
 }
 
@@ -122,13 +133,12 @@ fn is_reached(m: Mode, v: Drive, d: &[u8]) -> bool
     requires { ⌜ length (now d) ≡ dictionaryLength ⌝ }
     ensures { λ r. ⌜ r ≡ reachedInMode m v (now (d .entry)) ⌝ }
 {
-    let store = v.store;
     match m {
         Mode::NoMode => false,
         Mode::ProfilePosition => if halts(d) {
             stands_still(d)
         } else {
-            is_position_reached(store, d)
+            is_position_reached(v, d)
         },
         Mode::ProfileVelocity => if halts(d) {
             stands_still(d)

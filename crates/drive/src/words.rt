@@ -4,7 +4,7 @@
 ghost use mathlib.Core.Path.{_≡_};
 ghost use lib.IntN.{natAbs, _+ℤ_, _-ℤ_};
 ghost use Rattle.rules_dictionary.specs.Numbers.{integer};
-ghost use Rattle.drive.specs.StatusWord.{within};
+ghost use Rattle.drive.specs.Window.{within};
 ghost use Rattle.drive.specs.Words.{biased, aimed};
 use crate::Aim;
 
@@ -41,12 +41,12 @@ pub fn aim(base: u32, step: u32, low: u32, high: u32) -> Aim
     Aim::At((sum % WHOLE) as u32)
 }
 
-// How far the integers of two words lie apart.
-fn distance(a: u32, b: u32) -> u64
+// How far the integers of two words lie apart: a word too, which a controller works faster than 64 bits.
+fn distance(a: u32, b: u32) -> u32
     ensures { λ r. ⌜ r ≡ natAbs (integer a -ℤ integer b) ⌝ }
 {
-    let x = biased(a);
-    let y = biased(b);
+    let x = biased(a) as u32;
+    let y = biased(b) as u32;
     if x < y { y - x } else { x - y }
 }
 
@@ -54,5 +54,5 @@ fn distance(a: u32, b: u32) -> u64
 pub fn is_within(window: u32, a: u32, b: u32) -> bool
     ensures { λ r. ⌜ r ≡ within window (integer a) (integer b) ⌝ }
 {
-    distance(a, b) <= wide(window)
+    distance(a, b) <= window
 }

@@ -113,8 +113,7 @@ pub fn happens(e: Event, state: &mut [u8], d: &mut [u8], output: &mut [u8]) -> D
         Event::Feedback(at, speed) => fed_back(at, speed, d),
         Event::SetPointReached => {
             let drive = read_drive(state);
-            let store = drive.store;
-            moved(state, drive.with_store(store.reached()))
+            moved(state, drive.moved_on())
         }
         Event::Tick => tick(state, d, output),
         Event::CauseGone => {

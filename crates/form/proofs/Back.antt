@@ -41,9 +41,9 @@ use Rattle.form.specs.Form.{flagNumber, flagOf, nmtNumber, nmtOf}
 use Rattle.form.specs.Form.{stateNumber, driveStateOf, each, joined, nodeForm, nodeAt, setPointForm, setPointAt, storeKind, firstOf, secondOf}
 use Rattle.form.specs.Form.{storeForm, storeAt, driveForm, driveAt, dataForm, dataAt, half, moveForm, moveAt, planForm, planAt, headForm, form}
 use Rattle.form.specs.Form.{stateOf, nmtOffset, voltageOffset, heartbeatOffset, nodeLength, velocityOffset, accelerationOffset}
-use Rattle.form.specs.Form.{decelerationOffset, setPointLength, modeOffset, takenOffset, limitOffset, causeOffset, storeOffset, driveLength}
-use Rattle.form.specs.Form.{dataLength, moveLength, planLength, nodePlace, drivePlace, storePlace, readyPlace, heldPlace, pacesPlace}
-use Rattle.form.specs.Form.{plansPlace, objectOffset, toggleOffset, receiptForm, receiptAt, transferKind, receiptOf}
+use Rattle.form.specs.Form.{decelerationOffset, setPointLength, modeOffset, takenOffset, limitOffset, causeOffset, stayOffset, storeOffset}
+use Rattle.form.specs.Form.{driveLength, dataLength, moveLength, planLength, nodePlace, drivePlace, storePlace, readyPlace, heldPlace}
+use Rattle.form.specs.Form.{pacesPlace, plansPlace, objectOffset, toggleOffset, receiptForm, receiptAt, transferKind, receiptOf}
 use Rattle.form.specs.Form.{stepOffset, receiptWords, transferLength, transferForm, transferAt, transferPlace}
 use Rattle.form.specs.Own.{everyAt, ownFlag, flagsOwn, everyWord, isZero, small, nodeOwn, transferOwn, storeOwn, driveOwn}
 use Rattle.form.specs.Own.{pacesOwn, planOwn, plansOwn, headOwn, isOwn}
@@ -250,10 +250,10 @@ module _ (bs : List ℕ) where
       (place + 1) rest (t .moves) (behind place 1 (p .count ∷ []) e refl) in
       (rw (count, moves .0), moves .1)
 
-  drive-back : (v : Drive) (rest : List ℕ) → StoreTyped (v .store) → drop drivePlace bs ≡ driveForm v ++ rest →
+  drive-back : (v : Drive) (rest : List ℕ) → v .stay < half → StoreTyped (v .store) → drop drivePlace bs ≡ driveForm v ++ rest →
       (driveAt drivePlace bs ≡ v) × (driveOwn drivePlace bs ≡ true)
-  unfolding driveForm driveAt driveOwn flagsOwn
-  drive-back v rest t e =
+  unfolding driveForm driveAt driveOwn flagsOwn bytes
+  drive-back v rest fits t e =
       let at : ℕ → ℕ = λ offset. getD bs (drivePlace + offset) 0 in
       let state : at 0 ≡ stateNumber (v .state) = byte-at drivePlace 0 e in
       let mode : at modeOffset ≡ modeNumber (v .mode) = byte-at drivePlace modeOffset e in
@@ -261,8 +261,10 @@ module _ (bs : List ℕ) where
       let limit : at limitOffset ≡ flagNumber (v .limit) = byte-at drivePlace limitOffset e in
       let cause : at causeOffset ≡ flagNumber (v .cause) = byte-at drivePlace causeOffset e in
       let marks = stateNumber (v .state) ∷ modeNumber (v .mode) ∷ flagNumber (v .taken) ∷ flagNumber (v .limit) ∷ flagNumber (v .cause) ∷ [] in
-      let store = store-back storePlace (v .store) rest t (behind drivePlace storeOffset marks e refl) in
-      rw (state, mode, taken, limit, cause, store .0)
+      let stay : value (part (drivePlace + stayOffset) 2 bs) ≡ v .stay =
+      ap value (part-at drivePlace stayOffset 2 e) ∙ value-bytes 2 (v .stay) fits in
+      let store = store-back storePlace (v .store) rest t (behind drivePlace storeOffset (marks ++ bytes 2 (v .stay)) e refl) in
+      rw (state, mode, taken, limit, cause, stay, store .0)
       (rw (state-of (v .state), mode-of (v .mode), flag-of (v .taken), flag-of (v .limit), flag-of (v .cause)) (
         refl,
         rw (same (stateNumber (v .state)), same (modeNumber (v .mode)), same (flagNumber (v .taken)))
@@ -306,7 +308,7 @@ module _ (bs : List ℕ) where
       let e6 = behind pacesPlace (eachWay * paceLength) (joined paceForm (a .paces)) e5 (length-paces (h .paces)) in
       let node = node-back (s .node) _ (h .heartbeat) e0 in
       let transfer = transfer-back (s .transfer) _ e1 in
-      let drive = drive-back (a .drive) _ (h .store) e2 in
+      let drive = drive-back (a .drive) _ (h .stay) (h .store) e2 in
       let ready = frames-back readyPlace _ (h .ready) e3 in
       let held = frames-back heldPlace _ (h .held) e4 in
       let paces = paces-back _ (h .paces) e5 in

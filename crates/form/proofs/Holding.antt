@@ -11,6 +11,7 @@ use Rattle.rules_dictionary.specs.Table.{eachWay}
 use Rattle.rules_dictionary.specs.declared.Plan.{Plan}
 use Rattle.rules_dictionary.specs.declared.PdoData.{PdoData}
 use Rattle.drive.specs.declared.Drive.{Drive}
+use Rattle.drive.specs.SetPoints.{withStay}
 use Rattle.state.specs.declared.Node.{Node}
 use Rattle.state.specs.declared.Pace.{Pace}
 use Rattle.state.specs.declared.Transfer.{Transfer}
@@ -18,7 +19,7 @@ use Rattle.state.specs.declared.State.{State}
 use Rattle.rules_dictionary.specs.Numbers.{bytes}
 use Rattle.rules_services.specs.Effects.{withNode, withHeartbeat, withTransfer, withDrive, withHeld, withPaces}
 use Rattle.form.specs.Form.{joined, nodeForm, driveForm, dataForm, paceForm, planForm, headForm, form, stateOf, isForm, half}
-use Rattle.form.specs.Form.{heartbeatOffset, nodeLength, driveLength, dataLength, paceLength, nodePlace, drivePlace, readyPlace}
+use Rattle.form.specs.Form.{heartbeatOffset, nodeLength, stayOffset, driveLength, dataLength, paceLength, nodePlace, drivePlace, readyPlace}
 use Rattle.form.specs.Form.{heldPlace, pacesPlace, plansPlace, stateLength, transferForm, transferLength, transferPlace}
 use Rattle.form.specs.Typed.{Many, none, more, AnyPace, DataTyped, StoreTyped, PlanTyped, HeadTyped}
 use Rattle.form.specs.Holding.{Holds, planned, readying, holding}
@@ -128,7 +129,7 @@ module _ {bs : List ℕ} {s : State} (h : Holds bs s) where
       record {
         bytes = rw (h .bytes, flat s, flat (withNode x s)) (sets-first n _ (nodeForm x) (length-node x ∙ sym in-node));
         typed = record {
-          head = record { heartbeat = fits; store = t .store; ready = t .ready; held = t .held; paces = t .paces };
+          head = record { heartbeat = fits; stay = t .stay; store = t .store; ready = t .ready; held = t .held; paces = t .paces };
           plans = h .typed .plans;
         };
       }
@@ -139,7 +140,7 @@ module _ {bs : List ℕ} {s : State} (h : Holds bs s) where
       record {
         bytes = rw (h .bytes, flat s, flat (withHeartbeat k s));
         typed = record {
-          head = record { heartbeat = fits; store = t .store; ready = t .ready; held = t .held; paces = t .paces };
+          head = record { heartbeat = fits; stay = t .stay; store = t .store; ready = t .ready; held = t .held; paces = t .paces };
           plans = h .typed .plans;
         };
       }
@@ -150,7 +151,7 @@ module _ {bs : List ℕ} {s : State} (h : Holds bs s) where
         bytes = rw (h .bytes, flat s, flat (withTransfer x s))
             (within n nodeLength 0 (transferForm x) _ in-node (sets-first f _ (transferForm x) (length-transfer x ∙ sym in-transfer)));
         typed = record {
-          head = record { heartbeat = t .heartbeat; store = t .store; ready = t .ready; held = t .held; paces = t .paces };
+          head = record { heartbeat = t .heartbeat; stay = t .stay; store = t .store; ready = t .ready; held = t .held; paces = t .paces };
           plans = h .typed .plans;
         };
       }
@@ -161,13 +162,25 @@ module _ {bs : List ℕ} {s : State} (h : Holds bs s) where
       let place : drivePlace + k ≡ nodeLength + (transferLength + k) = omega arith in
       rw place (within n nodeLength (transferLength + k) xs _ in-node (within f transferLength k xs d in-transfer e))
 
-  pub put-drive : (x : Drive) → StoreTyped (x .store) → Holds (sets bs drivePlace (driveForm x)) (withDrive x s)
-  put-drive x fits =
+  pub put-drive : (x : Drive) → x .stay < half → StoreTyped (x .store) → Holds (sets bs drivePlace (driveForm x)) (withDrive x s)
+  put-drive x few fits =
       record {
         bytes = rw (h .bytes, flat s, flat (withDrive x s))
             (behind-transfer 0 (driveForm x) _ (sets-first v _ (driveForm x) (length-drive x ∙ sym in-drive)));
         typed = record {
-          head = record { heartbeat = t .heartbeat; store = fits; ready = t .ready; held = t .held; paces = t .paces };
+          head = record { heartbeat = t .heartbeat; stay = few; store = fits; ready = t .ready; held = t .held; paces = t .paces };
+          plans = h .typed .plans;
+        };
+      }
+
+  pub put-stay : (k : ℕ) → k < half →
+      Holds (sets bs (drivePlace + stayOffset) (bytes 2 k)) (withDrive (withStay k (s .axis .drive)) s)
+  unfolding driveForm bytes
+  put-stay k fits =
+      record {
+        bytes = rw (h .bytes, flat s, flat (withDrive (withStay k (s .axis .drive)) s)) (behind-transfer stayOffset (bytes 2 k) _ refl);
+        typed = record {
+          head = record { heartbeat = t .heartbeat; stay = fits; store = t .store; ready = t .ready; held = t .held; paces = t .paces };
           plans = h .typed .plans;
         };
       }
@@ -182,7 +195,14 @@ module _ {bs : List ℕ} {s : State} (h : Holds bs s) where
             (behind-transfer (driveLength + dataLength * k) (dataForm x) _ (within v driveLength (dataLength * k) (dataForm x) _ in-drive
             (row-set (s .axis .ready) k x _ (t .ready) fits i)));
         typed = record {
-          head = record { heartbeat = t .heartbeat; store = t .store; ready = many-set k x (t .ready) fits; held = t .held; paces = t .paces };
+          head = record {
+            heartbeat = t .heartbeat;
+            stay = t .stay;
+            store = t .store;
+            ready = many-set k x (t .ready) fits;
+            held = t .held;
+            paces = t .paces;
+          };
           plans = h .typed .plans;
         };
       }
@@ -204,7 +224,7 @@ module _ {bs : List ℕ} {s : State} (h : Holds bs s) where
             (behind-ready 0 (joined dataForm x) _ (sets-first (joined dataForm (s .axis .held)) _ (joined dataForm x) (length-frames fits
             ∙ sym in-held)));
         typed = record {
-          head = record { heartbeat = t .heartbeat; store = t .store; ready = t .ready; held = fits; paces = t .paces };
+          head = record { heartbeat = t .heartbeat; stay = t .stay; store = t .store; ready = t .ready; held = fits; paces = t .paces };
           plans = h .typed .plans;
         };
       }
@@ -217,7 +237,14 @@ module _ {bs : List ℕ} {s : State} (h : Holds bs s) where
         bytes = rw (h .bytes, flat s, flat (holding p x s))
             (behind-ready (dataLength * p) (dataForm x) _ (row-set (s .axis .held) p x _ (t .held) fits i));
         typed = record {
-          head = record { heartbeat = t .heartbeat; store = t .store; ready = t .ready; held = many-set p x (t .held) fits; paces = t .paces };
+          head = record {
+            heartbeat = t .heartbeat;
+            stay = t .stay;
+            store = t .store;
+            ready = t .ready;
+            held = many-set p x (t .held) fits;
+            paces = t .paces;
+          };
           plans = h .typed .plans;
         };
       }
@@ -230,7 +257,7 @@ module _ {bs : List ℕ} {s : State} (h : Holds bs s) where
             (joined paceForm x) _ in-held
             (sets-first (joined paceForm (s .axis .paces)) _ (joined paceForm x) (length-paces fits ∙ sym in-paces))));
         typed = record {
-          head = record { heartbeat = t .heartbeat; store = t .store; ready = t .ready; held = t .held; paces = fits };
+          head = record { heartbeat = t .heartbeat; stay = t .stay; store = t .store; ready = t .ready; held = t .held; paces = fits };
           plans = h .typed .plans;
         };
       }
@@ -247,7 +274,7 @@ module _ {bs : List ℕ} {s : State} (h : Holds bs s) where
             (within (joined paceForm (s .axis .paces)) paces 0 (joined planForm x) _ in-paces
             (last (joined planForm (s .axis .plans)) (joined planForm x) same))));
         typed = record {
-          head = record { heartbeat = t .heartbeat; store = t .store; ready = t .ready; held = t .held; paces = t .paces };
+          head = record { heartbeat = t .heartbeat; stay = t .stay; store = t .store; ready = t .ready; held = t .held; paces = t .paces };
           plans = fits;
         };
       }

@@ -23,8 +23,8 @@ use Rattle.form.specs.Form.{setPointForm, setPointAt, storeForm, storeAt
 use Rattle.form.specs.Form.{dueOffset, paceLength, paceForm, paceAt, half}
 use Rattle.form.specs.Form.{moveForm, moveAt, planForm, planAt, headForm, form, stateOf, nmtOffset, voltageOffset, heartbeatOffset, nodeLength}
 use Rattle.form.specs.Form.{velocityOffset, accelerationOffset, decelerationOffset, numbersBehind, setPointWords, setPointLength, storeLength}
-use Rattle.form.specs.Form.{modeOffset, takenOffset, driveMarks, driveLength, dataLength, moveLength, planLength, nodePlace, drivePlace}
-use Rattle.form.specs.Form.{storePlace, readyPlace, heldPlace, pacesPlace, plansPlace, stateLength}
+use Rattle.form.specs.Form.{modeOffset, takenOffset, driveMarks, stayOffset, driveLength, dataLength, moveLength, planLength, nodePlace}
+use Rattle.form.specs.Form.{drivePlace, storePlace, readyPlace, heldPlace, pacesPlace, plansPlace, stateLength}
 use Rattle.form.specs.Form.{objectOffset, toggleOffset, receiptForm, receiptAt, stepOffset, receiptWords, transferLength, transferForm}
 use Rattle.form.specs.Form.{transferAt, transferPlace}
 use Rattle.form.specs.Own.{everyAt, ownFlag, flagsOwn, everyWord, isZero, small, nodeOwn, transferOwn, storeOwn, driveOwn}
@@ -180,8 +180,10 @@ module _ (bs : List ℕ) (fits : (i : ℕ) → getD bs i 0 < 256) where
       let state : stateNumber (driveStateOf (at 0)) ≡ at 0 = eqb-true _ _ (and-left a _ t) in
       let mode : modeNumber (modeOf (at modeOffset)) ≡ at modeOffset = eqb-true _ _ (and-left b _ t1) in
       let marks = flags-kept driveMarks (drivePlace + takenOffset) (omega arith) (and-left own _ t2) in
-      rw (state, mode) (then-part bs drivePlace takenOffset (driveMarks + storeLength) (each-element takenOffset drivePlace 0 bs (omega arith))
-      (then-part bs (drivePlace + takenOffset) driveMarks storeLength marks (store-kept storePlace h (and-right own _ t2))))
+      let stay = bytes-value 2 (drivePlace + stayOffset) (omega arith) in
+      rw (state, mode) (then-part bs drivePlace takenOffset (driveMarks + (2 + storeLength)) (each-element takenOffset drivePlace 0 bs (omega arith))
+      (then-part bs (drivePlace + takenOffset) driveMarks (2 + storeLength) marks
+      (then-part bs (drivePlace + stayOffset) 2 storeLength stay (store-kept storePlace h (and-right own _ t2)))))
 
   data-kept : (place : ℕ) → place + dataLength ≤ length bs → dataForm (dataAt place bs) ≡ part place dataLength bs
   unfolding dataForm

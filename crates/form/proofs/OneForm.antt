@@ -21,7 +21,7 @@ use Rattle.dictionary.proofs.Bytes.{value-step, value-none}
 use Rattle.form.specs.Form.{moveAt, dataAt, wordLength, paceAt, paceLength, pacesPlace, each}
 use Rattle.form.specs.Form.{heartbeatOffset, nodeAt, velocityOffset}
 use Rattle.form.specs.Form.{accelerationOffset, decelerationOffset, setPointLength, setPointAt, storeAt}
-use Rattle.form.specs.Form.{driveAt, resting, moveLength, planLength, planAt, form, stateOf, isForm}
+use Rattle.form.specs.Form.{drivePlace, stayOffset, driveAt, resting, moveLength, planLength, planAt, form, stateOf, isForm}
 use Rattle.form.specs.Form.{dataLength, nodePlace, storePlace, readyPlace, heldPlace, plansPlace, planPlace, stateLength}
 use Rattle.form.specs.Form.{planIn, readyIn, heldIn, stepOffset, objectOffset, transferAt, transferPlace}
 use Rattle.form.specs.Own.{isZero, idleAt, transferOwn, isOwn}
@@ -101,6 +101,7 @@ module _ (bs : List ℕ) (fits : (i : ℕ) → getD bs i 0 < 256) where
       record {
         head = record {
           heartbeat = value-fits 2 (nodePlace + heartbeatOffset);
+          stay = value-fits 2 (drivePlace + stayOffset);
           store = store-typed (eqb kind 0) (eqb kind 1) (eqb kind 2) _ _ _ (value-fits wordLength first) (set-point-typed first)
               (set-point-typed (first + setPointLength));
           ready = each-read DataTyped (λ i. dataAt i bs) eachWay readyPlace dataLength (λ i. record { size = refl });

@@ -257,4 +257,7 @@ pub typed-whole : (plans : List Plan) (node : Node) (transfer : Transfer) (drive
     HeadTyped (withPlans [] node transfer drive ready held paces) → Many PlanTyped (2 * eachWay) plans →
     Typed (withPlans plans node transfer drive ready held paces)
 typed-whole plans node transfer drive ready held paces h p =
-    record { head = record { heartbeat = h .heartbeat; store = h .store; ready = h .ready; held = h .held; paces = h .paces }; plans = p }
+    record {
+      head = record { heartbeat = h .heartbeat; stay = h .stay; store = h .store; ready = h .ready; held = h .held; paces = h .paces };
+      plans = p;
+    }

@@ -188,7 +188,7 @@ transferAt place bs =
     cond (eqb (getD bs place 0) 0) NoTransfer
     (cond (eqb (getD bs place 0) 1) (Uploading (getD bs (place + stepOffset) 0)) (Downloading (receiptAt (place + stepOffset) bs)))
 
--- ---- the drive: state, mode, taken, limit and cause marks, and the store: its kind and the bytes of two set-points
+-- ---- the drive: state, mode, taken, limit and cause marks, the ticks inside the window, and the store: its kind and the bytes of two set-points
 
 -- where a set-point's numbers stand behind its target, counted from there
 abbrev pub velocityOffset : ℕ
@@ -276,8 +276,11 @@ causeOffset = limitOffset + 1
 abbrev pub driveMarks : ℕ
 driveMarks = 3
 
+abbrev pub stayOffset : ℕ
+stayOffset = takenOffset + driveMarks
+
 abbrev pub storeOffset : ℕ
-storeOffset = takenOffset + driveMarks
+storeOffset = stayOffset + 2
 
 abbrev pub driveLength : ℕ
 driveLength = storeOffset + storeLength
@@ -285,7 +288,7 @@ driveLength = storeOffset + storeLength
 unfoldable pub driveForm : Drive → List ℕ
 driveForm v =
     stateNumber (v .state) ∷ modeNumber (v .mode) ∷ flagNumber (v .taken) ∷ flagNumber (v .limit) ∷ flagNumber (v .cause)
-    ∷ storeForm (v .store)
+    ∷ bytes 2 (v .stay) ++ storeForm (v .store)
 
 unfoldable pub driveAt : ℕ → List ℕ → Drive
 driveAt place bs =
@@ -296,6 +299,7 @@ driveAt place bs =
       taken = flagOf (getD bs (place + takenOffset) 0);
       limit = flagOf (getD bs (place + limitOffset) 0);
       cause = flagOf (getD bs (place + causeOffset) 0);
+      stay = value (part (place + stayOffset) 2 bs);
     }
 
 -- ---- the data of a PDO: its length and eight bytes

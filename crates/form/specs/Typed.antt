@@ -47,6 +47,7 @@ pub record PlanTyped (p : Plan) : Type 0 where
 -- all but the plans
 pub record HeadTyped (s : State) : Type 0 where
   pub heartbeat : s .node .heartbeat < half
+  pub stay : s .axis .drive .stay < half
   pub store : StoreTyped (s .axis .drive .store)
   pub ready : Many DataTyped eachWay (s .axis .ready)
   pub held : Many DataTyped eachWay (s .axis .held)

@@ -6,22 +6,27 @@ use crate::node::flag_of;
 use crate::own::bits_of_words;
 use crate::own::both;
 use crate::own::own_flags;
+use dictionary::read2;
 use dictionary::read4;
+use dictionary::write2;
 use dictionary::write4;
 use drive::Drive;
 use drive::DriveState;
 use drive::SetPoint;
 use drive::Store;
 use drive::set_points::mode_of;
+use drive::window::is_near;
 ghost use mathlib.Core.Path.{_≡_};
-ghost use Prim.Native.Nat.{_+_, _≤_};
+ghost use Prim.Native.Nat.{_+_, _<_, _≤_};
 ghost use lib.Dec.{eqb};
 ghost use lib.ListN.{length};
 ghost use lib.Seq.{sets};
 ghost use Rattle.rules_dictionary.specs.Legal.{modeNumber};
+ghost use Rattle.rules_dictionary.specs.Table.{dictionaryLength};
 ghost use Rattle.drive.specs.SetPoints.{modeOf};
+ghost use Rattle.drive.specs.Window.{inside};
 ghost use Rattle.form.specs.Form.{driveStateOf, setPointLength, setPointAt, storeAt, drivePlace, storePlace, stateLength, stateOf};
-ghost use Rattle.form.specs.Form.{stateNumber, setPointForm, storeKind, resting, firstOf, secondOf, storeForm, driveForm};
+ghost use Rattle.form.specs.Form.{stateNumber, setPointForm, storeKind, resting, firstOf, secondOf, storeForm, driveForm, half};
 ghost use Rattle.form.specs.Typed.{SetPointTyped, StoreTyped};
 ghost use Rattle.form.specs.Own.{storeOwn, driveOwn};
 
@@ -85,7 +90,27 @@ pub fn read_drive(bytes: &[u8]) -> Drive
         taken: flag_of(bytes[layout::TAKEN]),
         limit: flag_of(bytes[layout::LIMIT]),
         cause: flag_of(bytes[layout::CAUSE]),
+        stay: read2(bytes, layout::STAY),
     }
+}
+
+// The ticks inside the window that the bytes hold, alone.
+pub fn read_stay(bytes: &[u8]) -> u16
+    requires { ⌜ length (now bytes) ≡ stateLength ⌝ }
+    ensures { λ r. ⌜ r ≡ stateOf (now (bytes .entry)) .axis .drive .stay ⌝ }
+{
+    read2(bytes, layout::STAY)
+}
+
+// Is the position inside the window of the target that the bytes hold: it stands in one place, whatever the kind of store, and Empty has none.
+pub fn is_position_inside(bytes: &[u8], d: &[u8]) -> bool
+    requires { ⌜ (length (now bytes) ≡ stateLength) × (length (now d) ≡ dictionaryLength) ⌝ }
+    ensures { λ r. ⌜ r ≡ inside (stateOf (now (bytes .entry)) .axis .drive .store) (now (d .entry)) ⌝ }
+{
+    if bytes[layout::STORE] == 0 {
+        return false;
+    }
+    is_near(read4(bytes, layout::FIRST_SET_POINT), d)
 }
 
 // The number of a drive state.
@@ -178,7 +203,7 @@ fn write_store(bytes: &mut [u8], store: Store)
 // The drive into the bytes.
 pub fn write_drive(bytes: &mut [u8], v: Drive)
     requires { ⌜ length (now bytes) ≡ stateLength ⌝ }
-    ensures { λ r. ⌜ (now (bytes .exit) ≡ sets (now (bytes .entry)) drivePlace (driveForm v)) × StoreTyped (v .store) ⌝ }
+    ensures { λ r. ⌜ (now (bytes .exit) ≡ sets (now (bytes .entry)) drivePlace (driveForm v)) × ((v .stay < half) × StoreTyped (v .store)) ⌝ }
 {
     let state = v.state;
     let mode = v.mode;
@@ -188,6 +213,7 @@ pub fn write_drive(bytes: &mut [u8], v: Drive)
     bytes[layout::TAKEN] = flag_number(v.taken);
     bytes[layout::LIMIT] = flag_number(v.limit);
     bytes[layout::CAUSE] = flag_number(v.cause);
+    write2(bytes, layout::STAY, v.stay);
     write_store(bytes, store);
 }
 

@@ -51,8 +51,11 @@ pub const CAUSE: usize = LIMIT + 1;
 
 pub const DRIVE_MARKS: usize = 3;
 
+// The ticks inside the window.
+pub const STAY: usize = TAKEN + DRIVE_MARKS;
+
 // The store: its kind, behind it two set-points.
-pub const STORE: usize = TAKEN + DRIVE_MARKS;
+pub const STORE: usize = STAY + 2;
 
 // A set-point: its target, behind it, counted from there, three more numbers, a word each.
 pub const NUMBERS_BEHIND: usize = 3;

@@ -10,7 +10,9 @@ mod pdos;
 mod putting;
 mod transfers;
 
+pub use axis_drive::is_position_inside;
 pub use axis_drive::read_drive;
+pub use axis_drive::read_stay;
 use drive::Drive;
 pub use node::read_node;
 pub use own::bits_of_words;
@@ -30,6 +32,7 @@ pub use putting::put_node;
 pub use putting::put_none_held;
 pub use putting::put_paces;
 pub use putting::put_plans;
+pub use putting::put_stay;
 pub use putting::put_transfer;
 use rules_dictionary::PdoData;
 use state::Axis;

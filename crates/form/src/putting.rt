@@ -19,6 +19,7 @@ ghost use mathlib.Core.Path.{_≡_};
 ghost use Prim.Native.Nat.{_<_};
 ghost use lib.ListN.{length};
 ghost use Rattle.rules_dictionary.specs.Table.{eachWay};
+ghost use Rattle.drive.specs.SetPoints.{withStay};
 ghost use Rattle.rules_services.specs.Effects.{withNode, withHeartbeat, withTransfer, withoutTransfer, withDrive, withHeld, withPaces};
 ghost use Rattle.rules_services.specs.PdoTraffic.{noneHeld};
 ghost use Rattle.form.specs.Form.{stateLength};
@@ -62,6 +63,14 @@ pub fn put_drive(state: &mut [u8], drive: Drive)
     ensures { λ r. ⌜ Puts (withDrive drive) (now (state .entry)) (now (state .exit)) ⌝ }
 {
     write_drive(state, drive);
+}
+
+// The ticks inside the window.
+pub fn put_stay(state: &mut [u8], ticks: u16)
+    requires { ⌜ length (now state) ≡ stateLength ⌝ }
+    ensures { λ r. ⌜ Puts (λ s. withDrive (withStay ticks (s .axis .drive)) s) (now (state .entry)) (now (state .exit)) ⌝ }
+{
+    write2(state, layout::STAY, ticks);
 }
 
 // The held frame of receive PDO p.

@@ -63,6 +63,7 @@ pub fn fresh_drive() -> Drive
         taken: false,
         limit: false,
         cause: false,
+        stay: 0,
     }
 }
 

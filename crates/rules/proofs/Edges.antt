@@ -33,12 +33,12 @@ use Rattle.rules.specs.Examples.{example1, example7, request, emergency,
 number : Call → ℕ → ℕ → ℕ
 number c dictionary output = refusalNumber (answer c nothing (replicate dictionary 0) (replicate output 0) .refusal)
 
--- "dictionary (389 bytes) and output (at least 66)", "node-ID N 1 to 127": what follows from the definitions is what the document says
-as-lent : (dictionaryLength ≡ 389) × (outputLength ≡ 66) × (firstNode ≡ 1) × (lastNode ≡ 127)
+-- ticket 2: "01's length is 391"; "output (at least 66)", "node-ID N 1 to 127": what follows from the definitions is what the document says
+as-lent : (dictionaryLength ≡ 391) × (outputLength ≡ 66) × (firstNode ≡ 1) × (lastNode ≡ 127)
 unfolding open-table
 as-lent = (refl, refl, refl, refl)
 
--- "dictionary not 389 bytes", "output under 66 bytes", "N outside 1..127", "lowest number first"
+-- "dictionary not 391 bytes", "output under 66 bytes", "N outside 1..127", "lowest number first"
 lengths-first :
     let d = dictionaryLength in
     let o = outputLength in
@@ -188,7 +188,7 @@ waits = (refl, refl, refl, refl, refl, refl, refl)
 -- "taken mark only while bit 4 of 6040h is 1": an enabled drive in mode 1, at rest, under 1Fh and under 0Fh
 marked : ℕ → Bool → Bool
 marked word taken =
-    let v : Drive = record { state = OperationEnabled; mode = ProfilePosition; store = Rested 0; taken = taken; limit = false; cause = false } in
+    let v : Drive = record { state = OperationEnabled; mode = ProfilePosition; store = Rested 0; taken = taken; limit = false; cause = false; stay = 0 } in
     let e = ended nothing (packedDefaults 5 table) (writes (write mode 1 ∷ write controlWord word ∷ []) (becomes (withDrive v (freshState 5)))) in
     sound (e .state) (e .dictionary)
 

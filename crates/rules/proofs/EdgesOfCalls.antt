@@ -36,17 +36,17 @@ unborn c d o = refusalNumber (answer c nothing (replicate d 0) (replicate o 0) .
 awake : Call → ℕ
 awake c = refusalNumber (answer c state dictionary (replicate 66 0xA5) .refusal)
 
--- "dictionary not 389 bytes", "output under 66 bytes", "N outside 1..127"
-bounds-of-lengths : (map (λ n. unborn (powerUpCall 5) n 66) (388 ∷ 389 ∷ 390 ∷ []) ≡ 1 ∷ 0 ∷ 1 ∷ [])
-    × (map (unborn (powerUpCall 5) 389) (65 ∷ 66 ∷ 67 ∷ []) ≡ 2 ∷ 0 ∷ 0 ∷ [])
-    × (map (λ n. unborn (powerUpCall n) 389 66) (0 ∷ 1 ∷ 127 ∷ 128 ∷ []) ≡ 3 ∷ 0 ∷ 0 ∷ 3 ∷ [])
+-- "dictionary not 391 bytes", "output under 66 bytes", "N outside 1..127"
+bounds-of-lengths : (map (λ n. unborn (powerUpCall 5) n 66) (390 ∷ 391 ∷ 392 ∷ []) ≡ 1 ∷ 0 ∷ 1 ∷ [])
+    × (map (unborn (powerUpCall 5) 391) (65 ∷ 66 ∷ 67 ∷ []) ≡ 2 ∷ 0 ∷ 0 ∷ [])
+    × (map (λ n. unborn (powerUpCall n) 391 66) (0 ∷ 1 ∷ 127 ∷ 128 ∷ []) ≡ 3 ∷ 0 ∷ 0 ∷ 3 ∷ [])
 unfolding unborn open-rules
 bounds-of-lengths = (refl, refl, refl)
 
 -- "Lowest number first": 1 before 2, 3 and 4; 2 before 3 and 4; 4 before 5, 6 and 7. Power-up looks at no state
 lowest-first : (map (λ c. unborn c 388 65) (powerUpCall 0 ∷ frameCall 0x800 [] ∷ eventCall 10 [] ∷ []) ≡ 1 ∷ 1 ∷ 1 ∷ [])
-    × (map (λ c. unborn c 389 65) (powerUpCall 0 ∷ frameCall 0x800 [] ∷ eventCall 10 [] ∷ []) ≡ 2 ∷ 2 ∷ 2 ∷ [])
-    × (map (λ c. unborn c 389 66) (frameCall 0x800 [] ∷ frameCall 0 (replicate 9 0) ∷ eventCall 10 [] ∷ eventCall 2 [] ∷ powerUpCall 128 ∷ [])
+    × (map (λ c. unborn c 391 65) (powerUpCall 0 ∷ frameCall 0x800 [] ∷ eventCall 10 [] ∷ []) ≡ 2 ∷ 2 ∷ 2 ∷ [])
+    × (map (λ c. unborn c 391 66) (frameCall 0x800 [] ∷ frameCall 0 (replicate 9 0) ∷ eventCall 10 [] ∷ eventCall 2 [] ∷ powerUpCall 128 ∷ [])
     ≡ 4 ∷ 4 ∷ 4 ∷ 4 ∷ 3 ∷ [])
 unfolding unborn open-rules
 lowest-first = (refl, refl, refl)
@@ -71,9 +71,9 @@ keeps r c s d o = answer c s d o ≡ record { refusal = r; frames = 0; state = s
 
 -- "Each returns zero frames and the state given; dictionary and output keep every byte."
 refused-keeps : keeps DictionaryLength (powerUpCall 5) nothing (replicate 388 0xA5) (replicate 66 0xA5)
-    × keeps OutputLength (powerUpCall 5) nothing (replicate 389 0xA5) (replicate 65 0xA5)
-    × keeps NodeId (powerUpCall 0) nothing (replicate 389 0xA5) (replicate 66 0xA5)
-    × keeps NotSound (frameCall 0x605 []) nothing (replicate 389 0xA5) (replicate 66 0xA5)
+    × keeps OutputLength (powerUpCall 5) nothing (replicate 391 0xA5) (replicate 65 0xA5)
+    × keeps NodeId (powerUpCall 0) nothing (replicate 391 0xA5) (replicate 66 0xA5)
+    × keeps NotSound (frameCall 0x605 []) nothing (replicate 391 0xA5) (replicate 66 0xA5)
     × keeps BadFrame (frameCall 0x800 []) state dictionary (replicate 66 0xA5)
     × keeps BadEvent (eventCall 9 (2 ∷ [])) state dictionary (replicate 66 0xA5)
     × keeps OutOfPlace (eventCall 2 []) state dictionary (replicate 66 0xA5)

@@ -17,21 +17,22 @@ use Rattle.drive.specs.declared.DriveState.{DriveState}
 use Rattle.drive.specs.declared.DriveState.the-variants.{NotReady, SwitchOnDisabled, ReadyToSwitchOn, SwitchedOn, OperationEnabled}
 use Rattle.drive.specs.declared.DriveState.the-variants.{QuickStopActive, FaultReactionActive, Fault}
 use Rattle.drive.specs.declared.Store.{Store}
-use Rattle.drive.specs.declared.Store.the-variants.{Empty, Rested}
+use Rattle.drive.specs.declared.SetPoint.{SetPoint}
+use Rattle.drive.specs.declared.Store.the-variants.{Empty, Rested, Moving, Queued}
 use Rattle.drive.specs.declared.Drive.{Drive}
 use Rattle.rules_dictionary.specs.TheNode.{isNodeId}
 use Rattle.rules_dictionary.specs.Table.{table, deviceType, syncIdentifier, emergencyIdentifier, supportedModes, limitCount, communicationCount}
 use Rattle.rules_dictionary.specs.Table.{mapCount, positionWindow, profileAcceleration, profileDeceleration, transmissionType, mapEntry, identifier}
-use Rattle.rules_dictionary.specs.Table.{controlWord, mode, modeDisplay, heartbeatTime, errorCode, velocity}
+use Rattle.rules_dictionary.specs.Table.{controlWord, mode, modeDisplay, heartbeatTime, errorCode, velocity, position, windowTime}
 use Rattle.rules_dictionary.specs.Values.{Write, write, stored, packedDefaults}
-use Rattle.drive.specs.SetPoints.{withMode, withCause}
+use Rattle.drive.specs.SetPoints.{withMode, withCause, withStay}
 use Rattle.rules_services.specs.Effects.{writes, becomes, withDrive, withPaces, withNmt, withVoltage, withHeartbeat, withAxis, withNode, withTransfer}
 use Rattle.rules_services.specs.PdoTraffic.{idle}
 use Rattle.rules_services.specs.Nmt.{freshState}
 use Rattle.rules.specs.Outcome.{End, ended}
 use Rattle.rules.specs.Sound.{sound, dictionarySound, driveSound, waitingSound, constantsAsListed, valuesInRange, mappingsLegal}
 use Rattle.rules.specs.Sound.{identifiersLegal, statusAsMade, modeAsMade, plansFresh, readyFresh, storeInPlace, takenInPlace}
-use Rattle.rules.specs.Sound.{causeInPlace, heartbeatSound, transferSound}
+use Rattle.rules.specs.Sound.{causeInPlace, heartbeatSound, transferSound, staySound}
 use Rattle.rules.specs.Scripts.{nothing, open-rules}
 
 -- ---- the clauses, in the paper's order
@@ -41,7 +42,7 @@ clauses s d =
     let v = s .axis .drive in
     isNodeId (s .node .id) ∷ constantsAsListed (s .node .id) d ∷ valuesInRange d ∷ mappingsLegal d ∷ identifiersLegal d ∷ statusAsMade s d
     ∷ modeAsMade s d ∷ plansFresh s d ∷ readyFresh s d ∷ storeInPlace v ∷ takenInPlace v d ∷ causeInPlace v
-    ∷ heartbeatSound (s .node .heartbeat) d ∷ waitingSound s d ∷ transferSound (s .transfer) ∷ []
+    ∷ heartbeatSound (s .node .heartbeat) d ∷ waitingSound s d ∷ transferSound (s .transfer) ∷ staySound v d ∷ []
 
 every : Bool → List Bool → Bool
 every b [] = b
@@ -54,10 +55,11 @@ sound-by-clauses s d = simp (and-assoc)
 
 -- all but the one of that number, from 0
 but : ℕ → List Bool
-but k = replicate k true ++ false ∷ replicate (14 - k) true
+but k = replicate k true ++ false ∷ replicate (15 - k) true
 
--- one clause of the fifteen that does not hold is enough
-one-is-enough : map (λ k. every true (but k)) (0 ∷ 1 ∷ 2 ∷ 3 ∷ 4 ∷ 5 ∷ 6 ∷ 7 ∷ 8 ∷ 9 ∷ 10 ∷ 11 ∷ 12 ∷ 13 ∷ 14 ∷ []) ≡ replicate 15 false
+-- one clause of the sixteen that does not hold is enough
+one-is-enough : map (λ k. every true (but k)) (0 ∷ 1 ∷ 2 ∷ 3 ∷ 4 ∷ 5 ∷ 6 ∷ 7 ∷ 8 ∷ 9 ∷ 10 ∷ 11 ∷ 12 ∷ 13 ∷ 14 ∷ 15 ∷ [])
+    ≡ replicate 16 false
 unfolding every but
 one-is-enough = refl
 
@@ -67,7 +69,7 @@ made : Drive → List Write → End
 made v ws = ended nothing (packedDefaults 5 table) (writes ws (becomes (withDrive v (freshState 5))))
 
 driven : DriveState → Mode → Store → Bool → Bool → Drive
-driven s m st taken limit = record { state = s; mode = m; store = st; taken = taken; limit = limit; cause = false }
+driven s m st taken limit = record { state = s; mode = m; store = st; taken = taken; limit = limit; cause = false; stay = 0 }
 
 resting : Drive
 resting = driven NotReady NoMode Empty false false
@@ -169,7 +171,7 @@ unfitting =
 
 -- the transfer alone, which no other clause looks at
 transfer-alone : (map (λ t. said resting [] (withTransfer t)) unfitting ≡ replicate 3 (but 14))
-    × (map (λ t. said resting [] (withTransfer t)) fitting ≡ replicate 3 (replicate 15 true))
+    × (map (λ t. said resting [] (withTransfer t)) fitting ≡ replicate 3 (replicate 16 true))
     × (let e = made resting [] in map (λ t. sound (withTransfer t (e .state)) (e .dictionary)) unfitting ≡ replicate 3 false)
 unfolding fitting unfitting open-said
 transfer-alone = (refl, refl, refl)
@@ -187,6 +189,38 @@ transfer-anywhere : (map (λ m. map (λ t. let e = running m t in sound (e .stat
     × (map (λ t. running Operational t .state .transfer) fitting ≡ fitting)
 unfolding fitting unfitting running packedDefaults open-rules
 transfer-anywhere = (refl, refl, refl)
+
+-- the position is 1000, the window 10, the window time 0
+about : List Write
+about = write mode 1 ∷ write controlWord 0x0F ∷ write position 1000 ∷ write positionWindow 10 ∷ []
+
+abbrev point : ℕ → SetPoint
+point t = record { target = t; velocity = 0; acceleration = 1; deceleration = 1 }
+
+-- with an end of the window for a target, and one past it; of two the first's
+insides : List Store
+insides = Rested 1010 ∷ Moving (point 990) ∷ Queued (point 1010) (point 9) ∷ []
+
+outsides : List Store
+outsides = Empty ∷ Rested 1011 ∷ Moving (point 989) ∷ Queued (point 1011) (point 1000) ∷ []
+
+-- an enabled drive in mode 1 with that store, of which so many ticks are counted when all else is made
+stayed : List Write → ℕ → Store → List Bool
+stayed ws n st = said (driven OperationEnabled ProfilePosition st false false) ws (λ s. withDrive (withStay n (s .axis .drive)) s)
+
+-- ticket 2, "the count is 0 unless the store is not Empty and the position is inside": a count of 1 outside, or with an Empty store, breaks this
+-- clause alone, with a window time too; inside the greatest count passes
+stay-alone : (map (stayed about 1) outsides ≡ replicate 4 (but 15)) × (stayed (write windowTime 2 ∷ about) 65535 (Rested 1011) ≡ but 15)
+    × (map (stayed about 65535) insides ≡ replicate 3 (replicate 16 true))
+    × (let e = made (driven OperationEnabled ProfilePosition (Rested 1011) false false) about in
+    map (λ n. sound (withDrive (withStay n (e .state .axis .drive)) (e .state)) (e .dictionary)) (0 ∷ 1 ∷ []) ≡ true ∷ false ∷ [])
+unfolding about insides outsides stayed open-said
+stay-alone = (refl, refl, refl, refl)
+
+-- inside with a window time, 6041h made at a count below it: a count that has come to it wants bit 10
+stay-shown : map (λ n. stayed (write windowTime 2 ∷ about) n (Rested 1010)) (1 ∷ 2 ∷ []) ≡ replicate 16 true ∷ but 5 ∷ []
+unfolding about stayed open-said
+stay-shown = refl
 
 -- ---- each clause by itself: the last value that it lets pass, and the first that it does not
 
@@ -272,6 +306,14 @@ heartbeat-told : (map (λ k. heartbeatSound k (with [])) (0 ∷ 1 ∷ []) ≡ tr
     × (map (λ k. heartbeatSound k (with (write heartbeatTime 0xFFFF ∷ []))) (0xFFFE ∷ 0xFFFF ∷ []) ≡ true ∷ false ∷ [])
 unfolding with packedDefaults open-rules
 heartbeat-told = (refl, refl, refl)
+
+-- "the count is 0 unless the store is not Empty and the position is inside": nothing is asked of state and mode
+stay-told : (map (λ n. map (λ st. staySound (withStay n (driven SwitchedOn NoMode st false false)) (with about)) outsides) (0 ∷ 1 ∷ 65535 ∷ [])
+    ≡ replicate 4 true ∷ replicate 4 false ∷ replicate 4 false ∷ [])
+    × (map (λ n. map (λ st. staySound (withStay n (driven SwitchedOn NoMode st false false)) (with about)) insides) (0 ∷ 1 ∷ 65535 ∷ [])
+    ≡ replicate 3 (replicate 3 true))
+unfolding about insides outsides with driven packedDefaults open-rules
+stay-told = (refl, refl)
 
 -- "an upload stands at a segment that the name has": 0, 1 and 2 of nineteen characters
 upload-told : map (λ k. transferSound (Uploading k)) (0 ∷ 1 ∷ 2 ∷ 3 ∷ 4 ∷ 255 ∷ []) ≡ true ∷ true ∷ true ∷ false ∷ false ∷ false ∷ []

@@ -4,6 +4,7 @@ pub mod Edges
 pub mod EdgesOfSound
 pub mod EdgesOfWaiting
 pub mod EdgesOfCalls
+pub mod EdgesOfWindow
 pub mod PowerUp
 pub mod AtEnd
 pub mod Encoded

@@ -12,11 +12,12 @@ use Rattle.rules_dictionary.specs.Table.{table, dictionaryLength}
 use Rattle.rules_dictionary.proofs.Tests.{and-left, and-right, allBelow, on-nodes}
 use Rattle.rules_dictionary.proofs.Defaults.{all-defaults}
 use Rattle.rules_dictionary.specs.Values.{stored, packedDefaults}
+use Rattle.drive.specs.Window.{inside, counted, staying}
 use Rattle.rules_services.specs.Nmt.{powerUp, freshState, bootUp}
 use Rattle.rules_services.specs.Effects.{sends, becomes}
 use Rattle.rules.specs.Outcome.{End, ended, driveAtEnd, settled}
 use Rattle.rules.specs.Sound.{sound, dictionarySound, constantsAsListed, valuesInRange, mappingsLegal, identifiersLegal, statusAsMade}
-use Rattle.rules.specs.Sound.{modeAsMade, plansFresh, readyFresh, driveSound, heartbeatSound, waitingSound, transferSound}
+use Rattle.rules.specs.Sound.{modeAsMade, plansFresh, readyFresh, driveSound, heartbeatSound, waitingSound, transferSound, staySound}
 use Rattle.rules.specs.Scripts.{open-rules}
 
 -- the dictionary that power-up leaves
@@ -50,11 +51,12 @@ rest : (n : ℕ) (s : State) →
     × (heartbeatSound (freshEnd n s .state .node .heartbeat) (freshDictionary n) ≡ true)
     × (waitingSound (freshEnd n s .state) (freshDictionary n) ≡ true)
     × (transferSound (freshEnd n s .state .transfer) ≡ true)
+    × (staySound (freshEnd n s .state .axis .drive) (freshDictionary n) ≡ true)
 unfolding freshEnd freshDictionary packedDefaults open-rules
-rest n s = (refl, refl, refl, refl, refl, refl, refl, refl, refl)
+rest n s = (refl, refl, refl, refl, refl, refl, refl, refl, refl, refl)
 
 fresh-sound : (n : ℕ) (s : State) → isNodeId n ≡ true → sound (freshEnd n s .state) (freshEnd n s .dictionary) ≡ true
-unfolding freshEnd freshDictionary ended driveAtEnd stored freshState sound dictionarySound nodeSound
+unfolding freshEnd freshDictionary ended driveAtEnd staying counted inside stored freshState sound dictionarySound nodeSound
 fresh-sound n s p =
     let d = freshDictionary n in
     let q : (constantsAsListed n d && valuesInRange d && identifiersLegal d) ≡ true = on-nodes nodeSound node-test n p in
@@ -63,7 +65,7 @@ fresh-sound n s p =
     let ranged : valuesInRange d ≡ true = and-right (constantsAsListed n d) _ qs in
     let named : identifiersLegal d ≡ true = and-right (constantsAsListed n d && valuesInRange d) _ q in
     let r = rest n s in
-    rw (p, listed, ranged, named, r .0, r .1, r .2, r .3, r .4, r .5, r .6, r .7, r .8)
+    rw (p, listed, ranged, named, r .0, r .1, r .2, r .3, r .4, r .5, r .6, r .7, r .8, r .9)
 
 -- THE THEOREM
 pub power-up-sound : (n : ℕ) (s : State) (d : List ℕ) → isNodeId n ≡ true → length d ≡ dictionaryLength →

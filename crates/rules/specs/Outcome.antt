@@ -17,9 +17,11 @@ use Rattle.rules_dictionary.specs.Table.{statusWord, modeDisplay, eachWay}
 use Rattle.rules_dictionary.specs.Values.{store, stored}
 use Rattle.rules_dictionary.specs.Legal.{modeNumber}
 use Rattle.rules_dictionary.specs.Plans.{plansOf, readyOf, mostBytes}
+use Rattle.drive.specs.Window.{staying}
 use Rattle.drive.specs.StatusWord.{status}
 use Rattle.rules_services.specs.Effects.{Frame, Effect, withDrive}
 use Rattle.state.specs.NmtStates.{isStopped, isOperational}
+use Rattle.state.specs.Occasions.{isTicked}
 use Rattle.rules_services.specs.declared.Paced.{Paced}
 use Rattle.rules_services.specs.PdoTraffic.{paced, paceOf, idle, works, typeOf, transmitted, noData}
 
@@ -73,11 +75,11 @@ transmissions d ready paces [] = []
 transmissions d ready paces (t ∷ ts) =
     cond (paces t .send) (transmitted d (eachWay + t) (getD ready t noData) ∷ []) [] ++ transmissions d ready paces ts
 
--- ---- the drive at the end: nothing of its own counts calls or ticks
+-- ---- the drive at the end: ticket 2, "Ticks are counted while inside"
 
 -- after the effect on that occasion, with its writes stored
 unfoldable pub driveAtEnd : Occasion → List ℕ → Drive → Drive
-driveAtEnd occasion d v = v
+driveAtEnd occasion d v = staying (isTicked occasion) d v
 
 -- ---- the state and the dictionary at the end, and all frames sent
 
@@ -86,19 +88,18 @@ pub record End : Type 0 where
   pub dictionary : List ℕ
   pub sent : List Frame
 
-unfoldable pub ended : State → List ℕ → Effect → End
-ended s d e =
-    let v = driveAtEnd (e .occasion) (stored (e .writes) d) (e .state .axis .drive) in
-    let s′ = withDrive v (e .state) in
-    let d′ = settled s′ (stored (e .writes) d) in
+-- s is the state before the call; s′ is the one at its end, but for what follows from it and from the dictionary at the end, d′; `sent` is what
+-- the service sent
+abbrev pub followed : State → State → Occasion → List Frame → List ℕ → End
+followed s s′ occasion sent d′ =
     let ready = readyOf d′ in
-    let paces = paceFor s s′ (e .occasion) d′ ready in
+    let paces = paceFor s s′ occasion d′ ready in
     record {
       state = record {
         node = s′ .node;
         transfer = s′ .transfer;
         axis = record {
-          drive = v;
+          drive = s′ .axis .drive;
           plans = plansOf d′;
           ready = ready;
           held = s′ .axis .held;
@@ -106,8 +107,14 @@ ended s d e =
         };
       };
       dictionary = d′;
-      sent = e .sent ++ transmissions d′ ready paces transmitters;
+      sent = sent ++ transmissions d′ ready paces transmitters;
     }
+
+unfoldable pub ended : State → List ℕ → Effect → End
+ended s d e =
+    let d1 = stored (e .writes) d in
+    let s′ = withDrive (driveAtEnd (e .occasion) d1 (e .state .axis .drive)) (e .state) in
+    followed s s′ (e .occasion) (e .sent) (settled s′ d1)
 
 -- ---- "Output is eleven bytes a frame, one after another: identifier (2, little-endian), length, eight data bytes, unused ones
 -- zero. Bytes past the frames reported stay."

@@ -1,4 +1,4 @@
--- Document 01, 'Calls and refusals', the paragraph that begins "Sound:", and what ticket 1 adds, each clause as a test of its own.
+-- Document 01, 'Calls and refusals', the paragraph that begins "Sound:", and what tickets 1 and 2 add, each clause as a test of its own.
 -- Assumes nothing.
 use Prim.Native.Nat.{ℕ, _*_}
 use mathlib.Core.List.{List, [], _∷_}
@@ -25,6 +25,7 @@ use Rattle.rules_dictionary.specs.Legal.{isSynchronous, isCyclic}
 use Rattle.rules_dictionary.specs.Plans.{plansOf, readyOf, mapped, pdoData}
 use Rattle.drive.specs.DriveStates.{isFaulty}
 use Rattle.drive.specs.SetPoints.{positions, isEmpty, newSetPointBit}
+use Rattle.drive.specs.Window.{inside}
 use Rattle.rules_services.specs.Sdo.{dataSize}
 use Rattle.rules_services.specs.Segments.{bytesIn, tooMany, segmentSize}
 use Rattle.rules_services.specs.PdoTraffic.{works, typeOf, isHeld, noData, mappedLength, areLegal}
@@ -126,6 +127,12 @@ transferSound NoTransfer = true
 transferSound (Uploading k) = ltb (k * segmentSize) (length deviceName)
 transferSound (Downloading g) = receiptSound g
 
+-- ---- the ticks inside the window, by ticket 2
+
+-- "the count is 0 unless the store is not Empty and the position is inside"
+unfoldable pub staySound : Drive → List ℕ → Bool
+staySound v d = eqb (v .stay) 0 || inside (v .store) d
+
 -- ---- the whole
 
 -- of the dictionary alone
@@ -142,7 +149,7 @@ waitingSound s d =
     let m = s .node .nmt in
     pairwise (paceSound m d) transmitPdos (s .axis .paces) && pairwise (heldSound m d) receivePdos (s .axis .held)
 
--- the clauses in the paper's order, "N legal" first, and the transfer's last
+-- the clauses in the paper's order, "N legal" first, and behind them the tickets'
 unfoldable pub sound : State → List ℕ → Bool
 sound s d =
     isNodeId (s .node .id)
@@ -155,10 +162,11 @@ sound s d =
     && heartbeatSound (s .node .heartbeat) d
     && waitingSound s d
     && transferSound (s .transfer)
+    && staySound (s .axis .drive) d
 
 -- opens every definition of this module, where a proof computes
 unfoldable pub open-sound : Unit {0}
 unfolding constantsAsListed inRange valuesInRange mappingLegal mappingsLegal identifiersLegal statusAsMade modeAsMade plansFresh readyFresh
-    storeInPlace takenInPlace causeInPlace countSound heartbeatSound receiptSound transferSound dueSound paceSound heldSound
+    storeInPlace takenInPlace causeInPlace countSound heartbeatSound receiptSound transferSound staySound dueSound paceSound heldSound
     dictionarySound driveSound waitingSound sound
 open-sound = tt

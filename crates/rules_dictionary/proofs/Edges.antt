@@ -37,8 +37,8 @@ back-again : value (0x78 ∷ 0x56 ∷ 0x34 ∷ 0x12 ∷ []) ≡ 0x12345678
 unfolding open-edges
 back-again = refl
 
--- "122 entries", "dictionary (389 bytes)": what follows from the rows is what the document says
-as-counted : (entries ≡ 122) × (dictionaryLength ≡ 389)
+-- ticket 2: "01's length is 391, its entries 123": what follows from the rows is what the document says
+as-counted : (entries ≡ 123) × (dictionaryLength ≡ 391)
 unfolding open-edges
 as-counted = (refl, refl)
 

@@ -32,8 +32,8 @@ spare n = times n (0, 0)
 
 -- "eight plans of up to eight moves (place and size in the dictionary)": those of the default maps
 default-plans : plans fresh
-    ≡ (1, (334, 2) ∷ spare 7) ∷ (2, (334, 2) ∷ (338, 1) ∷ spare 6) ∷ (2, (334, 2) ∷ (356, 4) ∷ spare 6) ∷ (2, (334, 2) ∷ (381, 4) ∷ spare 6)
-    ∷ (1, (336, 2) ∷ spare 7) ∷ (2, (336, 2) ∷ (339, 1) ∷ spare 6) ∷ (2, (336, 2) ∷ (340, 4) ∷ spare 6) ∷ (2, (336, 2) ∷ (348, 4) ∷ spare 6)
+    ≡ (1, (334, 2) ∷ spare 7) ∷ (2, (334, 2) ∷ (338, 1) ∷ spare 6) ∷ (2, (334, 2) ∷ (358, 4) ∷ spare 6) ∷ (2, (334, 2) ∷ (383, 4) ∷ spare 6)
+    ∷ (1, (336, 2) ∷ spare 7) ∷ (2, (336, 2) ∷ (339, 1) ∷ spare 6) ∷ (2, (336, 2) ∷ (340, 4) ∷ spare 6) ∷ (2, (336, 2) ∷ (350, 4) ∷ spare 6)
     ∷ []
 unfolding open-edges
 default-plans = refl
@@ -84,7 +84,7 @@ full-frame = refl
 feedback : List Write
 feedback = mapping 7 2 (0x60640020 ∷ 0x606C0020 ∷ 0x60610008 ∷ [])
 
-feedback-plan : planAfter feedback 7 ≡ (2, (340, 4) ∷ (348, 4) ∷ spare 6)
+feedback-plan : planAfter feedback 7 ≡ (2, (340, 4) ∷ (350, 4) ∷ spare 6)
 unfolding feedback mapping running open-edges
 feedback-plan = refl
 
@@ -96,7 +96,7 @@ feedback-frame = refl
 backward : List Write
 backward = mapping 5 3 (0x606C0020 ∷ 0x60410010 ∷ 0x603F0010 ∷ [])
 
-backward-plan : planAfter backward 5 ≡ (3, (348, 4) ∷ (336, 2) ∷ (332, 2) ∷ spare 5)
+backward-plan : planAfter backward 5 ≡ (3, (350, 4) ∷ (336, 2) ∷ (332, 2) ∷ spare 5)
 unfolding backward mapping running open-edges
 backward-plan = refl
 
@@ -107,7 +107,7 @@ backward-frame = refl
 -- what the default maps of the receive PDOs leave out: 6081h, 6083h, 6084h
 ramps-plan : planAfter (mapping 0 2 (0x60840020 ∷ 0x60830020 ∷ []) ++ mapping 3 2 (0x60600008 ∷ 0x60810020 ∷ [])) 0
     ∷ planAfter (mapping 0 2 (0x60840020 ∷ 0x60830020 ∷ []) ++ mapping 3 2 (0x60600008 ∷ 0x60810020 ∷ [])) 3 ∷ []
-    ≡ (2, (377, 4) ∷ (373, 4) ∷ spare 6) ∷ (2, (338, 1) ∷ (369, 4) ∷ spare 6) ∷ []
+    ≡ (2, (379, 4) ∷ (375, 4) ∷ spare 6) ∷ (2, (338, 1) ∷ (371, 4) ∷ spare 6) ∷ []
 unfolding mapping running open-edges
 ramps-plan = refl
 

@@ -1,4 +1,4 @@
--- Document 01, 'The dictionary', row by row as the paper prints it, and what the table makes of it: one fact over all 122 rows.
+-- Document 01, 'The dictionary', row by row as the paper prints it, and what the table makes of it: one fact over all 123 rows.
 -- The lists below are written from the paper, not from the definitions: a changed number of a row makes them fall.
 -- Assumes nothing.
 use Prim.Native.Nat.{ℕ}
@@ -199,7 +199,7 @@ transmitMaps =
 
 -- "603F u16 o T; 6040 u16 w R; 6041 u16 o T; 6060 i8 w R; 6061 i8 o T; 6064 i32 o T; 6067 u32 w 0..7FFFFFFFh; 606C i32 o T;
 -- 606D, 606F u16 w; 607A i32 w R; 607D:0 u8 c 2, :1 i32 w -2^31, :2 i32 w 2^31-1; 6081 u32 w R;
--- 6083, 6084 u32 w R default 1, least 1; 60FF i32 w R; 6502 u32 c 5"; "Other defaults 0"
+-- 6083, 6084 u32 w R default 1, least 1; 60FF i32 w R; 6502 u32 c 5"; "Other defaults 0"; ticket 2: "6068h (u16, ms, default 0, writable)"
 drive : List Entry
 drive =
     printed 332 0x603F 0 u16 o T 0 0xFFFF 0 0
@@ -209,21 +209,22 @@ drive =
     ∷ printed 339 0x6061 0 i8 o T 0 0xFF 0 0
     ∷ printed 340 0x6064 0 i32 o T 0 0xFFFFFFFF 0 0
     ∷ printed 344 0x6067 0 u32 w none 0 0x7FFFFFFF 0 0
-    ∷ printed 348 0x606C 0 i32 o T 0 0xFFFFFFFF 0 0
-    ∷ printed 352 0x606D 0 u16 w none 0 0xFFFF 0 0
-    ∷ printed 354 0x606F 0 u16 w none 0 0xFFFF 0 0
-    ∷ printed 356 0x607A 0 i32 w R 0 0xFFFFFFFF 0 0
-    ∷ printed 360 0x607D 0 u8 c none 0 0xFF 2 2
-    ∷ printed 361 0x607D 1 i32 w none 0 0xFFFFFFFF 0x80000000 0x80000000
-    ∷ printed 365 0x607D 2 i32 w none 0 0xFFFFFFFF 0x7FFFFFFF 0x7FFFFFFF
-    ∷ printed 369 0x6081 0 u32 w R 0 0xFFFFFFFF 0 0
-    ∷ printed 373 0x6083 0 u32 w R 1 0xFFFFFFFF 1 1
-    ∷ printed 377 0x6084 0 u32 w R 1 0xFFFFFFFF 1 1
-    ∷ printed 381 0x60FF 0 i32 w R 0 0xFFFFFFFF 0 0
-    ∷ printed 385 0x6502 0 u32 c none 0 0xFFFFFFFF 5 5
+    ∷ printed 348 0x6068 0 u16 w none 0 0xFFFF 0 0
+    ∷ printed 350 0x606C 0 i32 o T 0 0xFFFFFFFF 0 0
+    ∷ printed 354 0x606D 0 u16 w none 0 0xFFFF 0 0
+    ∷ printed 356 0x606F 0 u16 w none 0 0xFFFF 0 0
+    ∷ printed 358 0x607A 0 i32 w R 0 0xFFFFFFFF 0 0
+    ∷ printed 362 0x607D 0 u8 c none 0 0xFF 2 2
+    ∷ printed 363 0x607D 1 i32 w none 0 0xFFFFFFFF 0x80000000 0x80000000
+    ∷ printed 367 0x607D 2 i32 w none 0 0xFFFFFFFF 0x7FFFFFFF 0x7FFFFFFF
+    ∷ printed 371 0x6081 0 u32 w R 0 0xFFFFFFFF 0 0
+    ∷ printed 375 0x6083 0 u32 w R 1 0xFFFFFFFF 1 1
+    ∷ printed 379 0x6084 0 u32 w R 1 0xFFFFFFFF 1 1
+    ∷ printed 383 0x60FF 0 i32 w R 0 0xFFFFFFFF 0 0
+    ∷ printed 387 0x6502 0 u32 c none 0 0xFFFFFFFF 5 5
     ∷ []
 
--- ALL 122 ROWS, in the paper's order
+-- ALL 123 ROWS, in the paper's order
 as-printed : map asPrinted table ≡ node ++ receiveCommunication ++ receiveMaps ++ transmitCommunication ++ transmitMaps ++ drive
 unfolding node receiveCommunication receiveMaps transmitCommunication transmitMaps drive open-edges
 as-printed = refl
@@ -242,14 +243,14 @@ ofMapping p = MappingCount p ∷ times 8 (MappingEntry p)
 roles : map (λ x. x .role) table
     ≡ times 7 Plain ++ ofCommunication 0 ++ ofCommunication 1 ++ ofCommunication 2 ++ ofCommunication 3 ++ ofMapping 0 ++ ofMapping 1
     ++ ofMapping 2 ++ ofMapping 3 ++ ofCommunication 4 ++ ofCommunication 5 ++ ofCommunication 6 ++ ofCommunication 7 ++ ofMapping 4
-    ++ ofMapping 5 ++ ofMapping 6 ++ ofMapping 7 ++ times 3 Plain ++ ModeOfOperation ∷ times 15 Plain
+    ++ ofMapping 5 ++ ofMapping 6 ++ ofMapping 7 ++ times 3 Plain ++ ModeOfOperation ∷ times 16 Plain
 unfolding open-edges
 roles = refl
 
 -- "82h objects 1000h-1FFFh to default except that 1001h stays": what stays, index and subindex as one number; the other 102 go back
 stays-at-82h : map key (filter (λ x. not (isReset x)) table)
-    ≡ 0x100100 ∷ 0x603F00 ∷ 0x604000 ∷ 0x604100 ∷ 0x606000 ∷ 0x606100 ∷ 0x606400 ∷ 0x606700 ∷ 0x606C00 ∷ 0x606D00 ∷ 0x606F00 ∷ 0x607A00
-    ∷ 0x607D00 ∷ 0x607D01 ∷ 0x607D02 ∷ 0x608100 ∷ 0x608300 ∷ 0x608400 ∷ 0x60FF00 ∷ 0x650200 ∷ []
+    ≡ 0x100100 ∷ 0x603F00 ∷ 0x604000 ∷ 0x604100 ∷ 0x606000 ∷ 0x606100 ∷ 0x606400 ∷ 0x606700 ∷ 0x606800 ∷ 0x606C00 ∷ 0x606D00 ∷ 0x606F00
+    ∷ 0x607A00 ∷ 0x607D00 ∷ 0x607D01 ∷ 0x607D02 ∷ 0x608100 ∷ 0x608300 ∷ 0x608400 ∷ 0x60FF00 ∷ 0x650200 ∷ []
 unfolding open-edges
 stays-at-82h = refl
 

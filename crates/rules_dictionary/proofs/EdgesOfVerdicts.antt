@@ -14,7 +14,7 @@ use Rattle.rules_dictionary.specs.Table.{found, theName, noObject as mis
 use Rattle.rules_dictionary.specs.Table.{errorRegister, heartbeatTime, errorCode, controlWord, statusWord, mode, modeDisplay, position, key}
 use Rattle.rules_dictionary.specs.Table.{positionWindow, velocity, velocityWindow, velocityThreshold, targetPosition, minimumPosition}
 use Rattle.rules_dictionary.specs.Table.{maximumPosition, profileVelocity, profileAcceleration, profileDeceleration, targetVelocity, pdos}
-use Rattle.rules_dictionary.specs.Table.{transmissionType, mapCount, mapEntry}
+use Rattle.rules_dictionary.specs.Table.{transmissionType, mapCount, mapEntry, windowTime}
 use Rattle.rules_dictionary.specs.Aborts.{abortCode, unknownCommand, wrongToggle, noObject, noSubindex, noWriting, tooLong, tooShort, wrongTime}
 use Rattle.rules_dictionary.specs.Aborts.{belowRange, aboveRange, badValue, notMappable, overLength, Verdict, good, bad, isGood, test, firstOf}
 use Rattle.rules_dictionary.specs.Legal.{isBelow, isAbove, valueVerdict}
@@ -93,6 +93,11 @@ name-bounds : map (λ n. isName (times n 0x41)) (4 ∷ 5 ∷ 32 ∷ 33 ∷ []) +
     ≡ false ∷ true ∷ true ∷ false ∷ false ∷ true ∷ true ∷ false ∷ []
 name-bounds = refl
 
+-- ticket 2: 6068h is there, and has no other subindex; 6069h is not
+the-window-time : (lookup 0x6068 0 ≡ found windowTime) × (map (lookup 0x6068) (1 ∷ 255 ∷ []) ≡ times 2 missingSub) × (lookup 0x6069 0 ≡ missing)
+unfolding open-edges
+the-window-time = (refl, refl, refl)
+
 -- ---- ranges: the ends are legal, what lies behind them is not
 
 pastEnds : Row → Bool
@@ -109,7 +114,8 @@ unfolding open-edges
 ends-of-bytes = refl
 
 ends-of-u16 : map (λ x. answers fresh x (0 ∷ 0xFFFF ∷ 0x10000 ∷ []))
-    (heartbeatTime ∷ errorCode ∷ controlWord ∷ statusWord ∷ velocityWindow ∷ velocityThreshold ∷ []) ≡ times 6 (0 ∷ 0 ∷ 0x06090031 ∷ [])
+    (heartbeatTime ∷ errorCode ∷ controlWord ∷ statusWord ∷ windowTime ∷ velocityWindow ∷ velocityThreshold ∷ [])
+    ≡ times 7 (0 ∷ 0 ∷ 0x06090031 ∷ [])
 unfolding open-edges
 ends-of-u16 = refl
 

@@ -1,4 +1,4 @@
--- Document 01, 'The dictionary': the 122 rows, each with a name, and the table of them all.
+-- Document 01, 'The dictionary', and 6068h of ticket 2: the 123 rows, each with a name, and the table of them all.
 -- Assumes nothing.
 use Prim.Native.Nat.{ℕ, _+_, _-_, _*_, _%_, _^_}
 use mathlib.Core.List.{List, [], _∷_, _++_, map, flatMap}
@@ -169,6 +169,10 @@ position = row 0x6064 0 i32 NodeWritten toTransmit (fixed 0)
 abbrev pub positionWindow : Row
 positionWindow = ranging (upTo 0x7FFFFFFF) (row 0x6067 0 u32 Writable unmappable (fixed 0))
 
+-- ticket 2: "6068h (u16, ms, default 0, writable)"
+abbrev pub windowTime : Row
+windowTime = row 0x6068 0 u16 Writable unmappable (fixed 0)
+
 abbrev pub velocity : Row
 velocity = row 0x606C 0 i32 NodeWritten toTransmit (fixed 0)
 
@@ -307,8 +311,8 @@ nodeRows = deviceType ∷ errorRegister ∷ syncIdentifier ∷ emergencyIdentifi
 
 abbrev pub driveRows : List Row
 driveRows =
-    errorCode ∷ controlWord ∷ statusWord ∷ mode ∷ modeDisplay ∷ position ∷ positionWindow ∷ velocity ∷ velocityWindow
-    ∷ velocityThreshold ∷ targetPosition ∷ limitCount ∷ minimumPosition ∷ maximumPosition ∷ profileVelocity
+    errorCode ∷ controlWord ∷ statusWord ∷ mode ∷ modeDisplay ∷ position ∷ positionWindow ∷ windowTime ∷ velocity
+    ∷ velocityWindow ∷ velocityThreshold ∷ targetPosition ∷ limitCount ∷ minimumPosition ∷ maximumPosition ∷ profileVelocity
     ∷ profileAcceleration ∷ profileDeceleration ∷ targetVelocity ∷ supportedModes ∷ []
 
 unfoldable pub table : List Row
@@ -321,7 +325,7 @@ table =
     ++ flatMap mappingRows transmitPdos
     ++ driveRows
 
--- "122 entries"
+-- ticket 2: "its entries 123"
 unfoldable pub entries : ℕ
 entries = length table
 
@@ -345,7 +349,7 @@ bytesBefore x (y ∷ ys) = elim (same x y) [ true ↦ 0 | false ↦ sizeOf y + b
 unfoldable pub placeOf : Row → ℕ
 placeOf x = bytesBefore x table
 
--- the bytes of them all: "389"
+-- the bytes of them all: ticket 2, "01's length is 391"
 unfoldable pub dictionaryLength : ℕ
 dictionaryLength = total table
 

@@ -17,11 +17,12 @@ use Rattle.drive.specs.declared.Store.{Store}
 use Rattle.drive.specs.declared.Store.the-variants.{Empty, Rested, Moving, Queued}
 use Rattle.rules_dictionary.specs.Table.{errorRegister, errorCode, position, velocity, heartbeatTime}
 use Rattle.rules_dictionary.specs.Values.{store}
+use Rattle.drive.specs.SetPoints.{withStay}
 use Rattle.rules_services.specs.declared.Told.the-variants.{Happened, Bad}
 use Rattle.rules_services.specs.declared.Event.{Event}
 use Rattle.rules_services.specs.declared.Event.the-variants.{Started, QuickStopDone, Fault, ReactionDone, Feedback, SetPointReached, Tick}
 use Rattle.rules_services.specs.declared.Event.the-variants.{CauseGone, Voltage}
-use Rattle.rules_services.specs.Effects.{frame, becomes, withDrive, withHeartbeat, withVoltage}
+use Rattle.rules_services.specs.Effects.{frame, becomes, on, withDrive, withHeartbeat, withVoltage}
 use Rattle.rules_services.specs.Events.{eventOf, isInPlace, happens}
 use Rattle.rules_services.proofs.Node5.{fresh, node, operational, after, eight, sent8, open-edges}
 
@@ -107,7 +108,7 @@ anywhere = (refl, refl, refl, refl)
 
 -- a drive with a fault's cause, or without
 abbrev driven : DriveState → Bool → Drive
-driven v cause = record { state = v; mode = ProfilePosition; store = Empty; taken = false; limit = false; cause = cause }
+driven v cause = record { state = v; mode = ProfilePosition; store = Empty; taken = false; limit = false; cause = cause; stay = 0 }
 
 -- "8 cause gone (only with a cause)": in both fault states; in neither without
 cause-bound : map (λ v. isInPlace CauseGone (withDrive v operational))
@@ -122,7 +123,7 @@ point t = record { target = t; velocity = 10; acceleration = 2; deceleration = 3
 
 -- Operation enabled in mode 1 with that store, both marks set
 abbrev moving : Store → Drive
-moving s = record { state = OperationEnabled; mode = ProfilePosition; store = s; taken = true; limit = true; cause = false }
+moving s = record { state = OperationEnabled; mode = ProfilePosition; store = s; taken = true; limit = true; cause = false; stay = 0 }
 
 -- "6 set-point reached (only Moving, Queued)"
 store-bound : map (λ s. isInPlace SetPointReached (withDrive (moving s) operational))
@@ -146,6 +147,23 @@ moves-on : (happens SetPointReached (withDrive (moving (Queued (point 1000) (poi
     × (happens SetPointReached (withDrive (moving (Moving (point 2000))) operational) fresh ≡ becomes (withDrive (moving (Rested 2000)) operational))
 unfolding open-edges
 moves-on = (refl, refl)
+
+-- ticket 2, with 7 ticks counted: "the second becoming the first by event 6; also with the same target .. Event 6 from Moving to Rested goes on
+-- counting." Nothing is written or sent
+moves-on-counting : map (λ st. happens SetPointReached (withDrive (withStay 7 (moving st)) operational) fresh)
+    (Queued (point 1000) (point 2000) ∷ Queued (point 1000) (point 1000) ∷ Moving (point 2000) ∷ [])
+    ≡ map (λ v. becomes (withDrive v operational))
+    (moving (Moving (point 2000)) ∷ moving (Moving (point 1000)) ∷ withStay 7 (moving (Rested 2000)) ∷ [])
+unfolding open-edges
+moves-on-counting = refl
+
+-- a tick is counted at the call's end, and not by the event too; nor does feedback touch the count
+ticks-left-to-the-end : (map (λ st. happens Tick (withDrive (withStay 7 (moving st)) operational) fresh) (Rested 0 ∷ Rested 1 ∷ [])
+    ≡ map (λ st. on Ticked (becomes (withDrive (withStay 7 (moving st)) operational))) (Rested 0 ∷ Rested 1 ∷ []))
+    × (happens (Feedback 1 0) (withDrive (withStay 7 (moving (Rested 0))) operational) fresh .state
+    ≡ withDrive (withStay 7 (moving (Rested 0))) operational)
+unfolding open-edges
+ticks-left-to-the-end = (refl, refl)
 
 -- event 8: the cause is gone, the state stays
 cause-gone : (happens CauseGone (withDrive (driven InFault true) operational) fresh ≡ becomes (withDrive (driven InFault false) operational))

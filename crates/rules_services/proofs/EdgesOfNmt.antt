@@ -49,11 +49,12 @@ moving =
       taken = true;
       limit = true;
       cause = false;
+      stay = 0;
     }
 
 -- the drive after Disable voltage: the store empty, both marks clear, the mode kept
 abbrev disabled : Drive
-disabled = record { state = SwitchOnDisabled; mode = ProfilePosition; store = Empty; taken = false; limit = false; cause = false }
+disabled = record { state = SwitchOnDisabled; mode = ProfilePosition; store = Empty; taken = false; limit = false; cause = false; stay = 0 }
 
 -- in that NMT state, with that heartbeat count and drive, frames held and SYNCs counted
 abbrev working : NmtState → ℕ → Drive → State
@@ -92,7 +93,7 @@ anew n =
       node = record { id = n; nmt = PreOperational; voltage = false; heartbeat = 0 };
       transfer = NoTransfer;
       axis = record {
-        drive = record { state = NotReady; mode = NoMode; store = Empty; taken = false; limit = false; cause = false };
+        drive = record { state = NotReady; mode = NoMode; store = Empty; taken = false; limit = false; cause = false; stay = 0 };
         plans = [];
         ready = [];
         held = none ∷ none ∷ none ∷ none ∷ [];
@@ -175,13 +176,13 @@ set-back : (map (after spoilt (nmt (0x82 ∷ 0x05 ∷ []) (node Operational Faul
     (errorRegister ∷ heartbeatTime ∷ identifier 0 ∷ transmissionType 7 ∷ mapCount 3 ∷ errorCode ∷ controlWord ∷ mode ∷ targetPosition ∷ [])
     ≡ 0 ∷ 0 ∷ 0x205 ∷ 255 ∷ 2 ∷ 0 ∷ 0 ∷ 0 ∷ 0 ∷ [])
     × (stored (nmt (0x81 ∷ 0x05 ∷ []) (node Operational Fault) .writes) spoilt ≡ fresh)
-    × (length (nmt (0x81 ∷ 0x05 ∷ []) (node Operational Fault) .writes) ≡ 122)
+    × (length (nmt (0x81 ∷ 0x05 ∷ []) (node Operational Fault) .writes) ≡ 123)
     × (map (λ c. nmt (c ∷ 0x05 ∷ []) (node Operational OperationEnabled) .writes) (0x01 ∷ 0x02 ∷ 0x80 ∷ []) ≡ [] ∷ [] ∷ [] ∷ [])
 unfolding spoilt open-edges
 set-back = (refl, refl, refl, refl, refl)
 
 abbrev caused : DriveState → Drive
-caused v = record { state = v; mode = ProfilePosition; store = Empty; taken = false; limit = false; cause = true }
+caused v = record { state = v; mode = ProfilePosition; store = Empty; taken = false; limit = false; cause = true; stay = 0 }
 
 -- 82h and 02h leave a fault and its cause; 81h is Not ready with no cause
 faults-kept : (nmt (0x82 ∷ 0x05 ∷ []) (cleared Operational 3 (caused Fault)) .state ≡ cleared PreOperational 0 (caused Fault))

@@ -13,13 +13,13 @@ use Rattle.rules_dictionary.specs.declared.Mode.the-variants.{ProfilePosition, 
 use Rattle.rules_dictionary.specs.declared.PdoData.{PdoData}
 use Rattle.drive.specs.declared.DriveState.the-variants.{ReadyToSwitchOn, SwitchedOn, OperationEnabled, Fault}
 use Rattle.drive.specs.declared.Store.{Store}
-use Rattle.drive.specs.declared.Store.the-variants.{Empty, Moving, Queued}
+use Rattle.drive.specs.declared.Store.the-variants.{Empty, Rested, Moving, Queued}
 use Rattle.drive.specs.declared.SetPoint.{SetPoint}
-use Rattle.drive.specs.SetPoints.{withMode}
+use Rattle.drive.specs.SetPoints.{withMode, withStay}
 use Rattle.rules_dictionary.specs.Table.{errorRegister, errorCode, controlWord, mode, targetPosition, targetVelocity, receivePdos}
-use Rattle.rules_dictionary.specs.Table.{transmissionType, mapCount, mapEntry, identifier}
-use Rattle.rules_dictionary.specs.Values.{write, store, stored}
-use Rattle.rules_services.specs.Effects.{Frame, frame, becomes, sends, on, andThen, withDrive, withHeld}
+use Rattle.rules_dictionary.specs.Table.{transmissionType, mapCount, mapEntry, identifier, positionWindow, windowTime}
+use Rattle.rules_dictionary.specs.Values.{Write, write, store, stored}
+use Rattle.rules_services.specs.Effects.{Effect, Frame, frame, becomes, sends, on, andThen, withDrive, withHeld}
 use Rattle.rules_services.specs.Emergency.{emergency}
 use Rattle.rules_services.specs.SdoServer.{sdo}
 use Rattle.rules_services.specs.Nmt.{freshState}
@@ -118,7 +118,7 @@ point t = record { target = t; velocity = 0; acceleration = 1; deceleration = 1 
 -- Operation enabled in mode 1
 abbrev moving : Store → Bool → State
 moving s taken =
-    withDrive (record { state = OperationEnabled; mode = ProfilePosition; store = s; taken = taken; limit = false; cause = false }) operational
+    withDrive (record { state = OperationEnabled; mode = ProfilePosition; store = s; taken = taken; limit = false; cause = false; stay = 0 }) operational
 
 -- from Switched on in mode 0, one frame: mode 1, then 1Fh enables and takes the 1000 of the same frame, wherever 607Ah stands
 one-frame : (received 0 (0xE8 ∷ 0x03 ∷ 0x00 ∷ 0x00 ∷ 0x01 ∷ 0x1F ∷ 0x00 ∷ []) (node Operational SwitchedOn) forth .state
@@ -131,7 +131,7 @@ one-frame = (refl, refl, refl)
 
 -- out of mode 1 and 1Fh in one frame: the mode first, so nothing is taken and the store is empty
 one-frame-out : received 0 (0xE8 ∷ 0x03 ∷ 0x00 ∷ 0x00 ∷ 0x03 ∷ 0x1F ∷ 0x00 ∷ []) (moving (Moving (point 7)) false) forth .state
-    ≡ withDrive (record { state = OperationEnabled; mode = ProfileVelocity; store = Empty; taken = false; limit = false; cause = false }) operational
+    ≡ withDrive (record { state = OperationEnabled; mode = ProfileVelocity; store = Empty; taken = false; limit = false; cause = false; stay = 0 }) operational
 unfolding forth open-edges
 one-frame-out = refl
 
@@ -144,6 +144,50 @@ each-write-read : (sdo (eight 0x2B 0x40 0x60 0x00 0x06 0x00 0x00 0x00) operation
     × (sdo (eight 0x2B 0x40 0x60 0x00 0x80 0x00 0x00 0x00) (node Operational Fault) (store controlWord 0x80 fresh) .state ≡ node Operational Fault)
 unfolding open-edges
 each-write-read = (refl, refl, refl, refl)
+
+-- ---- ticket 2, the ticks inside the window: "a new active set-point starts again"
+
+-- Operation enabled in mode 1, with that store and 7 ticks counted
+abbrev counting : Store → Bool → State
+counting s taken = let t = moving s taken in withDrive (withStay 7 (t .axis .drive)) t
+
+-- at rest, one and two set-points, each to 1000
+atThousand : List Store
+atThousand = Rested 1000 ∷ Moving (point 1000) ∷ Queued (point 1000) (point 1000) ∷ []
+
+-- what they become by 1Fh: taken anew, queued behind, not taken; and by 3Fh, which replaces all
+anewOrNot : List State
+anewOrNot =
+    moving (Moving (point 1000)) true ∷ counting (Queued (point 1000) (point 1000)) true ∷ counting (Queued (point 1000) (point 1000)) false ∷ []
+
+replacing : List State
+replacing = map (λ st. moving (Moving (point 1000)) true) atThousand
+
+-- that state, those writes and that reply
+abbrev leaves : List Write → List Frame → State → Effect
+leaves ws fs s = record { state = s; writes = ws; sent = fs; occasion = Plain }
+
+aimed : List ℕ
+aimed = stored (write controlWord 0x0F ∷ write targetPosition 1000 ∷ []) fresh
+
+-- by SDO, and by receive 3 with the 1000 in the frame
+counted-anew : (map (λ st. sdo (eight 0x2B 0x40 0x60 0x00 0x1F 0x00 0x00 0x00) (counting st false) aimed) atThousand
+    ≡ map (leaves (write controlWord 0x1F ∷ []) (frame 0x585 (eight 0x60 0x40 0x60 0x00 0x00 0x00 0x00 0x00) ∷ [])) anewOrNot)
+    × (map (λ st. sdo (eight 0x2B 0x40 0x60 0x00 0x3F 0x00 0x00 0x00) (counting st false) aimed .state) atThousand ≡ replacing)
+    × (map (λ st. received 2 (0x1F ∷ 0x00 ∷ 0xE8 ∷ 0x03 ∷ 0x00 ∷ 0x00 ∷ []) (counting st false) fresh) atThousand
+    ≡ map (leaves (write controlWord 0x1F ∷ write targetPosition 1000 ∷ []) []) anewOrNot)
+    × (map (λ st. received 2 (0x3F ∷ 0x00 ∷ 0xE8 ∷ 0x03 ∷ 0x00 ∷ 0x00 ∷ []) (counting st false) fresh .state) atThousand ≡ replacing)
+unfolding atThousand anewOrNot replacing aimed open-edges
+counted-anew = (refl, refl, refl, refl)
+
+-- "a write of 6068h neither starts nor stops the count", nor does one of 6067h or 607Ah: it is judged at the call's end
+count-not-written : (sdo (eight 0x2B 0x68 0x60 0x00 0x05 0x01 0x00 0x00) (counting (Rested 1000) false) fresh
+    ≡ leaves (write windowTime 0x105 ∷ []) (frame 0x585 (eight 0x60 0x68 0x60 0x00 0x00 0x00 0x00 0x00) ∷ []) (counting (Rested 1000) false))
+    × (sdo (eight 0x23 0x67 0x60 0x00 0x05 0x00 0x00 0x00) (counting (Rested 1000) false) fresh
+    ≡ leaves (write positionWindow 5 ∷ []) (frame 0x585 (eight 0x60 0x67 0x60 0x00 0x00 0x00 0x00 0x00) ∷ []) (counting (Rested 1000) false))
+    × (sdo (eight 0x23 0x7A 0x60 0x00 0x05 0x00 0x00 0x00) (counting (Rested 1000) false) fresh .state ≡ counting (Rested 1000) false)
+unfolding open-edges
+count-not-written = (refl, refl, refl)
 
 -- ---- held frames
 
@@ -224,6 +268,15 @@ edge-between : (sync [] (withHeld (held2 0x1F ∷ none ∷ held6 0x1F 9 ∷ none
     ≡ moving (Queued (point 8) (point 9)) true)
 unfolding typed open-edges
 edge-between = (refl, refl)
+
+-- ticket 2: one taken by a held frame is a new active set-point, one queued behind is none
+counted-anew-at-sync :
+    (sync [] (withHeld (held2 0x1F ∷ none ∷ held6 0x0F 9 ∷ none ∷ []) (counting (Rested 8) false)) (store targetPosition 8 (typed 0)) .state
+    ≡ moving (Moving (point 8)) false)
+    × (sync [] (withHeld (held2 0x0F ∷ none ∷ held6 0x1F 9 ∷ none ∷ []) (counting (Moving (point 8)) true)) (store controlWord 0x1F (typed 0)) .state
+    ≡ counting (Queued (point 8) (point 9)) true)
+unfolding typed open-edges
+counted-anew-at-sync = (refl, refl)
 
 -- a frame of one byte is held too: 6060h alone
 oneByte : List ℕ

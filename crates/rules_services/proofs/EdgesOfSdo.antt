@@ -5,7 +5,7 @@ use mathlib.Core.Path.{_≡_, refl}
 use mathlib.Core.List.{List, [], _∷_, _++_, map}
 use Rattle.rules_dictionary.specs.Numbers.{bytes, value, part}
 use Rattle.rules_dictionary.specs.Table.{errorRegister, controlWord, mode, position, velocity, heartbeatTime, profileVelocity}
-use Rattle.rules_dictionary.specs.Table.{transmissionType, mapCount, mapEntry, identifier}
+use Rattle.rules_dictionary.specs.Table.{transmissionType, mapCount, mapEntry, identifier, windowTime}
 use Rattle.rules_dictionary.specs.Values.{write, store, stored}
 use Rattle.rules_services.specs.Effects.{Frame, becomes, withHeartbeat}
 use Rattle.rules_services.specs.Sdo.{requestBase, replyBase, requestLength}
@@ -170,6 +170,14 @@ values-taken : (after fresh (sdo (eight 0x23 0x81 0x60 0x00 0x78 0x56 0x34 0x12)
     × (after fresh (sdo (eight 0x2F 0x03 0x18 0x02 0xF0 0x01 0x00 0x00) preOperational fresh) (transmissionType 7) ≡ 240)
 unfolding open-edges
 values-taken = (refl, refl, refl, refl, refl)
+
+-- ticket 2: 6068h is of two bytes, any value of which is taken, read and written in Operational too
+window-time-by-sdo : (downloads 0x6068 0xFFFF (0x23 ∷ 0x27 ∷ 0x2B ∷ 0x2F ∷ 0x22 ∷ []) ≡ 0x06070012 ∷ 0x06070012 ∷ 0 ∷ 0x06070013 ∷ 0 ∷ [])
+    × (after fresh (sdo (eight 0x2B 0x68 0x60 0x00 0xFF 0xFE 0xAA 0xBB) operational fresh) windowTime ≡ 0xFEFF)
+    × (sdo (eight 0x40 0x68 0x60 0x00 0x00 0x00 0x00 0x00) operational (store windowTime 0x0305 fresh) .sent
+    ≡ sent8 0x585 0x4B 0x68 0x60 0x00 0x05 0x03 0x00 0x00)
+unfolding downloads open-edges
+window-time-by-sdo = (refl, refl, refl)
 
 -- ---- downloads, and their aborts
 

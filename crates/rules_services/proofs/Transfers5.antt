@@ -19,7 +19,7 @@ use Rattle.drive.specs.declared.Store.the-variants.{Empty}
 use Rattle.rules_services.specs.Effects.{Effect, Frame}
 
 abbrev pub driving : DriveState → Mode → Drive
-driving v m = record { state = v; mode = m; store = Empty; taken = false; limit = false; cause = false }
+driving v m = record { state = v; mode = m; store = Empty; taken = false; limit = false; cause = false; stay = 0 }
 
 abbrev noneHeld : PdoData
 noneHeld = record { length = 0; bytes = 0x00 ∷ 0x00 ∷ 0x00 ∷ 0x00 ∷ 0x00 ∷ 0x00 ∷ 0x00 ∷ 0x00 ∷ [] }

@@ -18,7 +18,7 @@ use Rattle.rules_dictionary.specs.Numbers.{value, part}
 use Rattle.rules_dictionary.specs.Table.{errorCode, errorRegister, position, velocity}
 use Rattle.rules_dictionary.specs.Values.{write, read, stored}
 use Rattle.drive.specs.DriveStates.{isNotReady, isQuickStop, isReaction, isFaulty}
-use Rattle.drive.specs.SetPoints.{isMoving, reached, withStore, withCause, enters}
+use Rattle.drive.specs.SetPoints.{isMoving, movedOn, withCause, enters}
 use Rattle.rules_services.specs.Effects.{Effect, becomes, sends, writes, on, withDrive, withVoltage}
 use Rattle.rules_services.specs.Emergency.{emergency}
 use Rattle.rules_services.specs.Nmt.{tick as ticked}
@@ -72,7 +72,7 @@ unfoldable pub happens : Event → State → List ℕ → Effect
 happens Started s d = becomes (withDrive (enters SwitchOnDisabled (s .axis .drive)) s)
 happens QuickStopDone s d = becomes (withDrive (enters SwitchOnDisabled (s .axis .drive)) s)
 happens ReactionDone s d = becomes (withDrive (enters InFault (s .axis .drive)) s)
-happens SetPointReached s d = becomes (withDrive (withStore (reached (s .axis .drive .store)) (s .axis .drive)) s)
+happens SetPointReached s d = becomes (withDrive (movedOn (s .axis .drive)) s)
 happens Tick s d = on Ticked (ticked s d)
 happens CauseGone s d = becomes (withDrive (withCause false (s .axis .drive)) s)
 happens (Fault code register) s d = faulted code register s d

@@ -60,7 +60,7 @@ freshState n =
       node = record { id = n; nmt = PreOperational; voltage = false; heartbeat = 0 };
       transfer = NoTransfer;
       axis = record {
-        drive = record { state = NotReady; mode = NoMode; store = Empty; taken = false; limit = false; cause = false };
+        drive = record { state = NotReady; mode = NoMode; store = Empty; taken = false; limit = false; cause = false; stay = 0 };
         plans = [];
         ready = [];
         held = noneHeld;

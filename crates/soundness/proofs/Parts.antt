@@ -14,7 +14,8 @@ use Rattle.rules_dictionary.specs.Table.{pdos, transmitPdos, dictionaryLength}
 use Rattle.rules_dictionary.specs.Plans.{mapped, planFor, plansOf, readyFor, readyOf}
 use Rattle.rules.specs.Outcome.{sameBy, samePlan, sameData, statusOf}
 use Rattle.rules.specs.Sound.{pairwise, constantsAsListed, valuesInRange, mappingLegal, mappingsLegal, identifiersLegal, dictionarySound}
-use Rattle.rules.specs.Sound.{statusAsMade, modeAsMade, plansFresh, readyFresh, driveSound, heartbeatSound, waitingSound, transferSound, sound}
+use Rattle.rules.specs.Sound.{statusAsMade, modeAsMade, plansFresh, readyFresh, driveSound, heartbeatSound, waitingSound, transferSound, staySound}
+use Rattle.rules.specs.Sound.{sound}
 use Rattle.form.specs.Form.{transferPlace, stateLength, stateOf, isForm}
 use Rattle.form.specs.Own.{headOwn, transferOwn, plansOwn, isOwn}
 use Rattle.form.proofs.OneForm.{is-own}
@@ -28,13 +29,13 @@ use Rattle.soundness.specs.Parts.{dictionaryClauses, driveClauses, pdoCl
 use Rattle.soundness.proofs.RowTests.{rows-tested}
 
 -- the clauses of the rules and those of the code; c and v are tested as k and f
-ordered : (n c v m i s o p r w h t x k f : Bool) → (c && v) ≡ (k && f) →
-    (n && (c && v && m && i) && s && o && p && r && w && h && t && x)
-    ≡ (x && (n && ((k && i) && (((s && o) && (w && h)) && ((f && (m && p)) && (r && t))))))
-ordered n c v m i s o p r w h t x k f e = (simp (and-assoc, swap)) ∙ ap (λ (x : Bool). x && rest) e ∙ (simp (and-assoc, and-comm, swap))
+ordered : (n c v m i s o p r w h t x y k f : Bool) → (c && v) ≡ (k && f) →
+    (n && (c && v && m && i) && s && o && p && r && w && h && t && x && y)
+    ≡ (x && (y && (n && ((k && i) && (((s && o) && (w && h)) && ((f && (m && p)) && (r && t)))))))
+ordered n c v m i s o p r w h t x y k f e = (simp (and-assoc, swap)) ∙ ap (λ (x : Bool). x && rest) e ∙ (simp (and-assoc, and-comm, swap))
   where
     rest : Bool
-    rest = n && (i && (s && (o && (w && (h && (m && (p && (r && (t && x)))))))))
+    rest = n && (i && (s && (o && (w && (h && (m && (p && (r && (t && (x && y))))))))))
 
 -- ---- what is kept for the PDOs
 
@@ -71,25 +72,27 @@ module _ (s : State) (d : List ℕ) where
   sound-parts : length d ≡ dictionaryLength → areBytes d ≡ true →
       sound s d
       ≡ (transferSound (s .transfer)
+      && (staySound (s .axis .drive) d
       && (isNodeId (s .node .id)
       && (dictionaryClauses (s .node .id) d
       && (driveClauses (s .node) (s .axis .drive) d
       && (plansKept d (s .axis .plans)
-      && (readyKept d (s .axis .ready) && waitSound (s .node .nmt) d (s .axis .paces) (s .axis .held)))))))
+      && (readyKept d (s .axis .ready) && waitSound (s .node .nmt) d (s .axis .paces) (s .axis .held))))))))
   unfolding sound dictionarySound dictionaryClauses driveClauses statusAsMade statusOf modeAsMade waitingSound waitSound
   sound-parts long bytes =
       rw (plans-kept, ← ready-kept)
       (ordered (isNodeId (s .node .id)) (constantsAsListed (s .node .id) d) (valuesInRange d) (mappingsLegal d) (identifiersLegal d)
       (statusAsMade s d) (modeAsMade s d)
       (plansFresh s d) (readyFresh s d) (driveSound (s .axis .drive) d) (heartbeatSound (s .node .heartbeat) d) (waitingSound s d)
-      (transferSound (s .transfer))
+      (transferSound (s .transfer)) (staySound (s .axis .drive) d)
       (rowTests (s .node .id) d) (all (fewMoves d) pdos) (rows-tested (s .node .id) d long bytes))
 
 -- ---- the bytes
 
 -- the test of the plans' bytes stands behind the others, that of the transfer's before them
-behind : (h w o x n l v k : Bool) → ((h && (w && o)) && (x && (n && (l && (v && k))))) ≡ (((w && x) && h) && (n && (l && (v && (o && k)))))
-behind h w o x n l v k = simp (and-assoc, swap)
+behind : (h w o x y n l v k : Bool) →
+    ((h && (w && o)) && (x && (y && (n && (l && (v && k)))))) ≡ (((w && x) && h) && (y && (n && (l && (v && (o && k))))))
+behind h w o x y n l v k = simp (and-assoc, swap)
 
 -- THE LAW: bytes that are a sound state's form, in the parts that the code tests
 pub form-parts : (bs d : List ℕ) → ((i : ℕ) → getD bs i 0 < 256) → length bs ≡ stateLength →
@@ -97,11 +100,12 @@ pub form-parts : (bs d : List ℕ) → ((i : ℕ) → getD bs i 0 < 256) → len
     {node : Node} → node ≡ stateOf bs .node → {drive : Drive} → drive ≡ stateOf bs .axis .drive →
     (isForm bs && sound (stateOf bs) d)
     ≡ ((transferClear bs && headOwn bs)
-    && (isNodeId (node .id) && (dictionaryClauses (node .id) d && (driveClauses node drive d && pdoClauses (node .nmt) bs d))))
+    && (staySound (stateOf bs .axis .drive) d
+    && (isNodeId (node .id) && (dictionaryClauses (node .id) d && (driveClauses node drive d && pdoClauses (node .nmt) bs d)))))
 unfolding isOwn transferClear pdoClauses plansKeptIn
 form-parts bs d fits l values long en ev =
     let s = stateOf bs in
     rw (en, ev, ← is-own bs fits l, sound-parts s d long (are-bytes d (λ i h. values i)), and-assoc (plansOwn bs))
-    (behind (headOwn bs) (transferOwn transferPlace bs) (plansOwn bs) (transferSound (s .transfer)) (isNodeId (s .node .id))
-    (dictionaryClauses (s .node .id) d) (driveClauses (s .node) (s .axis .drive) d)
+    (behind (headOwn bs) (transferOwn transferPlace bs) (plansOwn bs) (transferSound (s .transfer)) (staySound (s .axis .drive) d)
+    (isNodeId (s .node .id)) (dictionaryClauses (s .node .id) d) (driveClauses (s .node) (s .axis .drive) d)
     (plansKept d (s .axis .plans) && (readyKept d (s .axis .ready) && waitSound (s .node .nmt) d (s .axis .paces) (s .axis .held))))

@@ -5,6 +5,8 @@ use drive::set_points::NEW_SET_POINT;
 use drive::states::has;
 use drive::states::is_faulty;
 use drive::status::status;
+use form::is_position_inside;
+use form::read_stay;
 use rules_dictionary::Mode;
 use state::Node;
 ghost use mathlib.Core.Path.{_≡_};
@@ -15,7 +17,8 @@ ghost use Rattle.rules_dictionary.specs.Table.{statusWord, mode, modeDisplay, d
 ghost use Rattle.rules_dictionary.specs.Values.{read};
 ghost use Rattle.rules_dictionary.specs.Legal.{modeNumber};
 ghost use Rattle.drive.specs.StatusWord.{status};
-ghost use Rattle.rules.specs.Sound.{storeInPlace, takenInPlace, causeInPlace, driveSound, heartbeatSound};
+ghost use Rattle.rules.specs.Sound.{storeInPlace, takenInPlace, causeInPlace, driveSound, heartbeatSound, staySound};
+ghost use Rattle.form.specs.Form.{stateLength, stateOf};
 ghost use Rattle.soundness.specs.Parts.{driveClauses};
 
 // "6041h .. as the rules make" it. The flags: not Stopped, voltage.
@@ -73,6 +76,17 @@ fn is_heartbeat_sound(count: u16, d: &[u8]) -> bool
     ensures { λ r. ⌜ r ≡ heartbeatSound count (now (d .entry)) ⌝ }
 {
     (count == 0) | (count < objects::heartbeat_time(d))
+}
+
+// "the count is 0 unless the store is not Empty and the position is inside"
+pub fn is_stay_sound(state: &[u8], d: &[u8]) -> bool
+    requires { ⌜ (length (now state) ≡ stateLength) × (length (now d) ≡ dictionaryLength) ⌝ }
+    ensures { λ r. ⌜ r ≡ staySound (stateOf (now (state .entry)) .axis .drive) (now (d .entry)) ⌝ }
+{
+    if read_stay(state) == 0 {
+        return true;
+    }
+    is_position_inside(state, d)
 }
 
 // Whether the clauses of the drive, 6041h, 6061h and the heartbeat count hold.

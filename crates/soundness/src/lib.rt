@@ -4,12 +4,13 @@
 mod rows; // constants and ranges, by row
 mod identifiers; // the PDO identifiers, each alone and against the others
 mod legal; // the dictionary's own clauses
-mod axis; // the drive, 6041h, 6061h and the heartbeat count
+mod axis; // the drive, 6041h, 6061h, the heartbeat count and the ticks inside the window
 mod kept; // plans and ready frames beside the mappings
 mod waiting; // what waits for SYNC: SYNC counts, due marks and held frames
 mod transfers; // the transfer in progress
 
 use axis::is_drive_clear;
+use axis::is_stay_sound;
 use form::is_head_own;
 use form::read_drive;
 use form::read_node;
@@ -71,6 +72,9 @@ pub fn is_sound(state: &[u8], d: &[u8]) -> bool
     ensures { λ r. ⌜ r ≡ (isForm (now (state .entry)) && sound (stateOf (now (state .entry))) (now (d .entry))) ⌝ }
 {
     if !is_head_clear(state) {
+        return false;
+    }
+    if !is_stay_sound(state, d) {
         return false;
     }
     let node = read_node(state);

@@ -8,3 +8,8 @@ abbrev pub isSynced : Occasion → Bool
 isSynced Plain = false
 isSynced Synced = true
 isSynced Ticked = false
+
+abbrev pub isTicked : Occasion → Bool
+isTicked Plain = false
+isTicked Synced = false
+isTicked Ticked = true

@@ -8,7 +8,7 @@ use rules_dictionary::PdoData;
 use rules_dictionary::Plan;
 ghost use mathlib.Core.Path.{_≡_};
 ghost use Rattle.state.specs.NmtStates.{isPreOperational, isOperational, isStopped};
-ghost use Rattle.state.specs.Occasions.{isSynced};
+ghost use Rattle.state.specs.Occasions.{isSynced, isTicked};
 
 // The NMT states.
 pub enum NmtState {
@@ -79,6 +79,16 @@ impl Occasion {
             Occasion::Plain => false,
             Occasion::Synced => true,
             Occasion::Ticked => false,
+        }
+    }
+
+    pub fn is_ticked(self) -> bool
+        ensures { λ r. ⌜ r ≡ isTicked self ⌝ }
+    {
+        match self {
+            Occasion::Plain => false,
+            Occasion::Synced => false,
+            Occasion::Ticked => true,
         }
     }
 }

@@ -11,7 +11,7 @@ use Rattle.theorems.proofs.Words.{and-left, [], Transfer}
 use Rattle.theorems.proofs.Dictionary.{DictionaryOk, map-same, Fits, fits, badAlone}
 use Rattle.theorems.proofs.Writes.{in-cons}
 use Rattle.theorems.proofs.Settled.{status-in, display-in}
-use Rattle.theorems.proofs.Lawful.{sound-lawful, transmitter-in, clauses, data-refl}
+use Rattle.theorems.proofs.Lawful.{sound-lawful, transmitter-in, clauses, data-refl, unticked}
 use Rattle.theorems.proofs.Runs.{Holds, run-holds, step-holds, passed, standing}
 use Rattle.theorems.proofs.PdoKept.{mapped-short}
 use Rattle.theorems.proofs.Still.{idles, at-each}
@@ -72,7 +72,7 @@ running-rests a t k h =
     let c = clauses (a .state) (a .dictionary) (h .at .sound) in
     record {
       at = record {
-        sound = rw (c .id, c .dictionary, c .status, c .mode, c .plans, c .ready, c .drive, c .heartbeat, c .waiting, k);
+        sound = rw (c .id, c .dictionary, c .status, c .mode, c .plans, c .ready, c .drive, c .heartbeat, c .waiting, k, c .stay);
         long = h .at .long;
         bytes = h .at .bytes;
       };
@@ -104,8 +104,7 @@ module _ (a : Stand) (h : Rests a) where
 
   -- the call's end leaves the drive as it was, where no SYNC and no tick came and nothing was written
   drive-rests : driveAtEnd Plain (a .dictionary) (a .state .axis .drive) ≡ a .state .axis .drive
-  unfolding driveAtEnd
-  drive-rests = refl
+  drive-rests = unticked Plain (a .dictionary) (a .state .axis .drive) refl (clauses (a .state) (a .dictionary) (h .at .sound) .stay)
 
   -- no ready frame changed: nothing is sent, and what is kept of each transmit PDO stays
   paces-rest : (t : Transfer) →

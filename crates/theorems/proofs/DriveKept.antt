@@ -5,7 +5,7 @@ use Rattle.theorems.proofs.Words.{Store, Empty, Rested, Moving, Queued,
 use Rattle.theorems.proofs.Words.{whichever, implied, implies, on-ways}
 use Rattle.rules_dictionary.specs.{Numbers.bit, Table.controlWord, Table.mode, Values.read}
 use Rattle.drive.specs.DriveStates.{isFaulty, command, next}
-use Rattle.drive.specs.SetPoints.{positions, emptied, enters, withState, withMode, withStore, isEmpty, isMoving, isQueued, reached, withTaken}
+use Rattle.drive.specs.SetPoints.{positions, emptied, enters, withState, withMode, isEmpty, isMoving, isQueued, movedOn, withTaken}
 use Rattle.drive.specs.SetPoints.{offered, target, withinLimits, setPointRule, modeWritten, modeOf, controlWritten, newSetPointBit, atOnceBit}
 use Rattle.rules.specs.Sound.{storeInPlace, takenInPlace, causeInPlace, driveSound}
 
@@ -146,9 +146,8 @@ moving-positions false t l (Rested p) h m = h
 moving-positions false t l (Moving p) h m = h
 moving-positions false t l (Queued p q) h m = h
 
-pub reached-sound : (v : Drive) (d : List ℕ) → driveSound v d ≡ true → isMoving (v .store) ≡ true →
-    driveSound (withStore (reached (v .store)) v) d ≡ true
-unfolding driveSound storeInPlace takenInPlace causeInPlace
+pub reached-sound : (v : Drive) (d : List ℕ) → driveSound v d ≡ true → isMoving (v .store) ≡ true → driveSound (movedOn v) d ≡ true
+unfolding movedOn driveSound storeInPlace takenInPlace causeInPlace
 reached-sound v d h m =
     let k = parts v d h in
     and-both _ _ (and-both _ _ (or-left (positions v) _ (moving-positions (positions v) (v .taken) (v .limit) (v .store) (k .store) m)) (k .taken))

@@ -3,17 +3,19 @@
 use Rattle.theorems.proofs.Words.{ℕ, zero, suc, _+_, _<_, arith, _≡_, refl, sym, _∙_, ap, Bool, true, or-true, false≢true, pdo-in, ltb, all-in}
 use Rattle.theorems.proofs.Words.{and-eq-true-iff, List, [], _∷_, eqb-true, eqb-false, lt-ltb, ltb-true, eqb, length, getD, Plan, PdoData}
 use Rattle.theorems.proofs.Words.{Drive, NmtState, Occasion, Pace, Transfer, State, Paced, In, here, there, and-left, and-right, and-both}
-use Rattle.theorems.proofs.Words.{each-in, by-test, eqb-self}
+use Rattle.theorems.proofs.Words.{each-in, by-test, eqb-self, either, inl, inr, false, or-false}
 use Rattle.theorems.proofs.Dictionary.{DictionaryOk, from-test}
-use Rattle.state.specs.Occasions.{isSynced}
+use Rattle.state.specs.Occasions.{isSynced, isTicked}
 use Rattle.rules_dictionary.specs.Table.{dictionaryLength, eachWay, pdos, receivePdos, transmitPdos, mode, modeDisplay}
 use Rattle.rules_dictionary.specs.{TheNode.isNodeId, Values.read, Values.stored, Legal.modeNumber, Legal.isCyclic}
+use Rattle.drive.specs.{SetPoints.withStay, Window.inside, Window.counted, Window.staying}
 use Rattle.rules_services.specs.Effects.{Effect, withDrive, withNmt, withVoltage, withHeartbeat, withHeld, withPaces, withTransfer}
 use Rattle.rules_services.specs.PdoTraffic.{idle, paceOf, cyclic, acyclic, eventDriven, works, typeOf}
 use Rattle.rules.specs.Outcome.{driveAtEnd, paceFor, transmitters, sameBy, sameMove, samePlan, sameData}
 use Rattle.rules.specs.Sound.{sound, dictionarySound, statusAsMade, modeAsMade, plansFresh, readyFresh, heartbeatSound, waitingSound, pairwise}
 use Rattle.rules.specs.Sound.{driveSound, storeInPlace, takenInPlace, causeInPlace, paceSound, countSound, dueSound, heldSound, transferSound}
-use Rattle.rules.proofs.AtEnd.{SameRules, at-end}
+use Rattle.rules.specs.Sound.{staySound}
+use Rattle.rules.proofs.AtEnd.{at-end}
 
 -- what waits for SYNC: counts below their type, and held frames that are sound
 pub record Waits (m : NmtState) (ks : List Pace) (fs : List PdoData) (d : List ℕ) : Type 0 where
@@ -89,9 +91,6 @@ paced-sound s s′ o d ready t below =
     (λ c. by-test P (eqb n 0) (λ z. rw (w, c, z, or-true)) (λ z. rw (w, c))))
     (λ w. rw w)
 
-pub same-rules : {v : Drive} → SameRules v v
-same-rules = record { state = refl; mode = refl; store = refl; taken = refl; limit = refl; cause = refl }
-
 -- ---- lists tested pair by pair
 
 pub pairwise-map {ℓ κ} : {A : Type ℓ} {B : Type κ} (f g : A → B → Bool) (xs : List A) (ys : List B) →
@@ -111,12 +110,30 @@ transmitter-in i =
 abbrev pub finally : List ℕ → Effect → State
 finally d e = withDrive (driveAtEnd (e .occasion) (stored (e .writes) d) (e .state .axis .drive)) (e .state)
 
--- the call's end may change of the drive only what no rule of soundness reads
+-- the call's end may change of the drive only the count, which is judged there
 pub at-end-lawful : (s : State) (o : Occasion) (d : List ℕ) → Lawful s d → Lawful (withDrive (driveAtEnd o d (s .axis .drive)) s) d
 unfolding driveSound storeInPlace takenInPlace causeInPlace
 at-end-lawful s o d law =
     let k = at-end o d (s .axis .drive) in
     drive-lawful s d (driveAtEnd o d (s .axis .drive)) law (k .mode) (rw (k .state, k .mode, k .store, k .taken, k .limit, k .cause) (law .drive))
+
+-- the call's end makes the count sound, with whatever it was written
+pub stay-at-end : (o : Occasion) (d : List ℕ) (v : Drive) → staySound (driveAtEnd o d v) d ≡ true
+unfolding driveAtEnd staying counted staySound
+stay-at-end o d v = elim (either (inside (v .store) d)) [ inl e ↦ rw (e, or-true) | inr e ↦ rw e ]
+
+-- .. and it stays so with another dictionary in which the position is inside as before
+pub stay-same : (d d′ : List ℕ) (v : Drive) → inside (v .store) d′ ≡ inside (v .store) d → staySound v d ≡ true → staySound v d′ ≡ true
+unfolding staySound
+stay-same d d′ v e h = rw e h
+
+-- .. and where it is sound already, and no tick came, the call's end leaves the drive as it was
+pub unticked : (o : Occasion) (d : List ℕ) (v : Drive) → isTicked o ≡ false → staySound v d ≡ true → driveAtEnd o d v ≡ v
+unfolding driveAtEnd staying counted staySound
+unticked o d v q h =
+    let same : counted (isTicked o) v d ≡ v .stay =
+    rw q (elim (either (inside (v .store) d)) [ inl e ↦ rw e | inr e ↦ rw e (sym (eqb-true (v .stay) 0 (rw (e, or-false) at h))) ]) in
+    ap (λ (n : ℕ). withStay n v) same
 
 -- ---- and a sound start is lawful
 
@@ -145,23 +162,25 @@ pub record Clauses (s : State) (d : List ℕ) : Type 0 where
   pub heartbeat : heartbeatSound (s .node .heartbeat) d ≡ true
   pub waiting : waitingSound s d ≡ true
   pub transfer : transferSound (s .transfer) ≡ true
+  pub stay : staySound (s .axis .drive) d ≡ true
 
 pub clauses : (s : State) (d : List ℕ) → sound s d ≡ true → Clauses s d
 unfolding sound
 clauses s d h =
     let k = simp and-eq-true-iff at h in
-    let l = k .0 .0 .0 .0 .0 in
+    let l = k .0 .0 .0 .0 .0 .0 in
     record {
       id = and-both _ _ (l .0 .0 .0 .0 .0) (l .0 .0 .0 .0 .1);
       dictionary = l .0 .0 .0 .1;
       status = l .0 .0 .1;
       mode = l .0 .1;
       plans = l .1;
-      ready = k .0 .0 .0 .0 .1;
-      drive = k .0 .0 .0 .1;
-      heartbeat = k .0 .0 .1;
-      waiting = k .0 .1;
-      transfer = k .1;
+      ready = k .0 .0 .0 .0 .0 .1;
+      drive = k .0 .0 .0 .0 .1;
+      heartbeat = k .0 .0 .0 .1;
+      waiting = k .0 .0 .1;
+      transfer = k .0 .1;
+      stay = k .1;
     }
 
 -- what is counted of a transmit PDO is sound

@@ -23,5 +23,10 @@ pub mod Listed
 pub mod Changes
 pub mod ShutOut
 pub mod Segments
+pub mod AsBefore
+pub mod Occasions
+pub mod Ticks
+pub mod Window
 pub mod Telling
 pub mod TellingOfSegments
+pub mod TellingOfWindow

@@ -10,14 +10,15 @@ use Rattle.theorems.proofs.Words.{NotSound, Event, Started, QuickStopDo
 use Rattle.theorems.proofs.Words.{Told, Happened, Bad, and-left, and-right, stored-bytes, store-bytes, length-stored, all-drop, clash}
 use Rattle.theorems.proofs.Words.{or-either, not-true, value-take}
 use Rattle.theorems.proofs.Settled.{settled-length, status-fits, mode-fits, settled-status, settled-display, settled-motion, status-same}
+use Rattle.theorems.proofs.Settled.{inside-same}
 use Rattle.theorems.proofs.Lawful.{Lawful, finally, sound-lawful, drive-lawful, node-lawful, at-end-lawful, paced-sound, same-refl, plan-refl}
-use Rattle.theorems.proofs.Lawful.{data-refl, same-rules, clauses, transfer-lawful}
+use Rattle.theorems.proofs.Lawful.{data-refl, clauses, transfer-lawful, stay-at-end, stay-same}
 use Rattle.theorems.proofs.NmtKept.{LawfulAfter, fresh-lawful, start-lawful, left-lawful, disabled-lawful, reset-lawful, status-row}
 use Rattle.theorems.proofs.NmtKept.{display-row, ArgumentsFit, enters-lawful, gone-lawful, fault-lawful, plain-lawful, position-row}
 use Rattle.theorems.proofs.NmtKept.{velocity-row}
 use Rattle.theorems.proofs.{Dictionary.to-test, DriveKept.reached-sound, Writes.stored-append, Writes.applied-lawful, PdoKept.held-lawful}
 use Rattle.theorems.proofs.{PdoKept.new-held, Services.Serves, Services.Releases, Services.framed-serves, Services.event-serves}
-use Rattle.drive.specs.SetPoints.{withStore, reached as reachedBy}
+use Rattle.drive.specs.SetPoints.{movedOn}
 use Rattle.rules_services.specs.{Effects.Effect, Effects.andThen, Effects.withHeld, Effects.withTransfer, Written.applied, Nmt.commanded}
 use Rattle.rules_services.specs.{Nmt.voltageDisabled, declared.Event.the-variants.Fault, Events.eventOf, Events.provided}
 use Rattle.rules_services.specs.Nmt.{powerUp, freshState}
@@ -63,7 +64,10 @@ ended-sound s d e before runs =
     let d2 = settled s′ d1 in
     let then = at-end-lawful (e .state) (e .occasion) d1 before in
     let law = settled-lawful s′ d1 then in
-    let word = status-same d1 d2 v v (settled-motion s′ d1) same-rules (not (isStopped (s′ .node .nmt))) (s′ .node .voltage) in
+    let motion = settled-motion s′ d1 in
+    let word = status-same d1 d2 v motion (not (isStopped (s′ .node .nmt))) (s′ .node .voltage) in
+    let placed = stay-same d1 d2 v (inside-same d1 d2 (motion .place) (motion .window) (v .store))
+    (stay-at-end (e .occasion) d1 (e .state .axis .drive)) in
     let paced : (t : ℕ) → In t transmitters → paceSound (s′ .node .nmt) d2 (eachWay + t) (paceFor s s′ (e .occasion) d2 (readyOf d2) t .kept) ≡ true =
     λ t i. paced-sound s s′ (e .occasion) d2 (readyOf d2) t (law .waits .counts t i) in
     rw (
@@ -82,6 +86,7 @@ ended-sound s d e before runs =
       paced 3 (there (there (there here))),
       law .waits .held,
       runs .sound,
+      placed,
     )
 
 ended-holds : (s : State) (d : List ℕ) (e : Effect) → length d ≡ dictionaryLength → areBytes d ≡ true → LawfulAfter d e →
@@ -110,7 +115,7 @@ releases-lawful {s = s} {d = d} (Releases.next h ws {e} cleared may rest) law =
     rw (stored-append (applied ws (withHeld h s) d .writes) (e .writes) d) (releases-lawful rest (applied-lawful (withHeld h s) d ws cleared may))
 
 pub lawful : {K : Type 0} {s : State} {d : List ℕ} {e : Effect} → Serves K s d e → K → areBytes d ≡ true → Lawful s d → LawfulAfter d e
-unfolding stored heartbeatSound commanded
+unfolding stored heartbeatSound commanded movedOn
 lawful Serves.nothing k b law = law
 lawful (Serves.replies t said) k b law = transfer-lawful t law
 lawful (Serves.alarms l code) k b law = law
@@ -128,7 +133,7 @@ lawful {s = s} {d = d} Serves.resets k b law = rw append-nil (reset-lawful s d l
 lawful {s = s} {d = d} Serves.begins k b law = fresh-lawful (s .node .id) d (law .id) (law .long)
 lawful {s = s} {d = d} (Serves.moves q h) k b law = enters-lawful s d law q (h k)
 lawful {s = s} {d = d} (Serves.reaches h) k b law =
-    drive-lawful s d (withStore (reachedBy (s .axis .drive .store)) (s .axis .drive)) law refl (reached-sound (s .axis .drive) d (law .drive) (h k))
+    drive-lawful s d (movedOn (s .axis .drive)) law refl (reached-sound (s .axis .drive) d (law .drive) (h k))
 lawful {s = s} {d = d} Serves.recovers k b law = gone-lawful s d law
 lawful {s = s} {d = d} (Serves.faults code register fits) k b law = fault-lawful code register s d law b (fits k .0) (fits k .1)
 lawful {s = s} {d = d} (Serves.feeds at speed fits) k b law =

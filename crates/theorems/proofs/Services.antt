@@ -26,7 +26,7 @@ use Rattle.rules_dictionary.specs.Legal.{isSynchronous}
 use Rattle.rules_dictionary.specs.Plans.{mapped, pdoData}
 use Rattle.drive.specs.DriveStates.{isNotReady, isFaulty}
 use Rattle.rules_services.specs.declared.Event.the-variants.{Fault}
-use Rattle.drive.specs.SetPoints.{enters, withStore, withCause, reached, isMoving, controlWritten}
+use Rattle.drive.specs.SetPoints.{enters, movedOn, withCause, isMoving, controlWritten}
 use Rattle.rules_services.specs.Effects.{Frame, Effect, becomes, sends, writes, on, andThen, withDrive, withHeld, withNmt, withVoltage, withHeartbeat}
 use Rattle.rules_services.specs.Effects.{withTransfer, withoutTransfer}
 use Rattle.rules_services.specs.Emergency.{emergency, pdoTooShort, pdoTooLong, valueRefused, badSyncLength}
@@ -112,8 +112,7 @@ pub data Serves (K : Type 0) (s : State) (d : List ℕ) : Effect → Type 0 wher
   -- events
   moves : (q : DriveState) → (K → (isFaulty q ≡ true) ⊎ (isFaulty (s .axis .drive .state) ≡ false)) →
       Serves K s d (becomes (withDrive (enters q (s .axis .drive)) s))
-  reaches : (K → isMoving (s .axis .drive .store) ≡ true) →
-      Serves K s d (becomes (withDrive (withStore (reached (s .axis .drive .store)) (s .axis .drive)) s))
+  reaches : (K → isMoving (s .axis .drive .store) ≡ true) → Serves K s d (becomes (withDrive (movedOn (s .axis .drive)) s))
   recovers : Serves K s d (becomes (withDrive (withCause false (s .axis .drive)) s))
   faults : (code register : ℕ) → (K → (code < 256 ^ 2) × (register < 256 ^ 1)) → Serves K s d (faulted code register s d)
   feeds : (at speed : ℕ) → (K → (at < 256 ^ 4) × (speed < 256 ^ 4)) →

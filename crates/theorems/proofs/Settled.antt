@@ -5,15 +5,15 @@ use Rattle.theorems.proofs.Words.{Mode, NoMode, ProfilePosition, Profil
 use Rattle.theorems.proofs.Words.{In, apart, same-or-apart, found-in, within, read-apart, read-same, length-store, clash, whichever}
 use Rattle.theorems.proofs.{Dictionary.MayHold, Dictionary.isPdo}
 use Rattle.rules_dictionary.specs.Table.{errorRegister, heartbeatTime, Row, table, sizeOf, dictionaryLength, statusWord, modeDisplay, mode}
-use Rattle.rules_dictionary.specs.Table.{controlWord, position, positionWindow, velocity, velocityWindow, velocityThreshold, targetVelocity}
-use Rattle.rules_dictionary.specs.Table.{isConstant, whole, size, open-table}
+use Rattle.rules_dictionary.specs.Table.{controlWord, position, positionWindow, windowTime, velocity, velocityWindow, velocityThreshold}
+use Rattle.rules_dictionary.specs.Table.{targetVelocity, isConstant, whole, size, open-table}
 use Rattle.rules_dictionary.specs.{Values.read, Values.store, Legal.modeNumber}
 use Rattle.drive.specs.DriveStates.{isEnabled}
-use Rattle.drive.specs.StatusWord.{status, enabledBits, ackInMode, reachedInMode, positionReached, velocityReached, standsStill, slow, near}
+use Rattle.drive.specs.Window.{near, inside}
+use Rattle.drive.specs.StatusWord.{status, enabledBits, ackInMode, reachedInMode, reachedAtOnce, positionReached, velocityReached, standsStill, slow}
 use Rattle.drive.specs.StatusWord.{voltageShown, remoteShown}
 use Rattle.drive.proofs.Shown.{shown-most, state-word-most, enabled-most}
 use Rattle.rules.specs.{Outcome.settled, Outcome.statusOf, Sound.inRange}
-use Rattle.rules.proofs.AtEnd.{SameRules}
 
 -- ---- the status word fits its row
 
@@ -30,35 +30,53 @@ pub record SameMotion (d d′ : List ℕ) : Type 0 where
   pub control : read d′ controlWord ≡ read d controlWord
   pub place : read d′ position ≡ read d position
   pub window : read d′ positionWindow ≡ read d positionWindow
+  pub time : read d′ windowTime ≡ read d windowTime
   pub speed : read d′ velocity ≡ read d velocity
   pub speedWindow : read d′ velocityWindow ≡ read d velocityWindow
   pub threshold : read d′ velocityThreshold ≡ read d velocityThreshold
   pub goal : read d′ targetVelocity ≡ read d targetVelocity
 
--- the same word: of a drive with the same parts
-module _ (d d′ : List ℕ) (v v′ : Drive) (h : SameMotion d d′) (k : SameRules v v′) where
-  ack-same : (m : Mode) → ackInMode m v′ d′ ≡ ackInMode m v d
+-- the same place in the same window: the position is inside of the one where it is inside of the other
+module _ (d d′ : List ℕ) (place : read d′ position ≡ read d position) (window : read d′ positionWindow ≡ read d positionWindow) where
+  pub near-same : (t : ℕ) → near t d′ ≡ near t d
+  unfolding near
+  near-same t = rw (window, place)
+
+  pub inside-same : (s : Store) → inside s d′ ≡ inside s d
+  unfolding inside
+  inside-same Empty = refl
+  inside-same (Rested t) = near-same t
+  inside-same (Moving a) = near-same (a .target)
+  inside-same (Queued a b) = near-same (a .target)
+
+-- the same word of the same drive
+module _ (d d′ : List ℕ) (v : Drive) (h : SameMotion d d′) where
+  ack-same : (m : Mode) → ackInMode m v d′ ≡ ackInMode m v d
   unfolding ackInMode slow
   ack-same NoMode = refl
-  ack-same ProfilePosition = rw (k .taken, k .store)
+  ack-same ProfilePosition = refl
   ack-same ProfileVelocity = rw (h .speed, h .threshold)
 
-  position-same : (s : Store) → positionReached s d′ ≡ positionReached s d
-  unfolding positionReached near
-  position-same Empty = refl
-  position-same (Rested t) = refl
-  position-same (Moving a) = rw (h .window, h .place)
-  position-same (Queued a b) = rw (h .window, h .place)
+  at-once-same : (s : Store) → reachedAtOnce s d′ ≡ reachedAtOnce s d
+  unfolding reachedAtOnce
+  at-once-same Empty = refl
+  at-once-same (Rested t) = refl
+  at-once-same (Moving a) = near-same d d′ (h .place) (h .window) (a .target)
+  at-once-same (Queued a b) = near-same d d′ (h .place) (h .window) (a .target)
 
-  reached-same : (m : Mode) → reachedInMode m v′ d′ ≡ reachedInMode m v d
+  position-same : positionReached v d′ ≡ positionReached v d
+  unfolding positionReached
+  position-same = rw (h .time, at-once-same (v .store), inside-same d d′ (h .place) (h .window) (v .store))
+
+  reached-same : (m : Mode) → reachedInMode m v d′ ≡ reachedInMode m v d
   unfolding reachedInMode standsStill velocityReached
   reached-same NoMode = refl
-  reached-same ProfilePosition = rw (h .control, h .speed, k .store, position-same (v .store))
+  reached-same ProfilePosition = rw (h .control, h .speed, position-same)
   reached-same ProfileVelocity = rw (h .control, h .speed, h .speedWindow, h .goal)
 
-  pub status-same : (remote voltage : Bool) → status remote voltage v′ d′ ≡ status remote voltage v d
+  pub status-same : (remote voltage : Bool) → status remote voltage v d′ ≡ status remote voltage v d
   unfolding status enabledBits
-  status-same remote voltage = rw (ack-same (v′ .mode), reached-same (v′ .mode), k .mode, k .state, k .limit)
+  status-same remote voltage = rw (ack-same (v .mode), reached-same (v .mode))
 
 -- ---- rows of the table
 
@@ -106,6 +124,7 @@ settled-motion s d =
       control = settled-apart s d controlWord refl refl;
       place = settled-apart s d position refl refl;
       window = settled-apart s d positionWindow refl refl;
+      time = settled-apart s d windowTime refl refl;
       speed = settled-apart s d velocity refl refl;
       speedWindow = settled-apart s d velocityWindow refl refl;
       threshold = settled-apart s d velocityThreshold refl refl;

@@ -19,7 +19,7 @@ use Rattle.rules_dictionary.specs.Numbers.{all, bit}
 use Rattle.rules_dictionary.specs.Values.{Write, read, store, stored}
 use Rattle.drive.specs.DriveStates.{command, next}
 use Rattle.drive.specs.SetPoints.{positions, emptied, enters, withState, behind, isQueued, isMoving, target, withinLimits, setPoint, offered}
-use Rattle.drive.specs.SetPoints.{setPointRule, modeWritten, controlWritten, reached, newSetPointBit, atOnceBit}
+use Rattle.drive.specs.SetPoints.{setPointRule, modeWritten, controlWritten, reached, movedOn, newSetPointBit, atOnceBit}
 use Rattle.rules_services.specs.Written.{wrote, countRestarted, modeActed, faultReset, controlActed, applied}
 use Rattle.rules_services.specs.Nmt.{commanded, powerUp, freshState, left, voltageDisabled}
 use Rattle.rules_services.specs.Events.{isInPlace, happens, faulted}
@@ -234,7 +234,7 @@ releases-pass {s = s} {d = d} (Releases.next q ws {e} cleared may rest) =
 
 -- every service
 passes : {K : Type 0} {s : State} {d : List ℕ} {e : Effect} → Serves K s d e → K → Lawful s d → PassesBy s d e
-unfolding commanded powerUp freshState voltageDisabled left faulted
+unfolding commanded powerUp freshState voltageDisabled left faulted movedOn
 passes Serves.nothing k law = stays
 passes (Serves.replies t said) k law = stays
 passes (Serves.alarms l code) k law = stays
@@ -279,7 +279,7 @@ module _ (s : State) (d o : List ℕ) where
   reachedIf six x = cond (isAccepted x && six) 1 0
 
   event-passes : (e : Event) → isReached (Happened e) ≡ true → isInPlace e s ≡ true → PassesAs 1 s d o (performs (happens e s d))
-  unfolding isInPlace happens answered accepted ended
+  unfolding isInPlace happens movedOn answered accepted ended
   event-passes SetPointReached h moves =
       rw (finally-store d (happens SetPointReached s d)) (reached-passes (s .axis .drive .store) moves (omega arith))
   event-passes Started h placed = absurd (false≢true h)

@@ -227,6 +227,7 @@ stateNumbers s =
     ∷ flag (v .taken)
     ∷ flag (v .limit)
     ∷ flag (v .cause)
+    ∷ v .stay
     ∷ transferNumbers (s .transfer) ++ storeNumbers (v .store)
 
 abbrev samePace : Pace → Pace → Bool

@@ -21,7 +21,8 @@ returns c =
     let typed : HeadTyped s =
     record {
       heartbeat = n .write-node .ensures .1;
-      store = v .write-drive .ensures .1;
+      stay = v .write-drive .ensures .1 .0;
+      store = v .write-drive .ensures .1 .1;
       ready = r .write-frames .ensures .1;
       held = h .write-frames2 .ensures .1;
       paces = w .write-paces .ensures .1;

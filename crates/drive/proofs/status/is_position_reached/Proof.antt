@@ -1,12 +1,16 @@
 -- `drive::status::is_position_reached` meets its contract. Assumes nothing.
+use mathlib.Core.Path.{_∙_, sym}
 use borrow.Author.Needs.{needs}
-use Rattle.drive.specs.StatusWord.{positionReached}
+use Rattle.drive.proofs.Shown.{reached-at-zero, reached-early, reached-late}
 use Rattle.drive.proofs.status.is_position_reached.Statement.{statement}
 use Rattle.drive.proofs.status.is_position_reached.Tie as tie
 
 pub is-position-reached-spec : {M : Type 1} → statement M
-unfolding positionReached
 is-position-reached-spec =
-    tie.close (tie.spec (λ c. search needs) (λ c. search needs) (λ c. search needs) (λ c κs. search needs) (λ c. search needs)
-    (λ c κs. search needs) (λ c. rw (c .enum-told .given .1)) (λ c. rw (c .enum-told2 .given .1))
-    (λ c. rw (c .before .before .store .given .1) (c .is-near .ensures)) (λ c. rw (c .before .before .store2 .given .1) (c .is-near2 .ensures)))
+    tie.close (tie.spec (λ c κs. search needs) (λ c κs. search needs)
+    (λ c. c .is-reached-at-once .ensures ∙ reached-at-zero _ _ _ (c .before .before .window-time .ensures) (c .before .if1 .taken))
+    (λ c κs. search needs)
+    (λ c. reached-early (c .before .before .before .before .before .args .v) _ _ (c .before .before .before .window-time .ensures) (c .before .before .if1 .left) (c .if2 .taken))
+    (λ c.
+    let b = c .before .before .before in
+    c .is-inside .ensures ∙ reached-late _ _ _ (b .before .window-time .ensures) (b .if1 .left) (c .before .if2 .left)))

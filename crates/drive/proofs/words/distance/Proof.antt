@@ -7,7 +7,7 @@ use Rattle.drive.proofs.words.distance.Tie as tie
 
 pub distance-spec : {M : Type 1} → statement M
 distance-spec =
-    tie.close (tie.spec (λ c κs. search needs) (λ c κs. search needs) (λ c. search needs)
+    tie.close (tie.spec (λ c κs. search needs) (λ c. search needs) (λ c κs. search needs) (λ c. search needs) (λ c. search needs)
     (λ c.
     let a = c .before .before .before .args in
     omega (arith, words-distance (a .a) (a .b) (omega arith) (omega arith)))

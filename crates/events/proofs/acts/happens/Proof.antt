@@ -68,13 +68,11 @@ returns-5 c =
 returns-6 : tie.Need-returns-6
 unfolding happens
 returns-6 c =
-    let reached = c .before .before .before .before in
-    let read-drive4 = reached .before .before in
+    let read-drive4 = c .before .before .before .before .before in
     let enum-told4 = read-drive4 .before .before in
     let start = enum-told4 .before .before .before .before .before in
     let m = c .before .before .moved4 .ensures in
-    let held = rw (c .before .before .before .with-store .ensures, reached .reached .ensures, read-drive4 .read-drive4 .ensures) at (m .1 _
-    (start .pre .own)) in
+    let held = rw (c .before .before .before .moved-on .ensures, read-drive4 .read-drive4 .ensures) at (m .1 _ (start .pre .own)) in
     rw (m .0, enum-told4 .enum-told4 .given .1) (restated _ _ _ _ held)
 
 returns-7 : tie.Need-returns-7
@@ -109,7 +107,7 @@ happens-spec =
     (λ c κs. search needs) (λ c κs. search needs) (λ c κs. search needs)
     (λ c. search needs) (λ c κs. search needs) (λ c. search needs) (λ c κs. search needs) (λ c κs. search needs) (λ c κs. search needs)
     (λ c. search needs) (λ c κs. search needs) (λ c. search needs)
-    (λ c κs. search needs) (λ c κs. search needs) (λ c κs. search needs) (λ c κs. search needs) (λ c. search needs) (λ c κs. search needs)
+    (λ c κs. search needs) (λ c κs. search needs) (λ c κs. search needs) (λ c. search needs) (λ c κs. search needs)
     (λ c. search needs) (λ c κs. search needs) (λ c κs. search needs)
     (λ c κs. search needs) (λ c. search needs) (λ c κs. search needs) (λ c κs. search needs) (λ c κs. search needs) (λ c. search needs) returns
     (λ c. search needs) returns-2 (λ c. search needs) (λ c. search needs)

@@ -1,10 +1,10 @@
--- `drive::status::is_near` meets its contract. Assumes nothing.
+-- `drive::window::is_near` meets its contract. Assumes nothing.
 use mathlib.Core.Path.{_∙_, refl}
 use borrow.Author.Needs.{needs}
-use Rattle.drive.specs.StatusWord.{near}
+use Rattle.drive.specs.Window.{near}
 use Rattle.drive.proofs.Shown.{within-same}
-use Rattle.drive.proofs.status.is_near.Statement.{statement}
-use Rattle.drive.proofs.status.is_near.Tie as tie
+use Rattle.drive.proofs.window.is_near.Statement.{statement}
+use Rattle.drive.proofs.window.is_near.Tie as tie
 
 pub is-near-spec : {M : Type 1} → statement M
 unfolding near
