@@ -75,8 +75,8 @@ fn end_call(done: Done, was: bool, state: &mut [u8], d: &mut [u8], output: &mut 
 // What a service left of a call that started Operational, or did not, finished. How many frames stand in the output then.
 pub fn finish(done: Done, was: bool, state: &mut [u8], d: &mut [u8], output: &mut [u8]) -> u8
     requires { ⌜ MayFinish was (now state) done (now d) (now output) ⌝ }
-    ensures { λ r. ⌜ Stepped was (countedIn (done .occasion) (now (d .entry)) (stateOf (now (state .entry)))) done (now (d .entry)) (now (output .entry)) r
-        (now (state .exit)) (now (d .exit)) (now (output .exit)) ⌝ }
+    ensures { λ r. ⌜ Stepped was (countedIn (done .occasion) (now (d .entry)) (stateOf (now (state .entry)))) done (now (d .entry))
+        (now (output .entry)) r (now (state .exit)) (now (d .exit)) (now (output .exit)) ⌝ }
 {
     if !is_left(done, state, d) {
         return done.frames as u8;

@@ -11,7 +11,8 @@ ghost use lib.ListN.{length};
 ghost use Rattle.rules_dictionary.specs.Table.{deviceType, errorRegister, syncIdentifier, emergencyIdentifier, heartbeatTime, identityCount, vendor};
 ghost use Rattle.rules_dictionary.specs.Table.{controlWord, statusWord, mode, modeDisplay, position, positionWindow, windowTime, velocity};
 ghost use Rattle.rules_dictionary.specs.Table.{velocityWindow, velocityThreshold, targetPosition, limitCount, minimumPosition, maximumPosition};
-ghost use Rattle.rules_dictionary.specs.Table.{profileVelocity, profileAcceleration, profileDeceleration, targetVelocity, supportedModes, errorCode, dictionaryLength};
+ghost use Rattle.rules_dictionary.specs.Table.{profileVelocity, profileAcceleration, profileDeceleration, targetVelocity, supportedModes};
+ghost use Rattle.rules_dictionary.specs.Table.{errorCode, dictionaryLength};
 ghost use Rattle.rules_dictionary.specs.Values.{read, store};
 
 // 1000h, device type.

@@ -177,7 +177,8 @@ halted = (refl, refl)
 -- mode 3: 606Ch against 606Fh for bit 12, and 60FFh against 606Dh for bit 10; the magnitude of -2^31 is 2^31
 turning : List Write → ℕ
 turning ws =
-    status true true (record { state = OperationEnabled; mode = ProfileVelocity; store = Empty; taken = false; limit = false; cause = false; stay = 0 })
+    status true true
+    (record { state = OperationEnabled; mode = ProfileVelocity; store = Empty; taken = false; limit = false; cause = false; stay = 0 })
     (bench (write velocityThreshold 5 ∷ write velocityWindow 2 ∷ write targetVelocity 10 ∷ ws))
 
 velocity-bits : (turning (write velocity 5 ∷ []) ≡ 0x1237) × (turning (write velocity 6 ∷ []) ≡ 0x0237)
@@ -188,7 +189,8 @@ unfolding turning open-edges
 velocity-bits = (refl, refl, refl, refl, refl, refl, refl)
 
 -- "Enabled only": a limit mark or a window shows in no other state
-enabled-only : status true true (record { state = SwitchedOn; mode = ProfilePosition; store = Rested 50; taken = true; limit = true; cause = false; stay = 0 })
+enabled-only : status true true
+    (record { state = SwitchedOn; mode = ProfilePosition; store = Rested 50; taken = true; limit = true; cause = false; stay = 0 })
     (bench []) ≡ 0x0233
 unfolding open-edges
 enabled-only = refl

@@ -188,7 +188,8 @@ waits = (refl, refl, refl, refl, refl, refl, refl)
 -- "taken mark only while bit 4 of 6040h is 1": an enabled drive in mode 1, at rest, under 1Fh and under 0Fh
 marked : ℕ → Bool → Bool
 marked word taken =
-    let v : Drive = record { state = OperationEnabled; mode = ProfilePosition; store = Rested 0; taken = taken; limit = false; cause = false; stay = 0 } in
+    let v : Drive =
+    record { state = OperationEnabled; mode = ProfilePosition; store = Rested 0; taken = taken; limit = false; cause = false; stay = 0 } in
     let e = ended nothing (packedDefaults 5 table) (writes (write mode 1 ∷ write controlWord word ∷ []) (becomes (withDrive v (freshState 5)))) in
     sound (e .state) (e .dictionary)
 

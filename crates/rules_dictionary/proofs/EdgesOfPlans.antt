@@ -112,7 +112,8 @@ unfolding mapping running open-edges
 ramps-plan = refl
 
 -- a word that names no row has no move, and those around it keep theirs: no object, no subindex, the device name
-words-without-row : planAfter (mapping 4 5 (0x60640020 ∷ 0x10020008 ∷ 0x10180220 ∷ 0x10080098 ∷ 0x60410010 ∷ [])) 4 ≡ (2, (340, 4) ∷ (336, 2) ∷ spare 6)
+words-without-row : planAfter (mapping 4 5 (0x60640020 ∷ 0x10020008 ∷ 0x10180220 ∷ 0x10080098 ∷ 0x60410010 ∷ [])) 4
+    ≡ (2, (340, 4) ∷ (336, 2) ∷ spare 6)
 unfolding mapping running open-edges
 words-without-row = refl
 

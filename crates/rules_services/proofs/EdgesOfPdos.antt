@@ -118,7 +118,8 @@ point t = record { target = t; velocity = 0; acceleration = 1; deceleration = 1 
 -- Operation enabled in mode 1
 abbrev moving : Store → Bool → State
 moving s taken =
-    withDrive (record { state = OperationEnabled; mode = ProfilePosition; store = s; taken = taken; limit = false; cause = false; stay = 0 }) operational
+    withDrive (record { state = OperationEnabled; mode = ProfilePosition; store = s; taken = taken; limit = false; cause = false; stay = 0 })
+    operational
 
 -- from Switched on in mode 0, one frame: mode 1, then 1Fh enables and takes the 1000 of the same frame, wherever 607Ah stands
 one-frame : (received 0 (0xE8 ∷ 0x03 ∷ 0x00 ∷ 0x00 ∷ 0x01 ∷ 0x1F ∷ 0x00 ∷ []) (node Operational SwitchedOn) forth .state
@@ -131,7 +132,8 @@ one-frame = (refl, refl, refl)
 
 -- out of mode 1 and 1Fh in one frame: the mode first, so nothing is taken and the store is empty
 one-frame-out : received 0 (0xE8 ∷ 0x03 ∷ 0x00 ∷ 0x00 ∷ 0x03 ∷ 0x1F ∷ 0x00 ∷ []) (moving (Moving (point 7)) false) forth .state
-    ≡ withDrive (record { state = OperationEnabled; mode = ProfileVelocity; store = Empty; taken = false; limit = false; cause = false; stay = 0 }) operational
+    ≡ withDrive (record { state = OperationEnabled; mode = ProfileVelocity; store = Empty; taken = false; limit = false; cause = false; stay = 0 })
+    operational
 unfolding forth open-edges
 one-frame-out = refl
 

@@ -10,7 +10,9 @@ is-position-reached-spec =
     tie.close (tie.spec (λ c κs. search needs) (λ c κs. search needs)
     (λ c. c .is-reached-at-once .ensures ∙ reached-at-zero _ _ _ (c .before .before .window-time .ensures) (c .before .if1 .taken))
     (λ c κs. search needs)
-    (λ c. reached-early (c .before .before .before .before .before .args .v) _ _ (c .before .before .before .window-time .ensures) (c .before .before .if1 .left) (c .if2 .taken))
+    (λ c.
+    let b = c .before .before in
+    reached-early (b .before .before .before .args .v) _ _ (b .before .window-time .ensures) (b .if1 .left) (c .if2 .taken))
     (λ c.
     let b = c .before .before .before in
     c .is-inside .ensures ∙ reached-late _ _ _ (b .before .window-time .ensures) (b .if1 .left) (c .before .if2 .left)))
