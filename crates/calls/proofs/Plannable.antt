@@ -2,22 +2,20 @@
 -- Assumes nothing.
 use Prim.Native.Nat.{ℕ, zero, suc, _+_, _<_, _≤_}
 use native.Mathlib.Omega.{arith}
-use mathlib.Core.Path.{_≡_, refl, sym, _∙_, subst}
-use mathlib.Core.Bool.{true, not, _&&_}
+use mathlib.Core.Path.{_≡_, refl, sym, subst}
+use mathlib.Core.Bool.{true}
 use mathlib.Core.List.{List}
-use borrow.Author.Tests.{ltb-false, not-true}
+use borrow.Author.Tests.{ltb-false}
 use lib.ListN.{length, getD}
 use Rattle.rules_dictionary.specs.declared.PdoData.{PdoData}
 use Rattle.rules_dictionary.specs.Members.{In}
-use Rattle.rules_dictionary.specs.Table.{dictionaryLength, eachWay, mapCount, mapEntry, mapSlots, mostMoves, pdos}
+use Rattle.rules_dictionary.specs.Table.{dictionaryLength, eachWay, mapCount, mostMoves, pdos}
 use Rattle.rules_dictionary.specs.Values.{read}
-use Rattle.rules_dictionary.specs.Aborts.{isGood}
-use Rattle.rules_dictionary.specs.Legal.{entryVerdict, isBelow, isAbove, badChoice}
 use Rattle.rules_dictionary.specs.Plans.{mapped, planFor, readyFor, readyOf}
-use Rattle.rules_dictionary.proofs.Tests.{and-left, and-right, and-both}
-use Rattle.rules_dictionary.proofs.Members.{all-of, count-in, pdo-in}
-use Rattle.rules.specs.Sound.{mappingLegal, inRange}
-use Rattle.theorems.proofs.Dictionary.{DictionaryOk, entries-good}
+use Rattle.rules_dictionary.proofs.Tests.{and-both}
+use Rattle.rules_dictionary.proofs.Members.{count-in, pdo-in}
+use Rattle.theorems.proofs.Dictionary.{DictionaryOk, not-above, words-legal}
+use Rattle.mapping.specs.Words.{mappingLegal}
 use Rattle.mapping.specs.Afresh.{GivesPlans}
 use Rattle.mapping.specs.Moves.{readyBy}
 use Rattle.mapping.proofs.Assembly.{joined-room}
@@ -28,17 +26,10 @@ use Rattle.output.proofs.Frames.{is-data}
 module _ {n : ℕ} {d : List ℕ} (ok : DictionaryOk n d) {p : ℕ} (i : In p pdos) where
   legal : mappingLegal d p ≡ true
   unfolding mappingLegal
-  legal =
-      and-both _ _ (entries-good d i ∙ all-of (λ k. isGood (entryVerdict p (read d (mapEntry p k)))) mapSlots (λ k j. ok .words p k i j))
-      (ok .counts p i)
+  legal = and-both _ _ (words-legal ok i) (ok .counts p i)
 
   few : read d (mapCount p) ≤ mostMoves
-  unfolding inRange
-  few =
-      let v = read d (mapCount p) in
-      let r = and-left (not (isBelow (mapCount p) v) && not (isAbove (mapCount p) v)) (not (badChoice (mapCount p .role) v))
-      (ok .ranged (mapCount p) (count-in i)) in
-      ltb-false mostMoves v (not-true _ (and-right (not (isBelow (mapCount p) v)) _ r))
+  few = ltb-false mostMoves (read d (mapCount p)) (not-above ok (count-in i))
 
 pub plannable : {n : ℕ} {d : List ℕ} → length d ≡ dictionaryLength → DictionaryOk n d → GivesPlans d
 plannable l ok = (l, λ p h. (few ok (pdo-in p h), legal ok (pdo-in p h)))

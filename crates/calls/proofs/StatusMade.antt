@@ -20,7 +20,7 @@ use Rattle.rules_dictionary.proofs.Packing.{within}
 use Rattle.rules_dictionary.proofs.Members.{pdo-in}
 use Rattle.rules_dictionary.proofs.Tests.{and-left, and-right}
 use Rattle.rules.specs.Outcome.{settled, statusOf}
-use Rattle.rules.specs.Sound.{mappingLegal}
+use Rattle.mapping.specs.Words.{mappingLegal}
 use Rattle.theorems.proofs.Dictionary.{isPdo, mapped-alike, words-alike, count-alike, map-same}
 use Rattle.theorems.proofs.Demands.{store-self}
 use Rattle.theorems.proofs.Settled.{status-in, display-in, settled-length, settled-pdo}

@@ -21,13 +21,12 @@ use Rattle.rules_dictionary.proofs.Tests.{and-left, and-right, all-in}
 use Rattle.rules_dictionary.proofs.Packing.{regular}
 use Rattle.rules_dictionary.proofs.Members.{pdo-in}
 use Rattle.rules.specs.Outcome.{sameMove, samePlan, mostData}
-use Rattle.rules.specs.Sound.{mappingLegal}
 use Rattle.dictionary.specs.Sizes.{IsPdo}
 use Rattle.dictionary.proofs.Bytes.{value-step, value-none}
 use Rattle.form.specs.Form.{planPlace, half, wordAt, moveOf, moveAt, planAt, each}
 use Rattle.form.specs.Own.{isZero, small, everyAt, everyWord, planOwn}
 use Rattle.form.proofs.Tested.{or-zero}
-use Rattle.mapping.specs.Words.{mappables, wordMove, keptWord, namesOne}
+use Rattle.mapping.specs.Words.{mappables, wordMove, keptWord, namesOne, mappingLegal}
 use Rattle.mapping.specs.Slots.{wordsFrom}
 use Rattle.mapping.specs.Kept.{mapsKept, sparesKept, mappedKept, spareKept, planKeptIn, planKeptAt}
 use Rattle.mapping.proofs.Orders.{swap, beside, both-ways}

@@ -22,8 +22,7 @@ use Rattle.rules_dictionary.proofs.Tests.{and-left, and-right, all-in, or-right
 use Rattle.rules_dictionary.proofs.Members.{pdo-in}
 use Rattle.dictionary.specs.Sizes.{IsPdo}
 use Rattle.rules.specs.Outcome.{sameBy, sameMove, samePlan, mostData}
-use Rattle.rules.specs.Sound.{mappingLegal}
-use Rattle.mapping.specs.Words.{wordMove, namesOne, wayOf}
+use Rattle.mapping.specs.Words.{wordMove, namesOne, wayOf, mappingLegal}
 use Rattle.mapping.specs.Slots.{wordsFrom}
 use Rattle.mapping.proofs.Naming.{Names, facts, one-or-none, names-one, names-none, verdict}
 

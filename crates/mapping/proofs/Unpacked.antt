@@ -14,23 +14,22 @@ use Rattle.rules_dictionary.specs.declared.Move.{Move}
 use Rattle.rules_dictionary.specs.Numbers.{value, areBytes, all, any, padded}
 use Rattle.rules_dictionary.specs.declared.Role.the-variants.{Plain, ModeOfOperation}
 use Rattle.rules_dictionary.specs.Table.{Row, sizeOf, placeOf, same, Direction, receive, transmit, directionOf, pdos, receivePdos}
-use Rattle.rules_dictionary.specs.Table.{transmitPdos, mapCount, mapEntry, mapSlots, eachWay, mostMoves, controlWord, mode, targetPosition}
+use Rattle.rules_dictionary.specs.Table.{transmitPdos, mapCount, eachWay, mostMoves, controlWord, mode, targetPosition}
 use Rattle.rules_dictionary.specs.Table.{profileVelocity, profileAcceleration, profileDeceleration, targetVelocity, heartbeatTime}
 use Rattle.rules_dictionary.specs.Table.{open-table}
 use Rattle.rules_dictionary.specs.Values.{read, store, stored, unpacked}
 use Rattle.rules_dictionary.specs.Aborts.{good, bad, isGood, firstOf, belowRange, badValue}
-use Rattle.rules_dictionary.specs.Legal.{isMode, suits, isBelow, isAbove, otherBadValue, mappingVerdict, valueVerdict, entryVerdict, mapWords}
+use Rattle.rules_dictionary.specs.Legal.{isMode, suits, otherBadValue, mappingVerdict, valueVerdict, entryVerdict, mapWords}
 use Rattle.rules_dictionary.specs.Plans.{targets, mapped, move, noMove, planFor}
 use Rattle.rules_dictionary.specs.Members.{In, here, there, Each}
 use Rattle.rules_dictionary.proofs.Tests.{and-left, and-right, and-both, all-in, each-in, none-in}
 use Rattle.rules_dictionary.proofs.Rows.{all-drop, value-take}
-use Rattle.rules_dictionary.proofs.Members.{all-of, in-left, count-in, map-in, in-cons}
+use Rattle.rules_dictionary.proofs.Members.{in-left, count-in, map-in, in-cons}
 use Rattle.rules_services.specs.PdoTraffic.{mappedLength, areLegal}
 use Rattle.rules_services.specs.Written.{wrote}
-use Rattle.rules.specs.Sound.{inRange, mappingLegal}
-use Rattle.theorems.proofs.Dictionary.{isPdo, DictionaryOk, entries-good}
+use Rattle.theorems.proofs.Dictionary.{isPdo, DictionaryOk, not-above, words-legal}
 use Rattle.form.specs.Form.{stateLength, planIn}
-use Rattle.mapping.specs.Words.{mappables}
+use Rattle.mapping.specs.Words.{mappables, mappingLegal}
 use Rattle.mapping.proofs.Worked.{plan-fits, maps-count, legal-mapping, Tested}
 use Rattle.mapping.proofs.Legality.{neither, named-row, targets-named}
 use Rattle.mapping.specs.Received.{PlanFits, movesOf, sizes, hasPlace, isLegal, movesLegal, storedMoves, Received, Receives}
@@ -234,14 +233,10 @@ below-four : all (λ p. ltb p eachWay) receivePdos ≡ true
 below-four = refl
 
 pub legal-receives : {n : ℕ} {d : List ℕ} → DictionaryOk n d → {p : ℕ} → In p receivePdos → Receives (planFor (mapped d p)) (mapped d p)
-unfolding mappingLegal inRange
+unfolding mappingLegal
 legal-receives {n} {d} ok {p} i =
     let j : In p pdos = in-left transmitPdos i in
-    let v = read d (mapCount p) in
-    let r = ok .ranged (mapCount p) (count-in j) in
-    let low = not (isBelow (mapCount p) v) in
-    let b = not-true (isAbove (mapCount p) v) (and-right low _ (and-left (low && not (isAbove (mapCount p) v)) _ r)) in
-    let words = all-of (λ k. isGood (entryVerdict p (read d (mapEntry p k)))) mapSlots (λ k m. ok .words p k j m) in
+    let few = ltb-false (mapCount p .range .greatest) (read d (mapCount p)) (not-above ok (count-in j)) in
     let most = eqb-true (mapCount p .range .greatest) mostMoves (all-in (λ p. eqb (mapCount p .range .greatest) mostMoves) i few-moves) in
-    receives d p (ltb-true p eachWay (all-in (λ p. ltb p eachWay) i below-four))
-    (and-both _ _ (entries-good d j ∙ words) (ok .counts p j)) (omega (arith, ltb-false (mapCount p .range .greatest) v b, most))
+    receives d p (ltb-true p eachWay (all-in (λ p. ltb p eachWay) i below-four)) (and-both _ _ (words-legal ok j) (ok .counts p j))
+    (omega (arith, few, most))

@@ -23,8 +23,7 @@ use Rattle.rules_dictionary.proofs.Packing.{within}
 use Rattle.rules_dictionary.proofs.Plans.{mapped-in}
 use Rattle.dictionary.proofs.Bytes.{is-size}
 use Rattle.rules.specs.Outcome.{sameBy, sameMove, samePlan}
-use Rattle.rules.specs.Sound.{mappingLegal}
-use Rattle.mapping.specs.Words.{wordMove, wayOf}
+use Rattle.mapping.specs.Words.{wordMove, wayOf, mappingLegal}
 use Rattle.mapping.specs.Slots.{wordsFrom, movesNamed}
 use Rattle.mapping.specs.Moves.{joinedMoves, readyBy, MoveFits, MovesFit}
 use Rattle.mapping.proofs.Naming.{facts}

@@ -10,8 +10,8 @@ use Rattle.rules_dictionary.specs.Table.{dictionaryLength, mapCount, mostMoves}
 use Rattle.rules_dictionary.specs.Values.{read}
 use Rattle.rules_services.specs.PdoTraffic.{noData}
 use Rattle.rules.specs.Outcome.{sameData, transmitters}
-use Rattle.rules.specs.Sound.{mappingLegal}
 use Rattle.dictionary.specs.Sizes.{IsPdo}
+use Rattle.mapping.specs.Words.{mappingLegal}
 
 -- every mapping is one that gives a plan
 abbrev pub MapsLegally : List ℕ → Type 0

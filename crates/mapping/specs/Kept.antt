@@ -9,10 +9,9 @@ use Rattle.rules_dictionary.specs.Table.{Direction, mapCount, mostMoves}
 use Rattle.rules_dictionary.specs.Values.{read}
 use Rattle.rules_dictionary.specs.Plans.{mapped, planFor}
 use Rattle.rules.specs.Outcome.{samePlan, sameData, mostData}
-use Rattle.rules.specs.Sound.{mappingLegal}
 use Rattle.form.specs.Form.{wordLength, moveOf, planAt, planPlace, dataAt, dataLength, readyPlace}
 use Rattle.form.specs.Own.{planOwn, isZero, everyWord}
-use Rattle.mapping.specs.Words.{keptWord, namesOne}
+use Rattle.mapping.specs.Words.{keptWord, namesOne, mappingLegal}
 use Rattle.mapping.specs.Slots.{wordsFrom}
 use Rattle.mapping.specs.Moves.{readyBy}
 

@@ -2,12 +2,16 @@
 -- Assumes nothing.
 use Prim.Native.Nat.{ℕ, _+_, _*_, _/_, _%_, _^_}
 use mathlib.Core.List.{List, [], _∷_, flatMap}
-use mathlib.Core.Bool.{Bool, cond, not}
+use mathlib.Core.Bool.{Bool, cond, not, _&&_}
 use lib.Dec.{eqb}
 use Rattle.rules_dictionary.specs.declared.Move.{Move}
-use Rattle.rules_dictionary.specs.Table.{Row, Direction, receive, transmit, mappingWord}
+use Rattle.rules_dictionary.specs.Table.{Row, Direction, receive, transmit, mappingWord, mapCount}
 use Rattle.rules_dictionary.specs.Table.{errorRegister, errorCode, statusWord, modeDisplay, position, velocity, controlWord, mode}
 use Rattle.rules_dictionary.specs.Table.{targetPosition, profileVelocity, profileAcceleration, profileDeceleration, targetVelocity, open-table}
+use Rattle.rules_dictionary.specs.Numbers.{all}
+use Rattle.rules_dictionary.specs.Values.{read}
+use Rattle.rules_dictionary.specs.Aborts.{isGood}
+use Rattle.rules_dictionary.specs.Legal.{mapWords, entryVerdict, countVerdict}
 use Rattle.rules_dictionary.specs.Plans.{move, noMove}
 use Rattle.form.specs.Form.{half, each}
 
@@ -25,6 +29,12 @@ named w (x ∷ xs) = cond (eqb w (mappingWord x)) (move x) (named w xs)
 -- the move that a mapping word of 32 bits names that way; of no size where it names none
 unfoldable pub wordMove : Direction → ℕ → Move
 wordMove way w = named (w % 2 ^ 32) (mappables way)
+
+-- "mappings .. legal": all eight words of a PDO, and their count
+unfoldable pub mappingLegal : List ℕ → ℕ → Bool
+mappingLegal d p =
+    let ws = mapWords d p in
+    all (λ w. isGood (entryVerdict p w)) ws && isGood (countVerdict ws (read d (mapCount p)))
 
 abbrev pub wayOf : Bool → Direction
 wayOf transmits = cond transmits transmit receive

@@ -12,9 +12,8 @@ ghost use lib.ListN.{length};
 ghost use Rattle.rules_dictionary.specs.Table.{mapCount, mostMoves, dictionaryLength};
 ghost use Rattle.rules_dictionary.specs.Values.{read};
 ghost use Rattle.rules_dictionary.specs.Plans.{mapped, planFor};
-ghost use Rattle.rules.specs.Sound.{mappingLegal};
 ghost use Rattle.dictionary.specs.Sizes.{IsPdo};
-ghost use Rattle.mapping.specs.Words.{wayOf};
+ghost use Rattle.mapping.specs.Words.{wayOf, mappingLegal};
 ghost use Rattle.mapping.specs.Slots.{movesNamed};
 
 // The moves that the first mapping words from a place on name, then spare slots.

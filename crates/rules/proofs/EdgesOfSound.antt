@@ -22,7 +22,7 @@ use Rattle.drive.specs.declared.Store.the-variants.{Empty, Rested, Moving, Queu
 use Rattle.drive.specs.declared.Drive.{Drive}
 use Rattle.rules_dictionary.specs.TheNode.{isNodeId}
 use Rattle.rules_dictionary.specs.Table.{table, deviceType, syncIdentifier, emergencyIdentifier, supportedModes, limitCount, communicationCount}
-use Rattle.rules_dictionary.specs.Table.{mapCount, positionWindow, profileAcceleration, profileDeceleration, transmissionType, mapEntry, identifier}
+use Rattle.rules_dictionary.specs.Table.{mapCount, positionWindow, profileAcceleration, profileDeceleration, transmissionType, mapEntry, mapSlots, identifier}
 use Rattle.rules_dictionary.specs.Table.{controlWord, mode, modeDisplay, heartbeatTime, errorCode, velocity, position, windowTime}
 use Rattle.rules_dictionary.specs.Values.{Write, write, stored, packedDefaults}
 use Rattle.drive.specs.SetPoints.{withMode, withCause, withStay}
@@ -30,8 +30,8 @@ use Rattle.rules_services.specs.Effects.{writes, becomes, withDrive, withPaces,
 use Rattle.rules_services.specs.PdoTraffic.{idle}
 use Rattle.rules_services.specs.Nmt.{freshState}
 use Rattle.rules.specs.Outcome.{End, ended}
-use Rattle.rules.specs.Sound.{sound, dictionarySound, driveSound, waitingSound, constantsAsListed, valuesInRange, mappingsLegal}
-use Rattle.rules.specs.Sound.{identifiersLegal, statusAsMade, modeAsMade, plansFresh, readyFresh, storeInPlace, takenInPlace}
+use Rattle.rules.specs.Sound.{sound, dictionarySound, driveSound, waitingSound, constantsAsListed, valuesLegal}
+use Rattle.rules.specs.Sound.{statusAsMade, modeAsMade, plansFresh, readyFresh, storeInPlace, takenInPlace}
 use Rattle.rules.specs.Sound.{causeInPlace, heartbeatSound, transferSound, staySound}
 use Rattle.rules.specs.Scripts.{nothing, open-rules}
 
@@ -40,8 +40,7 @@ use Rattle.rules.specs.Scripts.{nothing, open-rules}
 clauses : State → List ℕ → List Bool
 clauses s d =
     let v = s .axis .drive in
-    isNodeId (s .node .id) ∷ constantsAsListed (s .node .id) d ∷ valuesInRange d ∷ mappingsLegal d ∷ identifiersLegal d ∷ statusAsMade s d
-    ∷ modeAsMade s d ∷ plansFresh s d ∷ readyFresh s d ∷ storeInPlace v ∷ takenInPlace v d ∷ causeInPlace v
+    isNodeId (s .node .id) ∷ constantsAsListed (s .node .id) d ∷ valuesLegal d ∷ statusAsMade s d ∷ modeAsMade s d ∷ plansFresh s d ∷ readyFresh s d ∷ storeInPlace v ∷ takenInPlace v d ∷ causeInPlace v
     ∷ heartbeatSound (s .node .heartbeat) d ∷ waitingSound s d ∷ transferSound (s .transfer) ∷ staySound v d ∷ []
 
 every : Bool → List Bool → Bool
@@ -55,11 +54,11 @@ sound-by-clauses s d = simp (and-assoc)
 
 -- all but the one of that number, from 0
 but : ℕ → List Bool
-but k = replicate k true ++ false ∷ replicate (15 - k) true
+but k = replicate k true ++ false ∷ replicate (13 - k) true
 
--- one clause of the sixteen that does not hold is enough
-one-is-enough : map (λ k. every true (but k)) (0 ∷ 1 ∷ 2 ∷ 3 ∷ 4 ∷ 5 ∷ 6 ∷ 7 ∷ 8 ∷ 9 ∷ 10 ∷ 11 ∷ 12 ∷ 13 ∷ 14 ∷ 15 ∷ [])
-    ≡ replicate 16 false
+-- one clause of the fourteen that does not hold is enough
+one-is-enough : map (λ k. every true (but k)) (0 ∷ 1 ∷ 2 ∷ 3 ∷ 4 ∷ 5 ∷ 6 ∷ 7 ∷ 8 ∷ 9 ∷ 10 ∷ 11 ∷ 12 ∷ 13 ∷ [])
+    ≡ replicate 14 false
 unfolding every but
 one-is-enough = refl
 
@@ -101,13 +100,13 @@ node-id-alone = (refl, refl, refl, refl, refl)
 
 -- "constants as listed, values in range, mappings and PDO identifiers legal": 6502h 7, 6083h 0, a transmit object in 1600h:8, 1400h:1 305h
 dictionary-alone : (said resting (write supportedModes 7 ∷ []) same ≡ but 1) × (said resting (write profileAcceleration 0 ∷ []) same ≡ but 2)
-    × (said resting (write (mapEntry 0 8) 0x60410010 ∷ []) same ≡ but 3) × (said resting (write (identifier 0) 0x305 ∷ []) same ≡ but 4)
+    × (said resting (write (mapEntry 0 8) 0x60410010 ∷ []) same ≡ but 2) × (said resting (write (identifier 0) 0x305 ∷ []) same ≡ but 2)
 unfolding open-said
 dictionary-alone = (refl, refl, refl, refl)
 
 -- "6041h, 6061h as the rules make them": voltage on, Stopped; the drive's own mode
-made-alone : (said resting [] (withVoltage true) ≡ but 5) × (said resting [] (withNmt Stopped) ≡ but 5)
-    × (said resting [] (λ s. withDrive (withMode ProfileVelocity (s .axis .drive)) s) ≡ but 6)
+made-alone : (said resting [] (withVoltage true) ≡ but 3) × (said resting [] (withNmt Stopped) ≡ but 3)
+    × (said resting [] (λ s. withDrive (withMode ProfileVelocity (s .axis .drive)) s) ≡ but 4)
 unfolding open-said
 made-alone = (refl, refl, refl)
 
@@ -118,27 +117,27 @@ fresh-alone : (said resting [] (λ s. withAxis (record {
   ready = s .axis .ready;
   held = s .axis .held;
   paces = s .axis .paces;
-}) s) ≡ but 7)
+}) s) ≡ but 5)
     × (said resting [] (λ s. withAxis (record {
       drive = s .axis .drive;
       plans = s .axis .plans;
       ready = [];
       held = s .axis .held;
       paces = s .axis .paces;
-    }) s) ≡ but 8)
+    }) s) ≡ but 6)
 unfolding open-said
 fresh-alone = (refl, refl)
 
 -- a store in mode 3; the taken mark under 0Fh; a cause in Operation enabled
-drive-alone : (said (driven OperationEnabled ProfileVelocity (Rested 0) false false) (write mode 3 ∷ []) same ≡ but 9)
-    × (said (driven OperationEnabled ProfilePosition (Rested 0) true true) (write mode 1 ∷ write controlWord 0x0F ∷ []) same ≡ but 10)
-    × (said (withCause true (driven OperationEnabled NoMode Empty false false)) [] same ≡ but 11)
+drive-alone : (said (driven OperationEnabled ProfileVelocity (Rested 0) false false) (write mode 3 ∷ []) same ≡ but 7)
+    × (said (driven OperationEnabled ProfilePosition (Rested 0) true true) (write mode 1 ∷ write controlWord 0x0F ∷ []) same ≡ but 8)
+    × (said (withCause true (driven OperationEnabled NoMode Empty false false)) [] same ≡ but 9)
 unfolding open-said
 drive-alone = (refl, refl, refl)
 
 -- the heartbeat count at 1017h; a due mark of type 0 in Pre-operational
-time-alone : (said resting (write heartbeatTime 3 ∷ []) (withHeartbeat 3) ≡ but 12)
-    × (said resting (write (transmissionType 4) 0 ∷ []) (withPaces (record { count = 0; due = true } ∷ idle ∷ idle ∷ idle ∷ [])) ≡ but 13)
+time-alone : (said resting (write heartbeatTime 3 ∷ []) (withHeartbeat 3) ≡ but 10)
+    × (said resting (write (transmissionType 4) 0 ∷ []) (withPaces (record { count = 0; due = true } ∷ idle ∷ idle ∷ idle ∷ [])) ≡ but 11)
 unfolding open-said
 time-alone = (refl, refl)
 
@@ -170,8 +169,8 @@ unfitting =
     Uploading 3 ∷ download target false 6 (0x00 ∷ 0x00 ∷ 0x00 ∷ 0x00 ∷ []) ∷ download target false 3 (0x00 ∷ 0x00 ∷ 0x00 ∷ 0x01 ∷ []) ∷ []
 
 -- the transfer alone, which no other clause looks at
-transfer-alone : (map (λ t. said resting [] (withTransfer t)) unfitting ≡ replicate 3 (but 14))
-    × (map (λ t. said resting [] (withTransfer t)) fitting ≡ replicate 3 (replicate 16 true))
+transfer-alone : (map (λ t. said resting [] (withTransfer t)) unfitting ≡ replicate 3 (but 12))
+    × (map (λ t. said resting [] (withTransfer t)) fitting ≡ replicate 3 (replicate 14 true))
     × (let e = made resting [] in map (λ t. sound (withTransfer t (e .state)) (e .dictionary)) unfitting ≡ replicate 3 false)
 unfolding fitting unfitting open-said
 transfer-alone = (refl, refl, refl)
@@ -210,15 +209,15 @@ stayed ws n st = said (driven OperationEnabled ProfilePosition st false false) w
 
 -- ticket 2, "the count is 0 unless the store is not Empty and the position is inside": a count of 1 outside, or with an Empty store, breaks this
 -- clause alone, with a window time too; inside the greatest count passes
-stay-alone : (map (stayed about 1) outsides ≡ replicate 4 (but 15)) × (stayed (write windowTime 2 ∷ about) 65535 (Rested 1011) ≡ but 15)
-    × (map (stayed about 65535) insides ≡ replicate 3 (replicate 16 true))
+stay-alone : (map (stayed about 1) outsides ≡ replicate 4 (but 13)) × (stayed (write windowTime 2 ∷ about) 65535 (Rested 1011) ≡ but 13)
+    × (map (stayed about 65535) insides ≡ replicate 3 (replicate 14 true))
     × (let e = made (driven OperationEnabled ProfilePosition (Rested 1011) false false) about in
     map (λ n. sound (withDrive (withStay n (e .state .axis .drive)) (e .state)) (e .dictionary)) (0 ∷ 1 ∷ []) ≡ true ∷ false ∷ [])
 unfolding about insides outsides stayed open-said
 stay-alone = (refl, refl, refl, refl)
 
 -- inside with a window time, 6041h made at a count below it: a count that has come to it wants bit 10
-stay-shown : map (λ n. stayed (write windowTime 2 ∷ about) n (Rested 1010)) (1 ∷ 2 ∷ []) ≡ replicate 16 true ∷ but 5 ∷ []
+stay-shown : map (λ n. stayed (write windowTime 2 ∷ about) n (Rested 1010)) (1 ∷ 2 ∷ []) ≡ replicate 14 true ∷ but 3 ∷ []
 unfolding about stayed open-said
 stay-shown = refl
 
@@ -238,31 +237,31 @@ unfolding with packedDefaults open-rules
 constants-told = (refl, refl)
 
 -- "6067 u32 w 0..7FFFFFFFh", "6083, 6084 .. least 1", "Types 0..240, 254, 255", ":0 has the range 0..8"; receive and transmit
-ranges-told : (map (λ w. valuesInRange (with (w ∷ [])))
+ranges-told : (map (λ w. valuesLegal (with (w ∷ [])))
     (write positionWindow 0x80000000 ∷ write profileDeceleration 0 ∷ write (transmissionType 0) 241 ∷ write (transmissionType 7) 253
     ∷ write (mapCount 7) 9 ∷ write mode 2 ∷ [])
     ≡ replicate 6 false)
-    × (valuesInRange (with (write positionWindow 0x7FFFFFFF ∷ write (transmissionType 0) 240 ∷ write (transmissionType 7) 254
-    ∷ write (mapCount 7) 8 ∷ [])) ≡ true)
+    × (valuesLegal (with (write positionWindow 0x7FFFFFFF ∷ write (transmissionType 0) 240 ∷ write (transmissionType 7) 254 ∷ [])) ≡ true)
+    × (valuesLegal (with (write (mapCount 7) 8 ∷ map (λ k. write (mapEntry 7 k) 0x10010008) mapSlots)) ≡ true)
 unfolding with packedDefaults open-rules
-ranges-told = (refl, refl)
+ranges-told = (refl, refl, refl)
 
 -- "mappings .. legal": a missing index, a missing subindex, a wrong length, a wrong direction, each behind the count too; a zero among the
 -- first n; 65 to 72 bits are too many
-mappings-told : (map (λ w. mappingsLegal (with (w ∷ [])))
+mappings-told : (map (λ w. valuesLegal (with (w ∷ [])))
     (write (mapEntry 3 8) 0x60000010 ∷ write (mapEntry 3 8) 0x60400110 ∷ write (mapEntry 3 8) 0x60400008 ∷ write (mapEntry 7 8) 0x60400010
     ∷ write (mapEntry 0 1) 0 ∷ write (mapCount 4) 2 ∷ [])
     ≡ replicate 6 false)
-    × (map (λ w. mappingsLegal (with (write (mapCount 0) 3 ∷ write (mapEntry 0 1) 0x607A0020 ∷ write (mapEntry 0 2) 0x60400010 ∷ w ∷ [])))
+    × (map (λ w. valuesLegal (with (write (mapCount 0) 3 ∷ write (mapEntry 0 1) 0x607A0020 ∷ write (mapEntry 0 2) 0x60400010 ∷ w ∷ [])))
     (write (mapEntry 0 3) 0x60400010 ∷ write (mapEntry 0 3) 0x607A0020 ∷ []) ≡ true ∷ false ∷ [])
 unfolding with packedDefaults open-rules
 mappings-told = (refl, refl)
 
 -- "bit 31 invalid; bit 30 is 1 for transmit, 0 for receive; 29-11 zero; a valid one lies in 181h..57Fh and differs from every other valid PDO"
-identifiers-told : (map (λ v. identifiersLegal (with (write (identifier 0) v ∷ [])))
+identifiers-told : (map (λ v. valuesLegal (with (write (identifier 0) v ∷ [])))
     (0x180 ∷ 0x580 ∷ 0x40000205 ∷ 0xC0000205 ∷ 0x00000A05 ∷ 0x20000205 ∷ 0x305 ∷ 0x185 ∷ []) ≡ replicate 8 false)
-    × (map (λ v. identifiersLegal (with (write (identifier 0) v ∷ []))) (0x181 ∷ 0x57F ∷ 0x80000000 ∷ 0x80000305 ∷ []) ≡ replicate 4 true)
-    × (map (λ v. identifiersLegal (with (write (identifier 7) v ∷ []))) (0x485 ∷ 0x80000485 ∷ 0x40000205 ∷ 0xC0000205 ∷ [])
+    × (map (λ v. valuesLegal (with (write (identifier 0) v ∷ []))) (0x181 ∷ 0x57F ∷ 0x80000000 ∷ 0x80000305 ∷ []) ≡ replicate 4 true)
+    × (map (λ v. valuesLegal (with (write (identifier 7) v ∷ []))) (0x485 ∷ 0x80000485 ∷ 0x40000205 ∷ 0xC0000205 ∷ [])
     ≡ false ∷ false ∷ false ∷ true ∷ [])
 unfolding with packedDefaults open-rules
 identifiers-told = (refl, refl, refl)

@@ -3,20 +3,20 @@
 -- Assumes nothing.
 use Prim.Native.Nat.{ℕ, suc}
 use mathlib.Core.Path.{_≡_, refl}
-use mathlib.Core.Bool.{Bool, true, _&&_}
+use mathlib.Core.Bool.{Bool, true}
 use mathlib.Core.List.{List, append-nil}
 use lib.ListN.{length}
 use Rattle.state.specs.declared.State.{State}
 use Rattle.rules_dictionary.specs.TheNode.{lastNode, isNodeId}
 use Rattle.rules_dictionary.specs.Table.{table, dictionaryLength}
-use Rattle.rules_dictionary.proofs.Tests.{and-left, and-right, allBelow, on-nodes}
+use Rattle.rules_dictionary.proofs.Tests.{allBelow, on-nodes}
 use Rattle.rules_dictionary.proofs.Defaults.{all-defaults}
 use Rattle.rules_dictionary.specs.Values.{stored, packedDefaults}
 use Rattle.drive.specs.Window.{inside, counted, staying}
 use Rattle.rules_services.specs.Nmt.{powerUp, freshState, bootUp}
 use Rattle.rules_services.specs.Effects.{sends, becomes}
 use Rattle.rules.specs.Outcome.{End, ended, driveAtEnd, settled}
-use Rattle.rules.specs.Sound.{sound, dictionarySound, constantsAsListed, valuesInRange, mappingsLegal, identifiersLegal, statusAsMade}
+use Rattle.rules.specs.Sound.{sound, dictionarySound, statusAsMade}
 use Rattle.rules.specs.Sound.{modeAsMade, plansFresh, readyFresh, driveSound, heartbeatSound, waitingSound, transferSound, staySound}
 use Rattle.rules.specs.Scripts.{open-rules}
 
@@ -26,7 +26,7 @@ freshDictionary n = settled (freshState n) (packedDefaults n table)
 
 -- what the node-ID stands in
 nodeSound : ℕ → Bool
-nodeSound n = let d = freshDictionary n in constantsAsListed n d && valuesInRange d && identifiersLegal d
+nodeSound n = dictionarySound n (freshDictionary n)
 
 node-test : allBelow (λ k. nodeSound (suc k)) lastNode ≡ true
 unfolding nodeSound freshDictionary packedDefaults open-rules
@@ -42,8 +42,7 @@ as-fresh n s d h = rw (append-nil, all-defaults n d h)
 
 -- what the node-ID does not stand in
 rest : (n : ℕ) (s : State) →
-    (mappingsLegal (freshDictionary n) ≡ true)
-    × (statusAsMade (freshEnd n s .state) (freshDictionary n) ≡ true)
+    (statusAsMade (freshEnd n s .state) (freshDictionary n) ≡ true)
     × (modeAsMade (freshEnd n s .state) (freshDictionary n) ≡ true)
     × (plansFresh (freshEnd n s .state) (freshDictionary n) ≡ true)
     × (readyFresh (freshEnd n s .state) (freshDictionary n) ≡ true)
@@ -53,19 +52,13 @@ rest : (n : ℕ) (s : State) →
     × (transferSound (freshEnd n s .state .transfer) ≡ true)
     × (staySound (freshEnd n s .state .axis .drive) (freshDictionary n) ≡ true)
 unfolding freshEnd freshDictionary packedDefaults open-rules
-rest n s = (refl, refl, refl, refl, refl, refl, refl, refl, refl, refl)
+rest n s = (refl, refl, refl, refl, refl, refl, refl, refl, refl)
 
 fresh-sound : (n : ℕ) (s : State) → isNodeId n ≡ true → sound (freshEnd n s .state) (freshEnd n s .dictionary) ≡ true
-unfolding freshEnd freshDictionary ended driveAtEnd staying counted inside stored freshState sound dictionarySound nodeSound
+unfolding freshEnd freshDictionary ended driveAtEnd staying counted inside stored freshState sound nodeSound
 fresh-sound n s p =
-    let d = freshDictionary n in
-    let q : (constantsAsListed n d && valuesInRange d && identifiersLegal d) ≡ true = on-nodes nodeSound node-test n p in
-    let qs : (constantsAsListed n d && valuesInRange d) ≡ true = and-left _ (identifiersLegal d) q in
-    let listed : constantsAsListed n d ≡ true = and-left _ (valuesInRange d) qs in
-    let ranged : valuesInRange d ≡ true = and-right (constantsAsListed n d) _ qs in
-    let named : identifiersLegal d ≡ true = and-right (constantsAsListed n d && valuesInRange d) _ q in
     let r = rest n s in
-    rw (p, listed, ranged, named, r .0, r .1, r .2, r .3, r .4, r .5, r .6, r .7, r .8, r .9)
+    rw (p, on-nodes nodeSound node-test n p, r .0, r .1, r .2, r .3, r .4, r .5, r .6, r .7, r .8)
 
 -- THE THEOREM
 pub power-up-sound : (n : ℕ) (s : State) (d : List ℕ) → isNodeId n ≡ true → length d ≡ dictionaryLength →

@@ -4,7 +4,7 @@ use Prim.Native.Nat.{ℕ, _*_}
 use mathlib.Core.List.{List, [], _∷_}
 use mathlib.Core.Bool.{Bool, true, false, cond, not, _&&_, _||_}
 use lib.Dec.{eqb, leb, ltb}
-use lib.ListN.{length, take, getD}
+use lib.ListN.{length, take}
 use Rattle.state.specs.declared.NmtState.{NmtState}
 use Rattle.state.specs.declared.Pace.{Pace}
 use Rattle.drive.specs.declared.Drive.{Drive}
@@ -16,12 +16,10 @@ use Rattle.state.specs.declared.State.{State}
 use Rattle.rules_dictionary.specs.Numbers.{all, bit, padded}
 use Rattle.rules_dictionary.specs.TheNode.{isNodeId}
 use Rattle.rules_dictionary.specs.DeviceName.{deviceName}
-use Rattle.rules_dictionary.specs.Table.{Row, table, isConstant, pdos, receivePdos, transmitPdos, mapCount, statusWord, mode, modeDisplay}
+use Rattle.rules_dictionary.specs.Table.{table, isConstant, receivePdos, transmitPdos, statusWord, mode, modeDisplay}
 use Rattle.rules_dictionary.specs.Table.{controlWord, heartbeatTime}
 use Rattle.rules_dictionary.specs.Values.{read, defaultOf, unpacked}
-use Rattle.rules_dictionary.specs.Aborts.{isGood}
-use Rattle.rules_dictionary.specs.Legal.{isBelow, isAbove, badChoice, entryVerdict, countVerdict, mapWords, identifiers, badIdentifier, modeNumber}
-use Rattle.rules_dictionary.specs.Legal.{isSynchronous, isCyclic}
+use Rattle.rules_dictionary.specs.Legal.{modeNumber, isSynchronous, isCyclic}
 use Rattle.rules_dictionary.specs.Plans.{plansOf, readyOf, mapped, pdoData}
 use Rattle.drive.specs.DriveStates.{isFaulty}
 use Rattle.drive.specs.SetPoints.{positions, isEmpty, newSetPointBit}
@@ -42,27 +40,9 @@ pairwise f (x ∷ xs) (y ∷ ys) = f x y && pairwise f xs ys
 unfoldable pub constantsAsListed : ℕ → List ℕ → Bool
 constantsAsListed n d = all (λ w. not (isConstant (w .row .access)) || eqb (w .value) (defaultOf n (w .row))) (unpacked table d)
 
--- "values in range"
-unfoldable pub inRange : Row → ℕ → Bool
-inRange x v = not (isBelow x v) && not (isAbove x v) && not (badChoice (x .role) v)
-
-unfoldable pub valuesInRange : List ℕ → Bool
-valuesInRange d = all (λ w. inRange (w .row) (w .value)) (unpacked table d)
-
--- "mappings .. legal": all eight entries, and the count
-unfoldable pub mappingLegal : List ℕ → ℕ → Bool
-mappingLegal d p =
-    let ws = mapWords d p in
-    all (λ w. isGood (entryVerdict p w)) ws && isGood (countVerdict ws (read d (mapCount p)))
-
-unfoldable pub mappingsLegal : List ℕ → Bool
-mappingsLegal d = all (mappingLegal d) pdos
-
--- "PDO identifiers legal"
-unfoldable pub identifiersLegal : List ℕ → Bool
-identifiersLegal d =
-    let ws = identifiers d in
-    all (λ p. not (badIdentifier ws p (getD ws p 0))) pdos
+-- "values in range, mappings and PDO identifiers legal": each row holds what it may hold in this dictionary, beside all others
+unfoldable pub valuesLegal : List ℕ → Bool
+valuesLegal d = areLegal d (unpacked table d)
 
 -- "6041h, 6061h as the rules make them"
 unfoldable pub statusAsMade : State → List ℕ → Bool
@@ -137,7 +117,7 @@ staySound v d = eqb (v .stay) 0 || inside (v .store) d
 
 -- of the dictionary alone
 unfoldable pub dictionarySound : ℕ → List ℕ → Bool
-dictionarySound n d = constantsAsListed n d && valuesInRange d && mappingsLegal d && identifiersLegal d
+dictionarySound n d = constantsAsListed n d && valuesLegal d
 
 -- of the drive
 unfoldable pub driveSound : Drive → List ℕ → Bool
@@ -166,7 +146,7 @@ sound s d =
 
 -- opens every definition of this module, where a proof computes
 unfoldable pub open-sound : Unit {0}
-unfolding constantsAsListed inRange valuesInRange mappingLegal mappingsLegal identifiersLegal statusAsMade modeAsMade plansFresh readyFresh
+unfolding constantsAsListed valuesLegal statusAsMade modeAsMade plansFresh readyFresh
     storeInPlace takenInPlace causeInPlace countSound heartbeatSound receiptSound transferSound staySound dueSound paceSound heldSound
     dictionarySound driveSound waitingSound sound
 open-sound = tt

@@ -1,4 +1,4 @@
--- Document 01, 'SDO': what value a row may hold. An SDO write, a received frame and soundness all go by these.
+-- Document 01, 'SDO': what value a row may hold in a dictionary. An SDO write, a received frame and soundness all go by it.
 -- Assumes nothing.
 use Prim.Native.Nat.{ℕ, _*_}
 use mathlib.Core.List.{List, [], _∷_, map}
@@ -14,7 +14,7 @@ use Rattle.rules_dictionary.specs.Table.{Row, Mappable, unmappable, toRe
 use Rattle.rules_dictionary.specs.Table.{identifier, mapEntry, mapSlots, wordsPlace, wordIndex, wordSubindex, wordLength, sizeOf, Found, found}
 use Rattle.rules_dictionary.specs.Table.{theName, noObject as missing, noSubindex as missingSubindex, lookup}
 use Rattle.rules_dictionary.specs.Values.{read, unpacked}
-use Rattle.rules_dictionary.specs.Aborts.{Verdict, good, bad, test, firstOf, noObject, noSubindex, belowRange, aboveRange, badValue}
+use Rattle.rules_dictionary.specs.Aborts.{Verdict, good, bad, isGood, test, firstOf, noObject, noSubindex, belowRange, aboveRange, badValue}
 use Rattle.rules_dictionary.specs.Aborts.{notMappable, overLength}
 
 -- ---- modes: "Mode must be 0, 1 or 3"
@@ -177,6 +177,10 @@ valueVerdict d x v =
     ∷ test (otherBadValue d (x .role) v) badValue
     ∷ [])
     (mappingVerdict d (x .role) v)
+
+-- the row may hold that value in this dictionary
+abbrev pub mayHold : List ℕ → Row → ℕ → Bool
+mayHold d x v = isGood (valueVerdict d x v)
 
 -- opens every definition of this module, where a proof computes
 unfoldable pub open-legal : Unit {0}

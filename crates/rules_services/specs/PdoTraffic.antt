@@ -17,8 +17,7 @@ use Rattle.state.specs.declared.State.{State}
 use Rattle.rules_dictionary.specs.Numbers.{all, sum}
 use Rattle.rules_dictionary.specs.Table.{Row, sizeOf, identifier, transmissionType, mapCount, receivePdos}
 use Rattle.rules_dictionary.specs.Values.{Write, read, unpacked}
-use Rattle.rules_dictionary.specs.Aborts.{isGood}
-use Rattle.rules_dictionary.specs.Legal.{isValid, frameIdentifier, isSynchronous, isCyclic, valueVerdict}
+use Rattle.rules_dictionary.specs.Legal.{isValid, frameIdentifier, isSynchronous, isCyclic, mayHold}
 use Rattle.rules_dictionary.specs.Plans.{mapped, pdoData}
 use Rattle.rules_services.specs.Effects.{Effect, Frame, frame, becomes, sends, on, andThen, withHeld}
 use Rattle.rules_services.specs.Emergency.{emergency, pdoTooShort, pdoTooLong, valueRefused, badSyncLength}
@@ -38,9 +37,9 @@ typeOf d p = read d (transmissionType p)
 unfoldable pub mappedLength : List Row → ℕ
 mappedLength xs = sum (map sizeOf xs)
 
--- no value that SDO would refuse
+-- each row may hold its value in this dictionary: none that SDO would refuse
 unfoldable pub areLegal : List ℕ → List Write → Bool
-areLegal d ws = all (λ w. isGood (valueVerdict d (w .row) (w .value))) ws
+areLegal d ws = all (λ w. mayHold d (w .row) (w .value)) ws
 
 -- "Types 254, 255 apply at once; others are held, the latest kept, until SYNC."
 unfoldable pub heldOrApplied : ℕ → List ℕ → State → List ℕ → Effect

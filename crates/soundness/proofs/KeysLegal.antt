@@ -2,12 +2,12 @@
 -- Assumes nothing.
 use Prim.Native.Nat.{ℕ, _<_}
 use native.Mathlib.Omega.{arith}
-use mathlib.Core.Path.{_≡_, refl, sym, _∙_, ap, ap₂, subst}
+use mathlib.Core.Path.{_≡_, refl, sym, _∙_, ap, ap₂}
 use mathlib.Core.Bool.{true, false, not, _&&_}
 use mathlib.Core.List.{List, map}
 use borrow.Author.Tests.{ltb-true, not-true}
 use lib.Dec.{eqb, ltb}
-use lib.ListN.{length, getD}
+use lib.ListN.{length}
 use Rattle.rules_dictionary.specs.Numbers.{all, areBytes}
 use Rattle.rules_dictionary.specs.Table.{pdos, receivePdos, transmitPdos, identifier, dictionaryLength}
 use Rattle.rules_dictionary.specs.Values.{read}
@@ -17,11 +17,10 @@ use Rattle.rules_dictionary.proofs.Tests.{and-left, and-right, and-both, all-in
 use Rattle.rules_dictionary.proofs.Packing.{within}
 use Rattle.rules_dictionary.proofs.Rows.{read-fits}
 use Rattle.rules_dictionary.proofs.Members.{all-of, in-map, identifier-in}
-use Rattle.rules.specs.Sound.{identifiersLegal}
 use Rattle.theorems.proofs.Booleans.{false-not, and-false-if, and-then-false, eqb-comm}
-use Rattle.theorems.proofs.Dictionary.{of-pdo, Fits, fits, fits-back, badAlone}
+use Rattle.theorems.proofs.Dictionary.{Fits, fits, fits-back, badAlone}
 use Rattle.mapping.proofs.Orders.{both-ways}
-use Rattle.soundness.specs.Keys.{keyIn, isLegalKey, distinct, areApart}
+use Rattle.soundness.specs.Keys.{identifiersLegal, keyIn, isLegalKey, distinct, areApart}
 use Rattle.soundness.proofs.Distinct.{all-mapped, apart-in, of-apart, by-direction}
 use Rattle.soundness.proofs.KeyMeaning.{meaning, key-means, legal-alone, alike}
 
@@ -75,22 +74,14 @@ module _ (d : List ℕ) (long : length d ≡ dictionaryLength) (bytes : areBytes
 
   -- ---- words that fit are legal identifiers, and back
 
-  at-word : {p : ℕ} → In p pdos → getD (identifiers d) p 0 ≡ word p
-  unfolding identifiers word
-  at-word i = of-pdo (λ q. read d (identifier q)) 0 i
-
   legal-fits : identifiersLegal d ≡ true → (p : ℕ) → In p pdos → Fits word p (word p)
   unfolding identifiersLegal identifiers word
-  legal-fits h p i =
-      fits word (word p) i
-      (subst (λ (w : ℕ). badIdentifier (identifiers d) p w ≡ false) (at-word i)
-      (not-true _ (all-in (λ p. not (badIdentifier (identifiers d) p (getD (identifiers d) p 0))) i h)))
+  legal-fits h p i = fits word (word p) i (not-true _ (all-in (λ p. not (badIdentifier (map word pdos) p (word p))) i h))
 
   fits-legal : ((p : ℕ) → In p pdos → Fits word p (word p)) → identifiersLegal d ≡ true
   unfolding identifiersLegal identifiers word
   fits-legal g =
-      all-of (λ p. not (badIdentifier (identifiers d) p (getD (identifiers d) p 0))) pdos (λ p i.
-      false-not _ (subst (λ (w : ℕ). badIdentifier (identifiers d) p w ≡ false) (sym (at-word i)) (fits-back word (word p) i (g p i) refl)))
+      all-of (λ p. not (badIdentifier (map word pdos) p (word p))) pdos (λ p i. false-not _ (fits-back word (word p) i (g p i) refl))
 
   keys-legal : (all isLegalKey (keys d) && distinct (keys d)) ≡ identifiersLegal d
   keys-legal = both-ways _ _ (λ h. fits-legal (from-keys h)) (λ h. to-keys (legal-fits h))

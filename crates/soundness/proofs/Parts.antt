@@ -2,40 +2,84 @@
 -- Assumes nothing.
 use Prim.Native.Nat.{ℕ, _<_}
 use mathlib.Core.Path.{_≡_, refl, sym, _∙_, ap}
-use mathlib.Core.Bool.{Bool, true, _&&_, and-assoc, and-comm, and-false}
+use mathlib.Core.Bool.{Bool, true, not, _&&_, and-assoc, and-comm, and-false}
 use mathlib.Core.List.{List, [], _∷_, map}
+use borrow.Author.Tests.{eqb-true, not-true}
 use lib.ListN.{length, getD}
 use Rattle.drive.specs.declared.Drive.{Drive}
 use Rattle.state.specs.declared.Node.{Node}
 use Rattle.state.specs.declared.State.{State}
 use Rattle.rules_dictionary.specs.Numbers.{all, areBytes}
 use Rattle.rules_dictionary.specs.TheNode.{isNodeId}
-use Rattle.rules_dictionary.specs.Table.{pdos, transmitPdos, dictionaryLength}
+use Rattle.rules_dictionary.specs.Table.{table, isConstant, identifier, pdos, transmitPdos, dictionaryLength}
+use Rattle.rules_dictionary.specs.Values.{write, read, unpacked}
+use Rattle.rules_dictionary.specs.Aborts.{isGood}
+use Rattle.rules_dictionary.specs.Legal.{entryVerdict, mapWords, identifiers, badIdentifier}
+use Rattle.rules_dictionary.specs.Members.{In}
+use Rattle.rules_dictionary.proofs.Tests.{and-left, and-right, and-both, all-in}
+use Rattle.rules_dictionary.proofs.Members.{all-of}
 use Rattle.rules_dictionary.specs.Plans.{mapped, planFor, plansOf, readyFor, readyOf}
 use Rattle.rules.specs.Outcome.{sameBy, samePlan, sameData, statusOf}
-use Rattle.rules.specs.Sound.{pairwise, constantsAsListed, valuesInRange, mappingLegal, mappingsLegal, identifiersLegal, dictionarySound}
+use Rattle.rules.specs.Sound.{pairwise, constantsAsListed, valuesLegal, dictionarySound}
 use Rattle.rules.specs.Sound.{statusAsMade, modeAsMade, plansFresh, readyFresh, driveSound, heartbeatSound, waitingSound, transferSound, staySound}
 use Rattle.rules.specs.Sound.{sound}
+use Rattle.theorems.proofs.Booleans.{false-not, implied}
+use Rattle.theorems.proofs.Dictionary.{of-values, words-legal, word-legal, listed, from-test, to-test}
 use Rattle.form.specs.Form.{transferPlace, stateLength, stateOf, isForm}
 use Rattle.form.specs.Own.{headOwn, transferOwn, plansOwn, isOwn}
 use Rattle.form.proofs.OneForm.{is-own}
 use Rattle.mapping.proofs.Assembly.{are-bytes}
-use Rattle.mapping.proofs.Orders.{swap}
+use Rattle.mapping.specs.Words.{mappingLegal}
+use Rattle.mapping.proofs.Orders.{swap, both-ways}
 use Rattle.soundness.specs.Rows.{rowTests, fewMoves}
+use Rattle.soundness.specs.Keys.{identifiersLegal}
 use Rattle.soundness.specs.Kept.{plansKept, plansKeptIn, readyKept}
 use Rattle.soundness.specs.Waiting.{waitSound}
 use Rattle.soundness.specs.Transfers.{transferClear}
 use Rattle.soundness.specs.Parts.{dictionaryClauses, driveClauses, pdoClauses}
-use Rattle.soundness.proofs.RowTests.{rows-tested}
+use Rattle.soundness.proofs.RowTests.{ranged, rows-tested}
 
--- the clauses of the rules and those of the code; c and v are tested as k and f
-ordered : (n c v m i s o p r w h t x y k f : Bool) → (c && v) ≡ (k && f) →
-    (n && (c && v && m && i) && s && o && p && r && w && h && t && x && y)
-    ≡ (x && (y && (n && ((k && i) && (((s && o) && (w && h)) && ((f && (m && p)) && (r && t)))))))
-ordered n c v m i s o p r w h t x y k f e = (simp (and-assoc, swap)) ∙ ap (λ (x : Bool). x && rest) e ∙ (simp (and-assoc, and-comm, swap))
+-- ---- the dictionary: what each row may hold, in parts
+
+-- the clauses of a dictionary by themselves
+abbrev apart-clauses : ℕ → List ℕ → Bool
+apart-clauses n d = (constantsAsListed n d && all ranged (unpacked table d)) && (all (mappingLegal d) pdos && identifiersLegal d)
+
+dictionary-parts : (n : ℕ) (d : List ℕ) → dictionarySound n d ≡ apart-clauses n d
+unfolding dictionarySound constantsAsListed mappingLegal identifiersLegal ranged listed
+dictionary-parts n d = both-ways _ _ to from
   where
-    rest : Bool
-    rest = n && (i && (s && (o && (w && (h && (m && (p && (r && (t && (x && y))))))))))
+    to : dictionarySound n d ≡ true → apart-clauses n d ≡ true
+    to h =
+        let ok = from-test n d h in
+        and-both _ _
+        (and-both _ _ (and-left (constantsAsListed n d) (valuesLegal d) h)
+        (of-values ranged d ∙ all-of (λ x. ranged (write x (read d x))) table (ok .ranged)))
+        (and-both _ _ (all-of (mappingLegal d) pdos (λ p i. and-both _ _ (words-legal ok i) (ok .counts p i)))
+        (all-of (λ p. not (badIdentifier (identifiers d) p (read d (identifier p)))) pdos (λ p i. false-not _ (ok .named p i))))
+
+    from : apart-clauses n d ≡ true → dictionarySound n d ≡ true
+    from h =
+        let rows = and-left (constantsAsListed n d && all ranged (unpacked table d)) _ h in
+        let pdo = and-right (constantsAsListed n d && all ranged (unpacked table d)) _ h in
+        let maps : (p : ℕ) → In p pdos → mappingLegal d p ≡ true =
+        λ p i. all-in (mappingLegal d) i (and-left (all (mappingLegal d) pdos) (identifiersLegal d) pdo) in
+        to-test n d (record {
+          listed = λ x i k. eqb-true _ _ (implied (isConstant (x .access)) _
+              (all-in (λ x. listed n (write x (read d x))) i (sym (of-values (listed n) d) ∙ and-left (constantsAsListed n d) _ rows)) k);
+          ranged = λ x i. all-in (λ x. ranged (write x (read d x))) i
+              (sym (of-values ranged d) ∙ and-right (constantsAsListed n d) _ rows);
+          words = λ p k i j. word-legal d i j (and-left _ _ (maps p i));
+          counts = λ p i. and-right (all (λ w. isGood (entryVerdict p w)) (mapWords d p)) _ (maps p i);
+          named = λ p i. not-true _ (all-in (λ p. not (badIdentifier (identifiers d) p (read d (identifier p)))) i
+              (and-right (all (mappingLegal d) pdos) (identifiersLegal d) pdo));
+        })
+
+-- the clauses of the rules and those of the code
+ordered : (n k f m i s o p r w h t x y : Bool) →
+    (n && ((k && f) && (m && i)) && s && o && p && r && w && h && t && x && y)
+    ≡ (x && (y && (n && ((k && i) && (((s && o) && (w && h)) && ((f && (m && p)) && (r && t)))))))
+ordered n k f m i s o p r w h t x y = simp (and-assoc, and-comm, swap)
 
 -- ---- what is kept for the PDOs
 
@@ -61,8 +105,8 @@ module _ (s : State) (d : List ℕ) where
   unfolding readyFresh readyOf readyKept
   ready-kept = same-pairs sameData (readyFor d) transmitPdos (s .axis .ready)
 
-  plans-kept : plansKept d (s .axis .plans) ≡ (all (fewMoves d) pdos && (mappingsLegal d && plansFresh s d))
-  unfolding plansKept mappingsLegal plansFresh plansOf
+  plans-kept : plansKept d (s .axis .plans) ≡ (all (fewMoves d) pdos && (all (mappingLegal d) pdos && plansFresh s d))
+  unfolding plansKept plansFresh plansOf
   plans-kept =
       apart (fewMoves d) (mappingLegal d) (λ p x. samePlan x (planFor (mapped d p))) pdos (s .axis .plans)
       ∙ ap (λ (b : Bool). all (fewMoves d) pdos && (all (mappingLegal d) pdos && b))
@@ -78,14 +122,13 @@ module _ (s : State) (d : List ℕ) where
       && (driveClauses (s .node) (s .axis .drive) d
       && (plansKept d (s .axis .plans)
       && (readyKept d (s .axis .ready) && waitSound (s .node .nmt) d (s .axis .paces) (s .axis .held))))))))
-  unfolding sound dictionarySound dictionaryClauses driveClauses statusAsMade statusOf modeAsMade waitingSound waitSound
+  unfolding sound dictionaryClauses driveClauses statusAsMade statusOf modeAsMade waitingSound waitSound
   sound-parts long bytes =
-      rw (plans-kept, ← ready-kept)
-      (ordered (isNodeId (s .node .id)) (constantsAsListed (s .node .id) d) (valuesInRange d) (mappingsLegal d) (identifiersLegal d)
+      rw (plans-kept, ← ready-kept, dictionary-parts (s .node .id) d, rows-tested (s .node .id) d long bytes)
+      (ordered (isNodeId (s .node .id)) (rowTests (s .node .id) d) (all (fewMoves d) pdos) (all (mappingLegal d) pdos) (identifiersLegal d)
       (statusAsMade s d) (modeAsMade s d)
       (plansFresh s d) (readyFresh s d) (driveSound (s .axis .drive) d) (heartbeatSound (s .node .heartbeat) d) (waitingSound s d)
-      (transferSound (s .transfer)) (staySound (s .axis .drive) d)
-      (rowTests (s .node .id) d) (all (fewMoves d) pdos) (rows-tested (s .node .id) d long bytes))
+      (transferSound (s .transfer)) (staySound (s .axis .drive) d))
 
 -- ---- the bytes
 

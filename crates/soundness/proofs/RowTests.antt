@@ -11,14 +11,15 @@ use lib.ListN.{length}
 use Rattle.rules_dictionary.specs.Numbers.{all, areBytes}
 use Rattle.rules_dictionary.specs.Table.{Row, table, nodeRows, driveRows, receivePdos, transmitPdos, pdos, communicationRows, mappingRows, eachWay}
 use Rattle.rules_dictionary.specs.Table.{sizeOf, largest, dictionaryLength}
-use Rattle.rules_dictionary.specs.Values.{write, read}
+use Rattle.rules_dictionary.specs.Values.{Write, write, read, unpacked}
 use Rattle.rules_dictionary.specs.Legal.{isBelow, isAbove, badChoice}
 use Rattle.rules_dictionary.specs.Members.{In, here, there}
 use Rattle.rules_dictionary.proofs.Packing.{within}
 use Rattle.rules_dictionary.proofs.Rows.{read-fits}
 use Rattle.rules_dictionary.proofs.Members.{unpacked-table}
-use Rattle.rules.specs.Sound.{constantsAsListed, valuesInRange, inRange}
-use Rattle.theorems.proofs.Dictionary.{listed, ranged}
+use Rattle.rules.specs.Sound.{constantsAsListed}
+use Rattle.theorems.proofs.GoodValues.{inRange}
+use Rattle.theorems.proofs.Dictionary.{listed}
 use Rattle.mapping.proofs.Orders.{swap, beside}
 use Rattle.soundness.specs.Rows.{testsOf, tests, communicationTests, rowTests, fewMoves}
 
@@ -41,6 +42,10 @@ at-most k v most h = go (eqb k most) (leb v k) refl refl
     go false false e f = rw (lt-ltb k v (leb-false v k f))
 
 -- ---- rows
+
+-- what is asked of a value by itself
+unfoldable pub ranged : Write → Bool
+ranged w = inRange (w .row) (w .value)
 
 in-a-row : (l a b c rest : Bool) → ((l && ((a && b) && c)) && rest) ≡ (l && (a && (b && (c && rest))))
 in-a-row l a b c rest = simp and-assoc
@@ -106,10 +111,10 @@ counts n d = simp (and-true, and-assoc)
 counts-last : (n r m t k v : Bool) → (n && (r && (m && (t && (k && (v && true)))))) ≡ ((n && (r && (t && v))) && (m && k))
 counts-last n r m t k v = simp (and-true, and-assoc, and-comm, swap)
 
--- THE LAW: constants as listed and values in range, by record; the counts of the mappings apart
+-- THE LAW: constants as listed and each value by itself, by record; the counts of the mappings apart
 pub rows-tested : (n : ℕ) (d : List ℕ) → length d ≡ dictionaryLength → areBytes d ≡ true →
-    (constantsAsListed n d && valuesInRange d) ≡ (rowTests n d && all (fewMoves d) pdos)
-unfolding constantsAsListed valuesInRange rowTests listed ranged parts
+    (constantsAsListed n d && all ranged (unpacked table d)) ≡ (rowTests n d && all (fewMoves d) pdos)
+unfolding constantsAsListed rowTests listed ranged parts
 rows-tested n d long bytes =
     rw (unpacked-table d)
     (rows-tests n d table (λ x i. read-fits x d bytes (omega (arith, within i)))

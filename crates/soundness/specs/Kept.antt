@@ -8,9 +8,10 @@ use Rattle.rules_dictionary.specs.declared.PdoData.{PdoData}
 use Rattle.rules_dictionary.specs.Table.{Direction, pdos, transmitPdos}
 use Rattle.rules_dictionary.specs.Plans.{mapped, planFor, readyFor}
 use Rattle.rules.specs.Outcome.{samePlan, sameData}
-use Rattle.rules.specs.Sound.{mappingLegal, pairwise}
+use Rattle.rules.specs.Sound.{pairwise}
 use Rattle.form.specs.Form.{planLength, stateOf}
 use Rattle.form.specs.Own.{plansOwn}
+use Rattle.mapping.specs.Words.{mappingLegal}
 use Rattle.mapping.specs.Kept.{recordLength, planKeptAt}
 use Rattle.soundness.specs.Rows.{fewMoves}
 

@@ -5,9 +5,13 @@ use mathlib.Core.List.{List, [], _∷_}
 use mathlib.Core.Bool.{Bool, true, cond, not, _&&_}
 use lib.Dec.{eqb, ltb}
 use Rattle.rules_dictionary.specs.Numbers.{all, between}
-use Rattle.rules_dictionary.specs.Table.{directionOf, byDirection, identifier}
+use Rattle.rules_dictionary.specs.Table.{pdos, directionOf, byDirection, identifier}
 use Rattle.rules_dictionary.specs.Values.{read}
-use Rattle.rules_dictionary.specs.Legal.{invalidBit, transmitBit, identifierBits, firstIdentifier, lastIdentifier}
+use Rattle.rules_dictionary.specs.Legal.{invalidBit, transmitBit, identifierBits, firstIdentifier, lastIdentifier, identifiers, badIdentifier}
+
+-- "PDO identifiers legal": each word is one that its PDO may have beside the others
+unfoldable pub identifiersLegal : List ℕ → Bool
+identifiersLegal d = all (λ p. not (badIdentifier (identifiers d) p (read d (identifier p)))) pdos
 
 -- bit 30 in a word
 abbrev pub transmitWay : ℕ

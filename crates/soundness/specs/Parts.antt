@@ -12,9 +12,10 @@ use Rattle.rules_dictionary.specs.Table.{statusWord, mode, modeDisplay}
 use Rattle.rules_dictionary.specs.Values.{read}
 use Rattle.rules_dictionary.specs.Legal.{modeNumber}
 use Rattle.drive.specs.StatusWord.{status}
-use Rattle.rules.specs.Sound.{identifiersLegal, driveSound, heartbeatSound}
+use Rattle.rules.specs.Sound.{driveSound, heartbeatSound}
 use Rattle.form.specs.Form.{stateOf}
 use Rattle.soundness.specs.Rows.{rowTests}
+use Rattle.soundness.specs.Keys.{identifiersLegal}
 use Rattle.soundness.specs.Kept.{plansKeptIn, readyKept}
 use Rattle.soundness.specs.Waiting.{waitSound}
 

@@ -11,8 +11,7 @@ ghost use Rattle.rules_dictionary.specs.Table.{receivePdos, transmitPdos, ident
 ghost use Rattle.rules_dictionary.specs.Numbers.{all};
 ghost use Rattle.rules_dictionary.specs.Values.{read};
 ghost use Rattle.dictionary.specs.Sizes.{IsPdo};
-ghost use Rattle.rules.specs.Sound.{identifiersLegal};
-ghost use Rattle.soundness.specs.Keys.{transmitWay, wordKey, keyIn, isOther, isLegalKey, distinct, areApart, four};
+ghost use Rattle.soundness.specs.Keys.{transmitWay, wordKey, keyIn, isOther, isLegalKey, distinct, areApart, four, identifiersLegal};
 
 // Bit 30 of a receive PDO's word, and of a transmit PDO's.
 const RECEIVE: u32 = 0;

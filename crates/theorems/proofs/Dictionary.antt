@@ -5,19 +5,20 @@ pub use Rattle.rules_dictionary.proofs.Plans.{mapped-in}
 use Rattle.theorems.proofs.Words.{ℕ, _^_, _<_, arith, _≡_, refl, sym, _∙_, subst, ap, ap₂, _⊎_, inl, inr, Bool, true, false, not, _&&_, _||_}
 use Rattle.theorems.proofs.Words.{Bool·beq, map, List, [], _∷_, eq-eqb, eqb-true, ltb-true, eqb, ltb, getD, length, take, drop, Role, Plain}
 use Rattle.theorems.proofs.Words.{ModeOfOperation, PdoIdentifier, PdoType, MappingCount, MappingEntry, PdoData, NmtState, In, here, there}
-use Rattle.theorems.proofs.Words.{each-in, and-left, and-right, and-both, all-in, within, same-or-apart, read-apart, read-same, all-of}
+use Rattle.theorems.proofs.Words.{apart, is-good, each-in, and-left, and-right, and-both, all-in, within, same-or-apart, read-apart, read-same, all-of}
 use Rattle.theorems.proofs.Words.{unpacked-table, words-read, pdo-in, identifier-in, count-in, entry-in, type-in, clash, or-false-left}
 use Rattle.theorems.proofs.Words.{or-false-right, or-both-false, and-false-if, and-then-false, not-true, any-false-in, any-false-of, eqb-comm}
-use Rattle.theorems.proofs.Words.{either, false-not, implied, implies}
+use Rattle.theorems.proofs.Words.{either, implied, implies}
 use Rattle.rules_dictionary.specs.Numbers.{bit, between, any, all, value}
 use Rattle.rules_dictionary.specs.Table.{pdos, directionOf, Row, table, sizeOf, dictionaryLength, isConstant, identifier, mapCount, mapEntry}
-use Rattle.rules_dictionary.specs.Table.{mapSlots, transmissionType}
+use Rattle.rules_dictionary.specs.Table.{mapSlots, transmissionType, open-table}
 use Rattle.rules_dictionary.specs.Legal.{badIdentifier, clashes, isValid, frameIdentifier, reservedBits, transmits, transmitBit, firstIdentifier}
 use Rattle.rules_dictionary.specs.Legal.{lastIdentifier, entryVerdict, countVerdict, mapWords, identifiers, valueVerdict, otherBadValue}
-use Rattle.rules_dictionary.specs.Legal.{mappingVerdict}
+use Rattle.rules_dictionary.specs.Legal.{mappingVerdict, mayHold, badChoice, isBelow, isAbove}
 use Rattle.rules_dictionary.specs.Values.{Write, write, read, store, defaultOf, unpacked}
-use Rattle.rules_dictionary.specs.{Aborts.isGood, Aborts.firstOf, Plans.targets, Plans.mapped}
-use Rattle.rules.specs.Sound.{constantsAsListed, inRange, valuesInRange, mappingLegal, mappingsLegal, identifiersLegal, dictionarySound, heldSound}
+use Rattle.rules_dictionary.specs.{Aborts.good, Aborts.isGood, Aborts.firstOf, Plans.targets, Plans.mapped}
+use Rattle.theorems.proofs.GoodValues.{inRange, GoodValue, good-value, value-good, good-range}
+use Rattle.rules.specs.Sound.{constantsAsListed, valuesLegal, dictionarySound, heldSound}
 use Rattle.rules_services.specs.PdoTraffic.{works, typeOf, areLegal}
 
 -- the eight PDOs are 0 to 7 in order
@@ -108,53 +109,146 @@ all-map f g [] = refl
 all-map f g (x ∷ xs) = ap (λ (b : Bool). f (g x) && b) (all-map f g xs)
 
 -- a test of every value, as a test of every row
-of-values : (f : Write → Bool) (d : List ℕ) → all f (unpacked table d) ≡ all (λ x. f (write x (read d x))) table
+pub of-values : (f : Write → Bool) (d : List ℕ) → all f (unpacked table d) ≡ all (λ x. f (write x (read d x))) table
 of-values f d = rw unpacked-table (all-map f (λ x. write x (read d x)) table)
 
-pub entries-good : {p : ℕ} (d : List ℕ) → In p pdos →
+-- the clauses of a row, taken apart: it is not above its range, and no bad choice
+module _ {n : ℕ} {d : List ℕ} (ok : DictionaryOk n d) {x : Row} (i : In x table) where
+  pub not-above : isAbove x (read d x) ≡ false
+  unfolding inRange
+  not-above =
+      let v = read d x in
+      not-true _ (and-right (not (isBelow x v)) _ (and-left (not (isBelow x v) && not (isAbove x v)) (not (badChoice (x .role) v)) (ok .ranged x i)))
+
+  pub well-chosen : badChoice (x .role) (read d x) ≡ false
+  unfolding inRange
+  well-chosen = let v = read d x in not-true _ (and-right (not (isBelow x v) && not (isAbove x v)) _ (ok .ranged x i))
+
+-- the words of a PDO's mapping are legal, all eight or one by one
+words-tested : {p : ℕ} (d : List ℕ) → In p pdos →
     all (λ w. isGood (entryVerdict p w)) (mapWords d p) ≡ all (λ k. isGood (entryVerdict p (read d (mapEntry p k)))) mapSlots
-entries-good {p} d i = rw (words-read d i) (all-map (λ w. isGood (entryVerdict p w)) (λ k. read d (mapEntry p k)) mapSlots)
+words-tested {p} d i = rw (words-read d i) (all-map (λ w. isGood (entryVerdict p w)) (λ k. read d (mapEntry p k)) mapSlots)
 
-named-at : {p : ℕ} (d : List ℕ) → In p pdos → getD (identifiers d) p 0 ≡ read d (identifier p)
-unfolding identifiers
-named-at d i = of-pdo (λ q. read d (identifier q)) 0 i
+pub word-legal : {p k : ℕ} (d : List ℕ) → In p pdos → In k mapSlots → all (λ w. isGood (entryVerdict p w)) (mapWords d p) ≡ true →
+    isGood (entryVerdict p (read d (mapEntry p k))) ≡ true
+word-legal {p} d i j h = all-in (λ k. isGood (entryVerdict p (read d (mapEntry p k)))) j (sym (words-tested d i) ∙ h)
 
--- what the clauses ask of a value in its row
+pub words-legal : {n : ℕ} {d : List ℕ} → DictionaryOk n d → {p : ℕ} → In p pdos → all (λ w. isGood (entryVerdict p w)) (mapWords d p) ≡ true
+words-legal {d = d} ok {p} i =
+    words-tested d i ∙ all-of (λ k. isGood (entryVerdict p (read d (mapEntry p k)))) mapSlots (λ k j. ok .words p k i j)
+
+-- ---- a PDO's rows, found by their role
+
+-- a PDO's row belongs to one of the eight
+abbrev pub ofPdo : Role → Bool
+ofPdo Plain = true
+ofPdo ModeOfOperation = true
+ofPdo (PdoIdentifier p) = ltb p 8
+ofPdo (PdoType p) = ltb p 8
+ofPdo (MappingCount p) = ltb p 8
+ofPdo (MappingEntry p) = ltb p 8
+
+pub pdo-of : {x : Row} {p : ℕ} → In x table → ofPdo (x .role) ≡ ltb p 8 → In p pdos
+unfolding table
+pdo-of {x} {p} i e = pdo-in p (ltb-true p 8 (sym e ∙ all-in (λ x. ofPdo (x .role)) i refl))
+
+-- the row of such a role stands where that row does
+abbrev isAtHome : Row → Role → Bool
+isAtHome x Plain = true
+isAtHome x ModeOfOperation = true
+isAtHome x (PdoIdentifier p) = not (apart x (identifier p))
+isAtHome x (PdoType p) = true
+isAtHome x (MappingCount p) = not (apart x (mapCount p))
+isAtHome x (MappingEntry p) = not (apart x (mapEntry p (x .subindex))) && any (eqb (x .subindex)) mapSlots
+
+home-test : all (λ x. isAtHome x (x .role)) table ≡ true
+unfolding open-table
+home-test = refl
+
+at-home : {x : Row} → In x table → (r : Role) → x .role ≡ r → isAtHome x r ≡ true
+at-home {x} i r e = subst (λ (q : Role). isAtHome x q ≡ true) e (all-in (λ x. isAtHome x (x .role)) i home-test)
+
+not-apart : {x y : Row} → In x table → In y table → not (apart x y) ≡ true → y ≡ x
+not-apart {x} {y} i j h = elim (same-or-apart i j) [ inl e ↦ sym e | inr a ↦ clash (apart x y) a (not-true _ h) ]
+
+any-in : (k : ℕ) (xs : List ℕ) → any (eqb k) xs ≡ true → In k xs
+any-in k [] h = clash false h refl
+any-in k (x ∷ xs) h =
+    elim (either (eqb k x)) [
+      | inl e ↦ subst (λ (z : ℕ). In k (z ∷ xs)) (eqb-true k x e) here
+      | inr e ↦ there (any-in k xs (rw e at h))
+    ]
+
+-- ---- the test of a dictionary, and its clauses
+
+-- what is asked of a constant
 unfoldable pub listed : ℕ → Write → Bool
 listed n w = not (isConstant (w .row .access)) || eqb (w .value) (defaultOf n (w .row))
 
-unfoldable pub ranged : Write → Bool
-ranged w = inRange (w .row) (w .value)
+-- what is asked of every value
+unfoldable pub held : List ℕ → Write → Bool
+held d w = mayHold d (w .row) (w .value)
 
 pub from-test : (n : ℕ) (d : List ℕ) → dictionarySound n d ≡ true → DictionaryOk n d
-unfolding dictionarySound constantsAsListed valuesInRange mappingsLegal mappingLegal identifiersLegal listed ranged
+unfolding dictionarySound constantsAsListed valuesLegal areLegal listed held otherBadValue mappingVerdict
 from-test n d h =
-    let a = and-left (constantsAsListed n d && valuesInRange d && mappingsLegal d) (identifiersLegal d) h in
-    let b = and-left (constantsAsListed n d && valuesInRange d) (mappingsLegal d) a in
-    let maps : (p : ℕ) → In p pdos → mappingLegal d p ≡ true =
-    λ p i. all-in (mappingLegal d) i (and-right (constantsAsListed n d && valuesInRange d) _ a) in
+    let value : (x : Row) → In x table → GoodValue d x (read d x) = λ x i.
+    good-value d x (read d x) (is-good _ (all-in (λ x. mayHold d x (read d x)) i
+    (sym (of-values (held d) d) ∙ and-right (constantsAsListed n d) (valuesLegal d) h))) in
     record {
       listed = λ x i k. eqb-true _ _ (implied (isConstant (x .access)) _
-          (all-in (λ x. listed n (write x (read d x))) i (sym (of-values (listed n) d) ∙ and-left (constantsAsListed n d) (valuesInRange d) b)) k);
-      ranged = λ x i. all-in (λ x. inRange x (read d x)) i (sym (of-values ranged d) ∙ and-right (constantsAsListed n d) (valuesInRange d) b);
-      words = λ p k i j. all-in (λ k. isGood (entryVerdict p (read d (mapEntry p k)))) j (sym (entries-good d i) ∙ and-left _ _ (maps p i));
-      counts = λ p i. and-right (all (λ w. isGood (entryVerdict p w)) (mapWords d p)) _ (maps p i);
-      named = λ p i. rw (← named-at d i) (not-true _ (all-in (λ p. not (badIdentifier (identifiers d) p (getD (identifiers d) p 0))) i
-          (and-right (constantsAsListed n d && valuesInRange d && mappingsLegal d) _ h)));
+          (all-in (λ x. listed n (write x (read d x))) i (sym (of-values (listed n) d) ∙ and-left (constantsAsListed n d) (valuesLegal d) h)) k);
+      ranged = λ x i. good-range d x (read d x) (value x i);
+      words = λ p k i j. ap isGood (value (mapEntry p k) (entry-in i j) .mapping);
+      counts = λ p i. ap isGood (value (mapCount p) (count-in i) .mapping);
+      named = λ p i. value (identifier p) (identifier-in i) .choice;
     }
 
+module _ {n : ℕ} {d : List ℕ} (ok : DictionaryOk n d) where
+  -- what the role of a row asks of its value
+  by-role : {x : Row} → In x table → (r : Role) → x .role ≡ r → (otherBadValue d r (read d x) ≡ false) × (mappingVerdict d r (read d x) ≡ good)
+  unfolding otherBadValue mappingVerdict
+  by-role i Plain e = (refl, refl)
+  by-role {x} i ModeOfOperation e = (subst (λ (r : Role). badChoice r (read d x) ≡ false) e (well-chosen ok i), refl)
+  by-role i (PdoIdentifier p) e =
+      let j = pdo-of i (ap ofPdo e) in (
+        subst (λ (z : Row). badIdentifier (identifiers d) p (read d z) ≡ false) (not-apart i (identifier-in j) (at-home i (PdoIdentifier p) e))
+            (ok .named p j),
+        refl,
+      )
+  by-role {x} i (PdoType p) e = (subst (λ (r : Role). badChoice r (read d x) ≡ false) e (well-chosen ok i), refl)
+  by-role i (MappingCount p) e =
+      let j = pdo-of i (ap ofPdo e) in (
+        refl,
+        is-good _ (subst (λ (z : Row). isGood (countVerdict (mapWords d p) (read d z)) ≡ true)
+            (not-apart i (count-in j) (at-home i (MappingCount p) e)) (ok .counts p j)),
+      )
+  by-role {x} i (MappingEntry p) e =
+      let j = pdo-of i (ap ofPdo e) in
+      let k = x .subindex in
+      let h = at-home i (MappingEntry p) e in
+      let slot = any-in k mapSlots (and-right (not (apart x (mapEntry p k))) _ h) in (
+        refl,
+        is-good _ (subst (λ (z : Row). isGood (entryVerdict p (read d z)) ≡ true)
+            (not-apart i (entry-in j slot) (and-left _ (any (eqb k) mapSlots) h)) (ok .words p k j slot)),
+      )
+
+  good-row : {x : Row} → In x table → GoodValue d x (read d x)
+  unfolding inRange
+  good-row {x} i =
+      let v = read d x in
+      let r = by-role i (x .role) refl in
+      let range = and-left (not (isBelow x v) && not (isAbove x v)) (not (badChoice (x .role) v)) (ok .ranged x i) in
+      record { notBelow = not-true _ (and-left _ (not (isAbove x v)) range); notAbove = not-above ok i; choice = r .0; mapping = r .1 }
+
 pub to-test : (n : ℕ) (d : List ℕ) → DictionaryOk n d → dictionarySound n d ≡ true
-unfolding dictionarySound constantsAsListed valuesInRange mappingsLegal mappingLegal identifiersLegal listed ranged
+unfolding dictionarySound constantsAsListed valuesLegal areLegal listed held
 to-test n d ok =
     rw (
       of-values (listed n) d,
       all-of (λ x. listed n (write x (read d x))) table (λ x i. implies (isConstant (x .access)) _ (λ k. eq-eqb _ _ (ok .listed x i k))),
-      of-values ranged d,
-      all-of (λ x. inRange x (read d x)) table (ok .ranged),
-      all-of (mappingLegal d) pdos
-          (λ p i. rw (entries-good d i, all-of (λ k. isGood (entryVerdict p (read d (mapEntry p k)))) mapSlots (λ k j. ok .words p k i j))
-          (ok .counts p i)),
-      all-of (λ p. not (badIdentifier (identifiers d) p (getD (identifiers d) p 0))) pdos (λ p i. rw (named-at d i) (false-not _ (ok .named p i))),
+      of-values (held d) d,
+      all-of (λ x. mayHold d x (read d x)) table (λ x i. ap isGood (value-good d x (read d x) (good-row ok i))),
     )
 
 -- ---- one write
@@ -171,19 +265,6 @@ pub record MayHold (n : ℕ) (d : List ℕ) (x : Row) (v : ℕ) : Type 0 where
 pub map-same {ℓ κ} : {A : Type ℓ} {B : Type κ} (f g : A → B) (xs : List A) → ((x : A) → In x xs → f x ≡ g x) → map f xs ≡ map g xs
 map-same f g [] h = refl
 map-same f g (x ∷ xs) h = ap₂ _∷_ (h x here) (map-same f g xs (λ y i. h y (there i)))
-
--- a PDO's row belongs to one of the eight
-abbrev pub ofPdo : Role → Bool
-ofPdo Plain = true
-ofPdo ModeOfOperation = true
-ofPdo (PdoIdentifier p) = ltb p 8
-ofPdo (PdoType p) = ltb p 8
-ofPdo (MappingCount p) = ltb p 8
-ofPdo (MappingEntry p) = ltb p 8
-
-pub pdo-of : {x : Row} {p : ℕ} → In x table → ofPdo (x .role) ≡ ltb p 8 → In p pdos
-unfolding table
-pdo-of {x} {p} i e = pdo-in p (ltb-true p 8 (sym e ∙ all-in (λ x. ofPdo (x .role)) i refl))
 
 -- no mapping at all is legal, whatever the words
 good-zero : (ws : List ℕ) → isGood (countVerdict ws 0) ≡ true

@@ -1,5 +1,6 @@
 pub mod Words
 pub mod Booleans
+pub mod GoodValues
 pub mod Dictionary
 pub mod Settled
 pub mod Lawful

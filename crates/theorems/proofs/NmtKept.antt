@@ -7,6 +7,7 @@ use Rattle.theorems.proofs.Words.{Plain, Event, Started, QuickStopDone,
 use Rattle.theorems.proofs.Words.{here, there, and-left, each-in, all-in, allBelow, on-nodes, none-in, and-both, words-read, identifier-in}
 use Rattle.theorems.proofs.Words.{count-in, entry-in, length-store, length-stored, read-same, read-apart, read-fits, within, same-or-apart}
 use Rattle.theorems.proofs.Words.{apart, found-in, isOperational, either, clash, not-true, implied, on-states}
+use Rattle.theorems.proofs.GoodValues.{inRange}
 use Rattle.theorems.proofs.Dictionary.{DictionaryOk, map-same, isPdo}
 use Rattle.theorems.proofs.Settled.{mode-in, control-in, drive-may, whole-range, status-in, display-in}
 use Rattle.theorems.proofs.Lawful.{Lawful, Waits, drive-lawful, pairwise-map, count-at, sound-lawful, node-lawful}
@@ -25,7 +26,7 @@ use Rattle.rules_services.specs.{Effects.Effect, Effects.withNmt, Effects.withH
 use Rattle.rules_services.specs.{PdoTraffic.noneHeld, PdoTraffic.idle, PdoTraffic.allIdle, Nmt.left, Nmt.voltageDisabled, Nmt.heartbeat, Nmt.powerUp}
 use Rattle.rules_services.specs.{Nmt.freshState, declared.Event.the-variants.Fault, Events.faulted, Events.genericError}
 use Rattle.rules_services.specs.PdoTraffic.{works, typeOf}
-use Rattle.rules.specs.Sound.{sound, inRange, driveSound, storeInPlace, takenInPlace, causeInPlace, heartbeatSound, countSound, heldSound}
+use Rattle.rules.specs.Sound.{sound, driveSound, storeInPlace, takenInPlace, causeInPlace, heartbeatSound, countSound, heldSound}
 
 abbrev pub LawfulAfter : List ℕ → Effect → Type 0
 LawfulAfter d e = Lawful (e .state) (stored (e .writes) d)

@@ -4,14 +4,14 @@
 use Rattle.theorems.proofs.Words.{ℕ, zero, suc, _*_, _^_, _<_, _≤_, _+_, arith, zero-add, suc-add, _≡_, refl, sym, _∙_, ap, subst, ap₂, _⊎_}
 use Rattle.theorems.proofs.Words.{inl, inr, Bool, true, false, not, _&&_, _||_, and-eq-true-iff, Bool·not-not, List, [], _∷_, map, eqb-true}
 use Rattle.theorems.proofs.Words.{ltb-true, ltb-false, eqb, ltb, length, take, drop, getD, set, length-take-le, take-take, take-nil, PdoData}
-use Rattle.theorems.proofs.Words.{NmtState, State, In, here, there, and-left, and-right, none-in, all-in, each-in, all-of, in-left}
+use Rattle.theorems.proofs.Words.{NmtState, State, In, here, there, and-left, and-right, none-in, all-in, each-in, in-left}
 use Rattle.theorems.proofs.Words.{length-store, either, by-match, false-not, clash, implied, or-false-left, or-false-right, not-true, is-good}
 use Rattle.theorems.proofs.Words.{all-leading, take-padded}
-use Rattle.theorems.proofs.Dictionary.{DictionaryOk, store-ok, entries-good, isPdo, mapped-in}
-use Rattle.theorems.proofs.{Writes.in-cons, Writes.MayApply, Settled.drive-may, SdoKept.GoodValue, SdoKept.good-passes, SdoKept.good-value}
-use Rattle.theorems.proofs.{SdoKept.good-range, Lawful.Lawful, Lawful.data-refl, Lawful.pairwise-at, Lawful.node-lawful}
-use Rattle.rules_dictionary.specs.Table.{Row, table, sizeOf, isConstant, receive, directionOf, pdos, receivePdos, transmitPdos, mapCount, mapEntry}
-use Rattle.rules_dictionary.specs.Table.{mapSlots, wordIndex, wordSubindex, wordLength, Found, found, theName, noObject, noSubindex, lookup}
+use Rattle.theorems.proofs.Dictionary.{DictionaryOk, store-ok, words-legal, isPdo, mapped-in}
+use Rattle.theorems.proofs.{Writes.in-cons, Writes.MayApply, Settled.drive-may, GoodValues.GoodValue, GoodValues.good-passes}
+use Rattle.theorems.proofs.{GoodValues.good-value, GoodValues.good-range, Lawful.Lawful, Lawful.data-refl, Lawful.pairwise-at, Lawful.node-lawful}
+use Rattle.rules_dictionary.specs.Table.{Row, table, sizeOf, isConstant, receive, directionOf, pdos, receivePdos, transmitPdos, mapCount}
+use Rattle.rules_dictionary.specs.Table.{wordIndex, wordSubindex, wordLength, Found, found, theName, noObject, noSubindex, lookup}
 use Rattle.rules_dictionary.specs.Table.{dictionaryLength, open-table}
 use Rattle.rules_dictionary.specs.Values.{Write, write, read, store, stored, unpacked}
 use Rattle.rules_dictionary.specs.Legal.{suits, targetVerdict, entryVerdict, countVerdict, mapWords, mostBits, valueVerdict, isAbove, isSynchronous}
@@ -79,7 +79,7 @@ module _ {n : ℕ} {d : List ℕ} (ok : DictionaryOk n d) {p : ℕ} (i : In p pd
   targets-now =
       targets-of p (take (read d (mapCount p)) (mapWords d p))
       (all-leading (λ w. isGood (entryVerdict p w)) (read d (mapCount p)) (mapWords d p)
-      (entries-good d i ∙ all-of (λ k. isGood (entryVerdict p (read d (mapEntry p k)))) mapSlots (λ k j. ok .words p k i j)))
+      (words-legal ok i))
 
   pub mapped-way : (x : Row) → In x (mapped d p) → suits (directionOf p) (x .mappable) ≡ true
   unfolding mapped

@@ -3,55 +3,15 @@
 use Rattle.theorems.proofs.Words.{ℕ, _^_, _<_, _≡_, refl, sym, _∙_, ap, _⊎_, inl, inr, true, false, not, _||_, Bool·not-not, List, [], _∷_}
 use Rattle.theorems.proofs.Words.{eqb-true, eqb, NmtState, PreOperational, Operational, Stopped, State, Role, Plain, ModeOfOperation}
 use Rattle.theorems.proofs.Words.{PdoIdentifier, PdoType, MappingCount, MappingEntry, Access, Constant, NodeWritten, Writable, In}
-use Rattle.theorems.proofs.Words.{isPreOperational, isOperational, clash, by-match, or-false-left, or-false-right, false-not}
+use Rattle.theorems.proofs.Words.{isPreOperational, isOperational, clash, or-false-left, or-false-right, false-not}
+use Rattle.theorems.proofs.GoodValues.{good-passes, good-last, good-value, good-range}
 use Rattle.theorems.proofs.Dictionary.{MayHold, store-ok, isPdo}
 use Rattle.theorems.proofs.{Lawful.Lawful, Writes.MayApply, Writes.one-row}
-use Rattle.rules_dictionary.specs.Table.{Row, table, sizeOf, isConstant, isWritable, identifier, mapCount}
-use Rattle.rules_dictionary.specs.Aborts.{Verdict, good, bad, isGood, Test, firstOf}
-use Rattle.rules_dictionary.specs.Legal.{valueVerdict, otherBadValue, mappingVerdict, badChoice, isValid, isBelow, isAbove}
+use Rattle.rules_dictionary.specs.Table.{table, sizeOf, isConstant, isWritable, identifier, mapCount}
+use Rattle.rules_dictionary.specs.Aborts.{good, isGood}
+use Rattle.rules_dictionary.specs.Legal.{valueVerdict, otherBadValue, mappingVerdict, isValid}
 use Rattle.rules_dictionary.specs.{Values.write, Values.read, Values.stored}
 use Rattle.rules_services.specs.Sdo.{Offer, isWrongTime, offerVerdict}
-use Rattle.rules.specs.Sound.{inRange}
-
--- ---- where the verdict is good, no test fired
-
-pub good-passes : (t : Test) (ts : List Test) (v : Verdict) → firstOf (t ∷ ts) v ≡ good → (t .fires ≡ false) × (firstOf ts v ≡ good)
-unfolding firstOf
-good-passes t ts v h =
-    by-match (λ w. w ≡ good → (t .fires ≡ false) × (firstOf ts v ≡ good)) (t .fires) (λ e k. clash (isGood (bad (t .abort))) (ap isGood k) refl)
-    (λ e k. (e, k)) h
-
-good-last : (v : Verdict) → firstOf [] v ≡ good → v ≡ good
-unfolding firstOf
-good-last v h = h
-
--- a good verdict of a value, taken apart
-pub record GoodValue (d : List ℕ) (x : Row) (v : ℕ) : Type 0 where
-  pub notBelow : isBelow x v ≡ false
-  pub notAbove : isAbove x v ≡ false
-  pub choice : otherBadValue d (x .role) v ≡ false
-  pub mapping : mappingVerdict d (x .role) v ≡ good
-
-pub good-value : (d : List ℕ) (x : Row) (v : ℕ) → valueVerdict d x v ≡ good → GoodValue d x v
-unfolding valueVerdict
-good-value d x v h =
-    let a = good-passes _ _ _ h in
-    let b = good-passes _ _ _ (a .1) in
-    let c = good-passes _ _ _ (b .1) in
-    record { notBelow = a .0; notAbove = b .0; choice = c .0; mapping = good-last _ (c .1) }
-
-choice-known : (d : List ℕ) (r : Role) (v : ℕ) → otherBadValue d r v ≡ false → badChoice r v ≡ false
-unfolding otherBadValue
-choice-known d Plain v h = refl
-choice-known d ModeOfOperation v h = h
-choice-known d (PdoIdentifier p) v h = refl
-choice-known d (PdoType p) v h = h
-choice-known d (MappingCount p) v h = refl
-choice-known d (MappingEntry p) v h = refl
-
-pub good-range : (d : List ℕ) (x : Row) (v : ℕ) → GoodValue d x v → inRange x v ≡ true
-unfolding inRange
-good-range d x v g = rw (g .notBelow, g .notAbove, choice-known d (x .role) v (g .choice))
 
 writable-varies : (a : Access) → not (isWritable a) ≡ false → isConstant a ≡ false
 writable-varies Constant h = clash true refl h

@@ -12,7 +12,7 @@ use Rattle.theorems.proofs.Words.{take, drop, length-take, take-padded,
 use Rattle.theorems.proofs.Words.{take-append-drop}
 use Rattle.theorems.proofs.Demands.{run-rests, Rests, running-rests}
 use Rattle.theorems.proofs.Aborted.{only-answered, sdo-decided, serves-well}
-use Rattle.theorems.proofs.SdoKept.{good-passes}
+use Rattle.theorems.proofs.GoodValues.{good-passes}
 use Rattle.theorems.proofs.Transfers.{asked-leaves}
 use Rattle.theorems.proofs.Receipts.{bytes-added, object-kept, object-long, gathered-sound}
 use Rattle.theorems.proofs.Runs.{standing}

@@ -3,7 +3,7 @@
 use Rattle.theorems.proofs.Words.{ℕ, _-_, _^_, _<_, _≤_, arith, _≡_, refl, _∙_, ap, inl, inr, Bool, true, false, cond, List, le-ltb, length}
 use Rattle.theorems.proofs.Words.{Mode, NoMode, ProfilePosition, ProfileVelocity, Store, Empty, Rested, Moving, Queued, Drive, State, Plain}
 use Rattle.theorems.proofs.Words.{In, apart, same-or-apart, found-in, within, read-apart, read-same, length-store, clash, whichever}
-use Rattle.theorems.proofs.{Dictionary.MayHold, Dictionary.isPdo}
+use Rattle.theorems.proofs.{GoodValues.inRange, Dictionary.MayHold, Dictionary.isPdo}
 use Rattle.rules_dictionary.specs.Table.{errorRegister, heartbeatTime, Row, table, sizeOf, dictionaryLength, statusWord, modeDisplay, mode}
 use Rattle.rules_dictionary.specs.Table.{controlWord, position, positionWindow, windowTime, velocity, velocityWindow, velocityThreshold}
 use Rattle.rules_dictionary.specs.Table.{targetVelocity, isConstant, whole, size, open-table}
@@ -13,7 +13,7 @@ use Rattle.drive.specs.Window.{near, inside}
 use Rattle.drive.specs.StatusWord.{status, enabledBits, ackInMode, reachedInMode, reachedAtOnce, positionReached, velocityReached, standsStill, slow}
 use Rattle.drive.specs.StatusWord.{voltageShown, remoteShown}
 use Rattle.drive.proofs.Shown.{shown-most, state-word-most, enabled-most}
-use Rattle.rules.specs.{Outcome.settled, Outcome.statusOf, Sound.inRange}
+use Rattle.rules.specs.{Outcome.settled, Outcome.statusOf}
 
 -- ---- the status word fits its row
 

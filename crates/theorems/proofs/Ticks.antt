@@ -4,23 +4,24 @@ use mathlib.Core.List.{flatMap}
 use Rattle.theorems.proofs.Words.{ℕ, suc, _+_, _≤_, arith, _≡_, refl, sym, _∙_, ap, subst, _⊎_, inl, inr, Bool, true, false, cond, not, _&&_}
 use Rattle.theorems.proofs.Words.{and-not-self, List, [], _∷_, _++_, length, getD, eqb, leb, ltb, eq-eqb, le-leb, PdoData, State, Pace, Paced}
 use Rattle.theorems.proofs.Words.{Ticked, Accepted, OutputLength, In, here, there, same-or-apart, same-self, type-in, either, clash, whichever}
-use Rattle.theorems.proofs.Words.{by-test, and-right, not-true, or-either, leb-true, eqb-true, and-both, eqb-false, isOperational, Tick}
+use Rattle.theorems.proofs.Words.{by-test, and-right, or-either, leb-true, eqb-true, and-both, eqb-false, isOperational, Tick}
 use Rattle.theorems.proofs.Words.{by-match, Refusal, NotSound, DictionaryLength}
 use borrow.Author.Tests.{lt-leb, not-false}
+use Rattle.theorems.proofs.Dictionary.{well-chosen}
 use Rattle.theorems.proofs.Settled.{settled-apart, settled-display, status-in, display-in}
 use Rattle.theorems.proofs.Lawful.{sound-lawful, finally, transmitter-in}
 use Rattle.theorems.proofs.Runs.{Holds, run-holds, step-holds, passed, standing}
 use Rattle.theorems.proofs.Demands.{Rests, run-rests, mode-made}
-use Rattle.rules_dictionary.specs.Table.{Row, table, same, dictionaryLength, eachWay, statusWord, heartbeatTime, transmissionType}
+use Rattle.rules_dictionary.specs.Table.{Row, table, same, dictionaryLength, eachWay, statusWord, heartbeatTime}
 use Rattle.rules_dictionary.specs.{Plans.readyOf, Values.read, Values.stored}
-use Rattle.rules_dictionary.specs.Legal.{isCyclic, isEventDriven, isSynchronous, isType, lastSynchronous, firstEventDriven, isBelow, isAbove}
+use Rattle.rules_dictionary.specs.Legal.{isCyclic, isEventDriven, isSynchronous, isType, lastSynchronous, firstEventDriven}
 use Rattle.drive.specs.Window.{staying}
 use Rattle.rules_services.specs.Effects.{Frame, Effect, on, withHeartbeat}
 use Rattle.rules_services.specs.Nmt.{tick, heartbeat}
 use Rattle.rules_services.specs.Events.{eventOf, isInPlace, happens}
 use Rattle.rules_services.specs.PdoTraffic.{works, typeOf, paceOf, cyclic, acyclic, eventDriven, transmitted, noData}
 use Rattle.rules.specs.Outcome.{driveAtEnd, settled, ended, paceFor, entersOperational, changes, sameData, transmissions, transmitters, sentInto}
-use Rattle.rules.specs.Sound.{sound, inRange}
+use Rattle.rules.specs.Sound.{sound}
 use Rattle.rules.specs.Calls.{eventCall, Decision, refuses, does as performs, decision, eventDecision, decided, refused, accepted, answered, answer}
 use Rattle.rules.specs.Calls.{outputLength, Outcome}
 use Rattle.theorems.specs.Promises.{Stand, reached}
@@ -135,14 +136,9 @@ frames-as d ready paces sending (t ∷ ts) h = rw (h t here, frames-as d ready p
 
 -- the type of a transmit PDO, where a run stands
 type-legal : (a : Stand) → Holds a → {t : ℕ} → In t transmitters → isType (typeOf (a .dictionary) (eachWay + t)) ≡ true
-unfolding inRange
 type-legal a h {t} i =
     let law = sound-lawful (a .state) (a .dictionary) (h .at .long) (h .at .sound) in
-    let p = eachWay + t in
-    let v = typeOf (a .dictionary) p in
-    let x = transmissionType p in
-    not-false (isType v)
-    (not-true _ (and-right (not (isBelow x v) && not (isAbove x v)) _ (law .dictionary .ranged x (type-in (transmitter-in i)))))
+    not-false (isType (typeOf (a .dictionary) (eachWay + t))) (well-chosen (law .dictionary) (type-in (transmitter-in i)))
 
 ended-little : (a : Stand) (o : List ℕ) (k : ℕ) (fs : List Frame) → (fs ≡ []) ⊎ (fs ≡ heartbeat (a .state)) →
     let u = accepted (ended (a .state) (a .dictionary) (tickOf k fs (a .state))) o in

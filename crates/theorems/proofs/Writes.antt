@@ -1,22 +1,22 @@
 -- Writes keep a state lawful: each row one that may hold its value, and what is then acted on.
 -- Assumes nothing.
 pub use Rattle.rules_dictionary.proofs.Members.{in-cons, filtered, filter-in}
-use Rattle.theorems.proofs.Words.{ℕ, _+_, _^_, _<_, arith, _≡_, refl, sym, _∙_, ap, subst, _⊎_, inl, inr, true, false, not, _&&_, _||_}
+use Rattle.theorems.proofs.Words.{ℕ, _+_, _^_, _<_, arith, _≡_, refl, sym, _∙_, ap, subst, _⊎_, inl, inr, true, false, _||_}
 use Rattle.theorems.proofs.Words.{Bool·not-not, List, [], _∷_, _++_, append-nil, eqb-true, eqb, PdoData, Drive, NmtState, Pace, State, In}
-use Rattle.theorems.proofs.Words.{here, there, and-right, and-both, none-in, apart, same-or-apart, read-apart, length-store, length-stored}
+use Rattle.theorems.proofs.Words.{false-not, here, there, and-both, none-in, apart, same-or-apart, read-apart, length-store, length-stored}
 use Rattle.theorems.proofs.Words.{field-stored, all-of, in-left, isOperational, clash, either, or-either, by-test, any-false-in, same-self}
-use Rattle.theorems.proofs.Dictionary.{DictionaryOk, MayHold, store-ok, isPdo, held-alike, works-alike, type-alike}
+use Rattle.theorems.proofs.Dictionary.{DictionaryOk, well-chosen, MayHold, store-ok, isPdo, held-alike, works-alike, type-alike}
 use Rattle.theorems.proofs.Settled.{drive-may, whole-range, mode-in, control-in, time-in, register-in}
 use Rattle.theorems.proofs.Lawful.{Lawful, Waits, pairwise-map, transmitter-in}
 use Rattle.theorems.proofs.DriveKept.{parts, control-sound, control-mode, mode-moded}
 use Rattle.rules_dictionary.specs.Table.{Row, table, same, sizeOf, receivePdos, transmitPdos, eachWay, controlWord, mode, heartbeatTime}
 use Rattle.rules_dictionary.specs.Table.{errorRegister, open-table}
 use Rattle.rules_dictionary.specs.Values.{Write, write, read, store, stored, toDefaults}
-use Rattle.rules_dictionary.specs.{Numbers.value, Legal.modeNumber, Legal.isMode, Legal.isCyclic, Legal.isBelow, Legal.isAbove}
+use Rattle.rules_dictionary.specs.{Numbers.value, Legal.modeNumber, Legal.isMode, Legal.isCyclic}
 use Rattle.drive.specs.SetPoints.{modeOf, modeWritten, controlWritten}
 use Rattle.rules_services.specs.Written.{wrote, countRestarted, modeActed, faultReset, controlActed, applied}
 use Rattle.rules_services.specs.{Effects.Effect, Effects.withDrive, Effects.withHeartbeat, PdoTraffic.works, PdoTraffic.isHeld}
-use Rattle.rules.specs.Sound.{inRange, driveSound, storeInPlace, takenInPlace, causeInPlace, heartbeatSound, heldSound}
+use Rattle.rules.specs.Sound.{driveSound, storeInPlace, takenInPlace, causeInPlace, heartbeatSound, heldSound}
 
 -- ---- a row that was not written stays
 
@@ -89,9 +89,7 @@ mode-number v h =
     (λ b. elim (or-either (eqb v 0) (eqb v 1 || (eqb v 3 || false)) h) [ inl e ↦ sym (eqb-true v 0 e) | inr e ↦ clash false (rw (a, b) at e) refl ]))
 
 legal-mode : (n : ℕ) (d : List ℕ) → DictionaryOk n d → isMode (read d mode) ≡ true
-unfolding inRange
-legal-mode n d ok =
-    simp Bool·not-not at (and-right (not (isBelow mode (read d mode)) && not (isAbove mode (read d mode))) _ (ok .ranged mode mode-in))
+legal-mode n d ok = simp Bool·not-not at (false-not _ (well-chosen ok mode-in))
 
 -- a row of no PDO, apart from what the drive and the heartbeat look at, written with what it may hold
 pub store-lawful : (s : State) (d : List ℕ) (x : Row) (v : ℕ) → Lawful s d → In x table → isPdo (x .role) ≡ false → MayHold (s .node .id) d x v →
