@@ -60,7 +60,9 @@ enum {
     SET_POINT_TAKEN = 0x1000
 };
 
-enum { NO_ERROR = 0x0000, OVER_CURRENT = 0x2310, CAN_OVERRUN = 0x8110, VALUE_INVALID = 0x06090030, NOT_NOW = 0x08000022 };
+/* Emergencies, and aborts of SDO. */
+enum { NO_ERROR = 0x0000, OVER_CURRENT = 0x2310, CAN_OVERRUN = 0x8110 };
+enum { NOT_COMPATIBLE = 0x06040043, VALUE_INVALID = 0x06090030, NOT_NOW = 0x08000022 };
 
 /* A set-point by the handshake: told, taken, bit 4 back, reached. */
 #define MOVED(word, to, at)                                                                                                        \
@@ -69,8 +71,8 @@ enum { NO_ERROR = 0x0000, OVER_CURRENT = 0x2310, CAN_OVERRUN = 0x8110, VALUE_INV
 
 /* ---- parts */
 
-/* Power-up, what are you, limits and ramps, transmit PDO 3 on SYNC, transmit PDO 4 with position and velocity on SYNC; and, until the first
- * heartbeat comes, what is your name. */
+/* Power-up, what are you, limits (first the wrong way round, which is refused) and ramps, transmit PDO 3 on SYNC, transmit PDO 4 with position and
+ * velocity on SYNC; and, until the first heartbeat comes, what is your name. */
 static const struct step commission[] = {
     BOOT_UP,
     READ(0x1000, 0, 0x00020192),
@@ -79,6 +81,8 @@ static const struct step commission[] = {
     REFUSED(0x6060, 0, 1, 7, VALUE_INVALID),
     WRITE(0x6067, 0, 4, 5),
     WRITE(0x6068, 0, 2, 20),
+    WRITE(0x607D, 1, 4, 20000),
+    REFUSED(0x607D, 2, 4, (uint32_t)-20000, NOT_COMPATIBLE),
     WRITE(0x607D, 1, 4, (uint32_t)-20000),
     WRITE(0x607D, 2, 4, 20000),
     WRITE(0x6081, 0, 4, 10000),

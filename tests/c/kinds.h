@@ -203,13 +203,14 @@ static inline void prepare(const char *kind)
     case 'b': case 'o': types(1); operational(); break;
     case 'c': types(0); operational(); frame(0x80, 0, 0); break;
     case 'f': sdo(0x2F, 0x1402, 2, 1); operational(); break;
-    case 'e': case 'g': case 'i': case 'j': case 'l': case 'm': case 'n': operational(); break;
+    case 'e': case 'g': case 'i': case 'j': case 'l': case 'm': case 'n': case 'x': operational(); break;
     case 'p': start_transfer(0x40, 0x1008); break;
     case 'q': operational(); start_transfer(0x20, 0x607A); break;
     case 'r': rest(0, LONG_TIME, 1); break;
     case 's': rest(0, SHORT_TIME, SHORT_TIME - 1); break;
     case 't': case 'u': rest(0, SHORT_TIME, SHORT_TIME); break;
     case 'v': case 'w': rest(WINDOW + 1, SHORT_TIME, 0); break;
+    case 'y': sdo(0x23, 0x607D, 1, 0); operational(); break;
     default: break;
     }
 }
@@ -234,6 +235,8 @@ static inline void call(const char *kind, uint32_t i)
     case 'p': upload_segment(); break;
     case 'q': last_download_segment(i); break;
     case 's': last_tick(kind[1]); break;
+    case 'x': sdo(0x23, 0x607D, 2, i); break;
+    case 'y': sdo(0x23, 0x607D, 2, 0xFFFFFFFFu - i); break;
     }
 }
 

@@ -6,6 +6,7 @@
 
 #include "checks.h"
 #include "guarded.h"
+#include "randoms.h"
 
 /* ---- the ten examples of document 01 */
 
@@ -295,14 +296,6 @@ static void all_flips(void)
 }
 
 /* ---- random calls on buffers of all lengths: guards stay, a refusal leaves every byte, six frames at the most */
-
-static uint64_t seed;
-
-static uint32_t random_below(uint32_t bound)
-{
-    seed = seed * 6364136223846793005u + 1442695040888963407u;
-    return (uint32_t)(seed >> 33) % bound;
-}
 
 static void random_bytes(uint8_t *to, uint32_t count)
 {

@@ -6,13 +6,9 @@
 #include <stdio.h>
 
 #include "checks.h"
-#include "guarded.h"
-#include "transfer.h"
+#include "segments.h"
 
-enum { SEGMENT_ROOM = 7, MOST_RECEIVED = 4, MORE_RECEIVED = 5, TOGGLE_BIT = 0x10, LAST_BIT = 0x01 };
-enum { DOWNLOAD_SEGMENT = 0x00, SEGMENT_TAKEN = 0x20, UPLOAD_SEGMENT = 0x60, ABORT = 0x80 };
-enum { TOGGLE_NOT_ALTERNATED = 0x05030000, NOT_KNOWN = 0x05040001, NO_OBJECT = 0x06020000, NO_SUBINDEX = 0x06090011, NO_WRITING = 0x06010002 };
-enum { TOO_LONG = 0x06070012, TOO_SHORT = 0x06070013, NOT_NOW = 0x08000022, BAD_VALUE = 0x06090030 };
+enum { MOST_RECEIVED = 4, MORE_RECEIVED = 5, UPLOAD_SEGMENT = 0x60 };
 
 /* Index, low byte first, and subindex, as a reply names an object. */
 static const uint8_t no_object[3], device_name[3] = {0x08, 0x10, 0x00}, target[3] = {0x7A, 0x60, 0x00};
@@ -21,60 +17,13 @@ static const uint8_t name_is_told[8] = {0x41, 0x08, 0x10, 0x00, 19};
 static const uint8_t name_segments[3][8] = {
     {0x00, 'C', 'e', 'n', 'd', 'u', 'r', 'a'}, {0x10, 'k', ' ', 's', 'e', 'r', 'v', 'o'}, {0x05, ' ', 'n', 'o', 'd', 'e', 0, 0}};
 
-/* ---- requests and replies */
+/* ---- requests */
 
 /* A request with this first byte; the others are ones that no rule asks for. */
 static uint32_t ask_segment(struct bench *b, uint8_t head)
 {
     const uint8_t request[8] = {head, 0xFF, 0, 0xFF, 0, 0xFF, 0, 0xFF};
     return frame(b, 0x605, request, 8);
-}
-
-/* A download's segment that carries so many bytes. Behind them stand some that it does not carry. */
-static uint32_t send_segment(struct bench *b, uint8_t toggle, const uint8_t *bytes, uint32_t count, int is_last)
-{
-    uint8_t request[8];
-
-    memset(request, 0xEE, sizeof request);
-    request[0] = (uint8_t)(DOWNLOAD_SEGMENT + TOGGLE_BIT * toggle + 2 * (SEGMENT_ROOM - count) + (is_last ? LAST_BIT : 0));
-    memcpy(request + 1, bytes, count);
-    return frame(b, 0x605, request, 8);
-}
-
-static void make_abort(uint8_t *reply, const uint8_t *object, uint32_t code)
-{
-    reply[0] = ABORT;
-    memcpy(reply + 1, object, 3);
-    for (uint32_t i = 0; i < 4; i++)
-        reply[4 + i] = (uint8_t)(code >> (8 * i));
-}
-
-/* The answer is this one frame. */
-static int is_reply(struct bench *b, const uint8_t *reply)
-{
-    return b->answer == 1 && sent(b, 0, 0x585, reply, 8);
-}
-
-static int is_abort(struct bench *b, const uint8_t *object, uint32_t code)
-{
-    uint8_t reply[8];
-
-    make_abort(reply, object, code);
-    return is_reply(b, reply);
-}
-
-/* The reply, first of the answer's frames, is that to a segment taken with this toggle. */
-static int is_taken(struct bench *b, uint8_t toggle)
-{
-    const uint8_t reply[8] = {(uint8_t)(SEGMENT_TAKEN + TOGGLE_BIT * toggle)};
-    return sent(b, 0, 0x585, reply, 8);
-}
-
-static int is_idle(struct bench *b)
-{
-    static const struct transfer none;
-    struct transfer now = transfer_of(lent(&b->state));
-    return memcmp(&now, &none, sizeof now) == 0;
 }
 
 /* ---- the device name */
@@ -115,7 +64,7 @@ static void device_name_is_read(void)
     sdo(&b, 0x23, 0x1400, 1, 0x80000205);
     sdo(&b, 0x2F, 0x1600, 0, 0);
     sdo(&b, 0x23, 0x1600, 1, 0x10080098);
-    check(is_abort(&b, (const uint8_t[]){0x00, 0x16, 0x01}, 0x06040041), "the device name is not mapped");
+    check(is_abort(&b, (const uint8_t[]){0x00, 0x16, 0x01}, NOT_MAPPABLE), "the device name is not mapped");
 }
 
 /* ---- writing by segments: as an expedited write of the same bytes */
@@ -421,7 +370,6 @@ static int goes_on(const struct bench *start, const struct transfer *t, const ui
 {
     static struct bench b, wanted;
     struct outcome outcome = outcome_of(t, request);
-    const uint8_t head[3] = {0x85, 0x05, 8};
 
     b = wanted = *start;
     if (cendurak_nmt(lent(&b.state)) == CENDURAK_NMT_STOPPED)
@@ -429,8 +377,7 @@ static int goes_on(const struct bench *start, const struct transfer *t, const ui
     put_transfer(lent(&wanted.state), &outcome.left);
     if (outcome.is_written)
         memcpy(lent(&wanted.dict) + CENDURAK_DICT_AT_TARGET_POSITION, outcome.value, sizeof outcome.value);
-    memcpy(lent(&wanted.out), head, sizeof head);
-    memcpy(lent(&wanted.out) + sizeof head, outcome.reply, sizeof outcome.reply);
+    lay_reply(&wanted, outcome.reply);
     return frame(&b, 0x605, request, 8) == 1 && are_same(&b, &wanted);
 }
 

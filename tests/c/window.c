@@ -7,6 +7,7 @@
 
 #include "checks.h"
 #include "guarded.h"
+#include "randoms.h"
 
 enum { DICTIONARY = 391, STATE = 399 }; /* bytes, as the rules have them */
 enum { TARGET = 1000, WINDOW = 20, WINDOW_TIME = 5, COUNTED = 3, MOST_TICKS = 65535 };
@@ -398,14 +399,6 @@ static struct {
     uint32_t kind, window, time, count, word, mode;
     int32_t first, second, target, position, velocity;
 } model;
-
-static uint64_t seed;
-
-static uint32_t random_below(uint32_t bound)
-{
-    seed = seed * 6364136223846793005u + 1442695040888963407u;
-    return (uint32_t)(seed >> 33) % bound;
-}
 
 static int is_enabled(void)
 {

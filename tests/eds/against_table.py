@@ -1,5 +1,5 @@
-"""The sheet's types against the rows of the rules: which entries have a row, and the signs. The node cannot be asked for a sign: its bytes
-are the same with it or without."""
+"""The sheet's types against the rows of the rules: which entries have a row, and the signs. The node cannot be asked for a sign, but for those
+of 607Dh, which it compares: its bytes are the same with it or without."""
 import re
 
 from bench import ROOT

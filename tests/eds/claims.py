@@ -7,12 +7,16 @@ from sheet import MAPPING, PDO_ROOM, RECEIVE, TRANSMIT, WRITABLE
 # document 01, 'SDO', and what a segment with no transfer gets
 NO_OBJECT, NO_SUBINDEX, NO_WRITING, NO_READING = 0x06020000, 0x06090011, 0x06010002, 0x06010001
 TOO_LONG, TOO_SHORT, BELOW, ABOVE, BAD_VALUE, NOT_MAPPABLE = 0x06070012, 0x06070013, 0x06090032, 0x06090031, 0x06090030, 0x06040041
-NO_TRANSFER = 0x05040001
+NO_TRANSFER, NOT_COMPATIBLE = 0x05040001, 0x06040043
 NOT_VALID, TRANSMIT_BIT, RESERVED_BIT, IDENTIFIER = 1 << 31, 1 << 30, 1 << 11, 0x7FF
 FIRST_IDENTIFIER, LAST_IDENTIFIER = 0x181, 0x57F
 MODES, TYPES, TYPE_EDGES = {0, 1, 3}, {*range(241), 254, 255}, (0, 1, 240, 241, 253, 254, 255)
 MODES_OF_OPERATION = 0x6060
 COB_ID, TRANSMISSION_TYPE = 1, 2
+POSITION_LIMITS, MINIMUM, MAXIMUM = 0x607D, 1, 2
+LEAST, GREATEST = -(2**31), 2**31 - 1
+# minimum and maximum that the node is given, before another is tried
+LIMITS = ((LEAST, GREATEST), (-1000, 1000), (-1000, -500), (500, 1000), (-1, 0), (0, 0), (LEAST, LEAST), (GREATEST, GREATEST))
 
 
 class Step(NamedTuple):
@@ -63,6 +67,11 @@ def tries(entry, value, abort):
     return [writes(*place, data), reads(*place, data)]
 
 
+def as_held(entry, value):
+    """The number that the entry's type makes of the value's bytes."""
+    return int.from_bytes(bench.little(value, entry.type.size), "little", signed=entry.type.signed)
+
+
 def default_data(entry, node_id):
     """The bytes of the entry's default."""
     return entry.default.encode("ascii", "replace") if entry.is_text else bench.little(entry.default_at(node_id), entry.type.size)
@@ -91,6 +100,29 @@ def mapping_word(entry, bits):
     return entry.index << 16 | entry.subindex << 8 | bits % 256
 
 
+def tie(pair):
+    return f"[{pair[0].section}] is at most [{pair[1].section}]"
+
+
+def is_in_order(pair, values):
+    low, high = map(as_held, pair, values)
+    return low <= high
+
+
+def gives(pair, values):
+    """The limits written to a node that has the default ones."""
+    return [writes(entry.index, entry.subindex, bench.little(value, entry.type.size)) for entry, value in zip(pair, values)]
+
+
+def moved(pair):
+    """Both limits moved up and down again, the wrong one first and then the right one."""
+    low, high = ((entry.index, entry.subindex) for entry in pair)
+    here, there = ([bench.little(value, entry.type.size) for entry, value in zip(pair, values)] for values in ((-10, 10), (20, 30)))
+    up = [refuses(*low, there[0], NOT_COMPATIBLE), writes(*high, there[1]), writes(*low, there[0])]
+    down = [refuses(*high, here[1], NOT_COMPATIBLE), writes(*low, here[0]), writes(*high, here[1])]
+    return [*gives(pair, (-10, 10)), *up, reads(*low, there[0]), reads(*high, there[1]), *down, reads(*low, here[0]), reads(*high, here[1])]
+
+
 class Claims:
     def __init__(self, sheet, node_id):
         self.sheet, self.node_id, self.pdos = sheet, node_id, sheet.pdos()
@@ -104,6 +136,7 @@ class Claims:
                 yield from self.values(entry)
                 yield from self.sizes(entry)
             yield from self.mapped(entry)
+        yield from self.position_limits()
         yield from self.dummies()
 
     # ---- the steps that bring the node where only the value decides
@@ -200,6 +233,40 @@ class Claims:
         for size in {1, 2, 3, 4} - {entry.type.size}:
             abort = TOO_LONG if size > entry.type.size else TOO_SHORT
             yield Case(entry.says("DataType"), [refuses(entry.index, entry.subindex, bytes(size), abort)])
+
+    # ---- the limits of the position, which are tied to each other
+
+    def position_limits(self):
+        """The minimum stays at most the maximum. A sheet that lacks one of them is refused for that."""
+        pair = [self.sheet.entries.get((POSITION_LIMITS, subindex)) for subindex in (MINIMUM, MAXIMUM)]
+        if all(entry and entry.access in WRITABLE and not entry.is_text for entry in pair):
+            for present in LIMITS:
+                for entry in pair:
+                    yield from self.tied(pair, present, entry)
+            yield from self.lengths_first(pair)
+            yield Case(tie(pair), moved(pair))
+
+    def tied(self, pair, present, entry):
+        """What lies at the limits and next to them, and where a sign counts, judged by the other limit as it is, at once and by segments."""
+        place, size, own = (entry.index, entry.subindex), entry.type.size, pair.index(entry)
+        edges = {limit + step for limit in present for step in (-1, 0, 1)} | {LEAST, -1, 0, GREATEST}
+        for value in sorted({as_held(entry, edge) for edge in edges}):
+            wanted = [value if i == own else limit for i, limit in enumerate(present)]
+            abort = None if is_in_order(pair, wanted) else NOT_COMPATIBLE
+            data, left = bench.little(value, size), reads(*place, bench.little(present[own] if abort else value, size))
+            at_once = refuses(*place, data, abort) if abort else writes(*place, data)
+            yield Case(tie(pair), [*gives(pair, present), at_once, left])
+            yield Case(tie(pair), [*gives(pair, present), *writes_by_segments(*place, data, abort), left])
+
+    def lengths_first(self, pair):
+        """Zeros would swap these limits, but a wrong length is found before that."""
+        for entry, present in zip(pair, ((-1000, -500), (500, 1000))):
+            place = entry.index, entry.subindex
+            for size in {1, 2, 3, 5, 8} - {entry.type.size}:
+                abort = TOO_LONG if size > entry.type.size else TOO_SHORT
+                yield Case(tie(pair), [*gives(pair, present), *writes_by_segments(*place, bytes(size), abort)])
+                if size < 4:
+                    yield Case(tie(pair), [*gives(pair, present), refuses(*place, bytes(size), abort)])
 
     # ---- mapping
 

@@ -8,6 +8,8 @@ ENTRIES = 123  # of the dictionary's bytes
 MANDATORY = [0x1000, 0x1001, 0x1018]
 VARIABLE, ARRAY, RECORD = "0x7", "0x8", "0x9"
 MANUFACTURER = range(0x2000, 0x6000)
+POSITION_LIMITS = 0x607D
+IN_COMMENTS = ("6060h", "607Dh")  # objects whose values no limits tell, and a comment must
 DATE, TIME = r"(0[1-9]|1[0-2])-(0[1-9]|[12]\d|3[01])-\d{4}", r"(0[1-9]|1[0-2]):[0-5]\d(AM|PM)"
 FLAG, NUMBER, WORDS, NAME = r"[01]", r"0|[1-9]\d*|0x[0-9A-Fa-f]+", r"\S(.*\S)?", r"[ -~]{5,32}"
 
@@ -44,13 +46,14 @@ def read(data, report):
     check_form(sections, "FileInfo", FILE_INFO, report)
     check_form(sections, "DeviceInfo", DEVICE_INFO, report)
     check_form(sections, "DummyUsage", DUMMY_USAGE, report)
-    check_numbered(sections, "Comments", "Lines", "Line", report)
+    check_comments(check_numbered(sections, "Comments", "Lines", "Line", report), report)
     check_lists(sections, report)
     entries = read_entries(sections, report)
     if entries is None:
         return None
     check_groups(sections, entries, report)
     check_names(sections, report)
+    check_position_limits(entries, report)
     check_device(sections["DeviceInfo"], entries, report)
     in_bytes = len(entries.keys() - {DEVICE_NAME})
     report.check(in_bytes == ENTRIES, f"the sheet has {in_bytes} entries besides the device name, and the dictionary {ENTRIES}")
@@ -84,6 +87,11 @@ def check_numbered(sections, name, count, prefix, report):
     numbered = [f"{prefix}{i}" for i in range(1, len(keys) + 1)]
     report.check(list(keys) == numbered, f"[{name}] is not numbered from 1 on")
     return list(keys.values())
+
+
+def check_comments(lines, report):
+    for name in IN_COMMENTS:
+        report.check(any(name in line for line in lines), f"[Comments] does not tell the values of {name}")
 
 
 def check_lists(sections, report):
@@ -180,6 +188,13 @@ def check_names(sections, report):
         report.check(re.fullmatch(WORDS, name), f"[{section}] has no name")
         report.check((sub and sub[1], name) not in seen, f"[{section}] ParameterName={name} stands twice")
         seen.add((sub and sub[1], name))
+
+
+def check_position_limits(entries, report):
+    """The default minimum is at most the default maximum."""
+    pair = [entries[POSITION_LIMITS, subindex] for subindex in (1, 2) if (POSITION_LIMITS, subindex) in entries]
+    defaults = [entry.default for entry in pair]
+    report.check(defaults == sorted(defaults), " lies above ".join(entry.says("DefaultValue") for entry in pair))
 
 
 def check_device(device, entries, report):

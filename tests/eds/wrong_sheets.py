@@ -77,6 +77,14 @@ AGAINST_RULES_AND_NODE = {
         {"606F": {"HighLimit": "1000"}},
         "[606F] HighLimit=1000: download 606F:00 = e9 03 must give abort 06090031, and node 127 gave accepted",
     ),
+    "a range for one of two limits": (
+        {"607Dsub1": {"HighLimit": "0"}},
+        "[607Dsub1] HighLimit=0: download 607D:01 = 01 00 00 00 must give abort 06090031, and node 127 gave accepted",
+    ),
+    "limits without their signs": (
+        {"607Dsub1": {"DataType": "0x0007", "DefaultValue": "0x80000000"}, "607Dsub2": {"DataType": "0x0007"}},
+        "[607Dsub1] is at most [607Dsub2]: download 607D:01 = ff ff ff ff must give abort 06040043, and node 127 gave accepted",
+    ),
     "a set of values as a range": (
         {"6060": {"LowLimit": "0", "HighLimit": "3"}},
         "[6060] LowLimit=0 HighLimit=3: download 6060:00 = 04 must give abort 06090031, and node 127 gave abort 06090030",
@@ -200,6 +208,14 @@ AGAINST_ITSELF = {
         "[606D] DefaultValue=65536 lies outside 0..65535 at node-ID 1",
     ),
     "limits the wrong way round": ({"6067": {"LowLimit": "5", "HighLimit": "4"}}, "[6067] limits 5 and 4 are no range"),
+    "default limits the wrong way round": (
+        {"607Dsub1": {"DefaultValue": "5"}, "607Dsub2": {"DefaultValue": "4"}},
+        "[607Dsub1] DefaultValue=5 lies above [607Dsub2] DefaultValue=4",
+    ),
+    "limits that are tied and no word of it": (
+        {"Comments": {"Line8": "Limits."}},
+        "[Comments] does not tell the values of 607Dh",
+    ),
     "a default that is no number": ({"6502": {"DefaultValue": "five"}}, "[6502] cannot be read: 'five' is no number"),
     "an unknown access": ({"6502": {"AccessType": "r"}}, "[6502] cannot be read: AccessType or PDOMapping is none of CiA 306"),
     "an entry without a type": ({"6502": {"DataType": None}}, "[6502] cannot be read: 'DataType'"),

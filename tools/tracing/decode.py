@@ -162,12 +162,28 @@ class Decoder:
                 self.show_status(row, int.from_bytes(sdo.data[:2], 'little'))
             return row
         if sdo.command == can.ABORTED:
-            return self.make(OUT, 'SDO abort', frame, [self.abort_text(sdo)], BAD)
+            return self.make(OUT, 'SDO abort', frame, [self.abort_text(sdo), *self.reasons(sdo)], BAD)
         return self.make(OUT, 'SDO answer', frame, [self.object_text(sdo.place), f'unknown command {sdo.command:02X}h'])
 
     def abort_text(self, sdo: Sdo) -> Union[ObjectText, str]:
         text = words.abort(int.from_bytes(sdo.data, 'little'))
         return self.remark(sdo.place, text) if sdo.place != NO_OBJECT else f'no object: {text}'
+
+    def reasons(self, sdo: Sdo) -> list[str]:
+        """Under a limit of the position that is refused for the other one: why, with both numbers where the trace shows them."""
+        if sdo.place not in can.POSITION_LIMITS or int.from_bytes(sdo.data, 'little') != words.NOT_COMPATIBLE:
+            return []
+        data = self.data_asked_for(sdo.place)
+        low, high = self.node.limits_with(sdo.place, data)
+        known = data and low > high
+        return [f'minimum {low} would be above maximum {high}' if known else 'the minimum would be above the maximum']
+
+    def data_asked_for(self, place: Place) -> bytes:
+        """What the request that is answered now would have stored there; nothing where the trace does not show it."""
+        asked, running = self.asked, self.running
+        if asked and asked.is_last_segment and running and running.place == place:
+            return running.data + segment_of(asked.whole).data
+        return asked.data if asked and asked.kind == can.DOWNLOAD and asked.place == place else b''
 
     # segments, both ways
 

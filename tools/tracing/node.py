@@ -24,6 +24,7 @@ COMMUNICATION = {RECEIVE: 0x1400, TRANSMIT: 0x1800}
 MAPPING = {RECEIVE: 0x1600, TRANSMIT: 0x1A00}
 NOT_VALID = 0x80000000
 CONTROL_WORD, MODE, MODE_DISPLAY, WINDOW_TIME = (0x6040, 0), (0x6060, 0), (0x6061, 0), (0x6068, 0)
+POSITION_LIMITS = (0x607D, 1), (0x607D, 2)  # minimum and maximum
 
 
 class Sdo(NamedTuple):
@@ -222,3 +223,9 @@ class Node:
         """How many milliseconds target reached waits inside the window; 0 where it does not wait, as under halt."""
         waits = self.mode == words.POSITION_MODE and not self.values.get(CONTROL_WORD, 0) & words.HALT
         return self.values.get(WINDOW_TIME, 0) if waits else 0
+
+    def limits_with(self, place: Place, data: bytes) -> tuple[int, int]:
+        """Minimum and maximum of the position, as they would be with one of them written."""
+        held = {limit: self.values.get(limit, 0).to_bytes(4, 'little') for limit in POSITION_LIMITS} | {place: data}
+        low, high = (int.from_bytes(held[limit], 'little', signed=True) for limit in POSITION_LIMITS)
+        return low, high

@@ -11,6 +11,7 @@ REFUSALS = {
     8: 'bad record',
 }
 
+NOT_COMPATIBLE = 0x06040043
 ABORTS = {
     0x05030000: 'toggle bit not alternated',
     0x05040000: 'SDO timed out',
@@ -21,7 +22,7 @@ ABORTS = {
     0x06020000: 'no such object',
     0x06040041: 'object cannot be mapped so',
     0x06040042: 'mapping longer than a PDO',
-    0x06040043: 'does not fit the other parameters',
+    NOT_COMPATIBLE: 'general parameter incompatibility',
     0x06040047: 'does not fit inside the device',
     0x06060000: 'hardware fault',
     0x06070010: 'length does not match',

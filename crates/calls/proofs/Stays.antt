@@ -17,9 +17,10 @@ use Rattle.rules_dictionary.proofs.Members.{all-of, in-right, words-read, count
 use Rattle.rules_dictionary.proofs.Packing.{apart, same-or-apart}
 use Rattle.rules_dictionary.proofs.Rows.{field-stored}
 use Rattle.rules_dictionary.proofs.Plans.{joined-same}
-use Rattle.theorems.proofs.Dictionary.{mapped-in, DictionaryOk, map-same}
+use Rattle.rules_dictionary.proofs.Plans.{mapped-in}
+use Rattle.theorems.proofs.Dictionary.{DictionaryOk, map-same}
 use Rattle.theorems.proofs.Booleans.{clash, any-false-in}
-use Rattle.theorems.proofs.PdoKept.{mapped-way}
+use Rattle.theorems.proofs.Mapped.{mapped-way}
 use Rattle.theorems.proofs.Writes.{InTable}
 use Rattle.output.specs.Leaves.{touches, remaps, isMapping}
 

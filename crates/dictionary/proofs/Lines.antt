@@ -15,7 +15,8 @@ use Rattle.rules_dictionary.specs.Members.{In}
 use Rattle.rules_dictionary.proofs.Tests.{getD-in, getD-any, allBelow, below}
 use Rattle.rules_dictionary.proofs.Members.{map-in}
 use Rattle.dictionary.specs.Entries.{entryOf}
-use Rattle.dictionary.specs.Lines.{lineOf, indexIn, subindexIn, roomOf, roleIn, communicationOffset, mappingOffset, sizesFrom, driveRank}
+use Rattle.dictionary.specs.Lines.{lineOf, indexIn, subindexIn, roomOf, driveRole, roleIn, communicationOffset, mappingOffset, sizesFrom}
+use Rattle.dictionary.specs.Lines.{driveRank}
 use Rattle.dictionary.specs.Lines.{middleRank, drivePlace, placeIn, entryIn}
 
 -- ---- lines by their number
@@ -65,7 +66,7 @@ place-of-rank lines n e h =
 
 -- .. and its role, by index and subindex; the line tells the rest
 pub entry-of : {x : Row} → In x table → entryIn (lineOf x) (placeOf x) ≡ entryOf x
-unfolding entryIn roleIn table
+unfolding entryIn driveRole roleIn table
 entry-of i = map-in (λ x. entryIn (lineOf x) (placeOf x)) entryOf i refl
 
 -- ---- sizes, one row after another

@@ -9,7 +9,8 @@ use Rattle.rules_dictionary.specs.Table as rows
 use Rattle.rules_dictionary.specs.declared.Access.{Access}
 use Rattle.rules_dictionary.specs.declared.Access.the-variants.{Constant, NodeWritten, Writable}
 use Rattle.rules_dictionary.specs.declared.Role.{Role}
-use Rattle.rules_dictionary.specs.declared.Role.the-variants.{Plain, ModeOfOperation, PdoIdentifier, PdoType, MappingCount, MappingEntry}
+use Rattle.rules_dictionary.specs.declared.Role.the-variants.{Plain, ModeOfOperation, MinimumLimit, MaximumLimit, PdoIdentifier, PdoType}
+use Rattle.rules_dictionary.specs.declared.Role.the-variants.{MappingCount, MappingEntry}
 use Rattle.dictionary.specs.declared.Entry.{Entry}
 use Rattle.dictionary.specs.declared.table.Room.{Room}
 use Rattle.dictionary.specs.declared.table.Room.the-variants.{Node, Communication, Mapping, Drive}
@@ -75,11 +76,19 @@ PdoIn (Communication p) = IsPdo p
 PdoIn (Mapping p) = IsPdo p
 PdoIn Drive = Unit
 
+-- of the drive's rows the mode of operation and the software limits have a role
+unfoldable pub driveRole : ℕ → ℕ → Role
+driveRole index subindex =
+    cond (eqb index (rows.mode .index)) ModeOfOperation
+    (cond (eqb index (rows.limitCount .index))
+    (cond (eqb subindex (rows.minimumPosition .subindex)) MinimumLimit (cond (eqb subindex (rows.maximumPosition .subindex)) MaximumLimit Plain))
+    Plain)
+
 unfoldable pub roleIn : Room → ℕ → ℕ → Role
 roleIn Node index subindex = Plain
 roleIn (Communication p) index subindex = cond (eqb subindex 1) (PdoIdentifier p) (cond (eqb subindex 2) (PdoType p) Plain)
 roleIn (Mapping p) index subindex = cond (eqb subindex 0) (MappingCount p) (MappingEntry p)
-roleIn Drive index subindex = cond (eqb index (rows.mode .index)) ModeOfOperation Plain
+roleIn Drive index subindex = driveRole index subindex
 
 -- how far behind its record's place a row stands
 unfoldable pub communicationOffset : ℕ → ℕ

@@ -13,7 +13,8 @@ ghost use mathlib.Core.List.{map};
 ghost use Prim.Native.Nat.{_-_, _<_, _≤_, _^_};
 ghost use Rattle.rules_dictionary.specs.Table.{table, entries, rowAt, placeOf, rowOf, lookup};
 ghost use Rattle.dictionary.specs.Entries.{entryAt, IsFound, presenceOf};
-ghost use Rattle.dictionary.specs.Lines.{lineOf, LastUpTo, accessIn, leastIn, greatestIn, roomOf, roleIn, PdoIn, communicationOffset};
+ghost use Rattle.dictionary.specs.Lines.{lineOf, LastUpTo, accessIn, leastIn, greatestIn, roomOf, driveRole, roleIn, PdoIn};
+ghost use Rattle.dictionary.specs.Lines.{communicationOffset};
 ghost use Rattle.dictionary.specs.Lines.{mappingOffset, sizesFrom, drivePlace, placeIn, spotOf};
 
 // What a line of the table holds: index and subindex, six digits, stand above one byte, ..
@@ -64,10 +65,12 @@ const ENTRIES: usize = DRIVE_RANK + 20;
 // such a loop the compiler lays out in full.
 const MIDDLE_RANK: usize = (DRIVE_RANK + ENTRIES - 1) / 2;
 
-// The last index of a communication object, and that of the mode of operation.
+// The last index of a communication object, that of the mode of operation, and that of the software limits.
 const LAST_COMMUNICATION: u16 = 0x1FFF;
 
 const MODE_INDEX: u16 = 0x6060;
+
+const LIMIT_INDEX: u16 = 0x607D;
 
 // The table, in rising order of index and subindex. It has no places: they follow from the sizes and the regular records of the PDOs.
 const ROWS: [u32; ENTRIES] = [
@@ -294,6 +297,23 @@ fn room_of(index: u16) -> Room
     }
 }
 
+// The role of a row of the drive.
+fn drive_role(index: u16, subindex: u8) -> Role
+    ensures { λ r. ⌜ r ≡ driveRole index subindex ⌝ }
+{
+    if index == MODE_INDEX {
+        return Role::ModeOfOperation;
+    }
+    if index != LIMIT_INDEX {
+        return Role::Plain;
+    }
+    match subindex {
+        1 => Role::MinimumLimit,
+        2 => Role::MaximumLimit,
+        _ => Role::Plain,
+    }
+}
+
 // The role of a row, by its room, index and subindex.
 fn role_in(room: Room, index: u16, subindex: u8) -> Role
     ensures { λ r. ⌜ r ≡ roleIn room index subindex ⌝ }
@@ -310,11 +330,7 @@ fn role_in(room: Room, index: u16, subindex: u8) -> Role
         } else {
             Role::MappingEntry(p)
         },
-        Room::Drive => if index == MODE_INDEX {
-            Role::ModeOfOperation
-        } else {
-            Role::Plain
-        },
+        Room::Drive => drive_role(index, subindex),
     }
 }
 

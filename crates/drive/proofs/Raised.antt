@@ -99,6 +99,11 @@ module _ (a b : ℕ) (ha : a < 2 ^ 32) (hb : b < 2 ^ 32) where
       rw (← word-raised a ha, ← word-raised b hb)
       (raised-distance 0x80000000 (integer a) (integer b) (word-small a ha) (word-small b hb))
 
+  pub words-order : leZ (integer a) (integer b) ≡ leb (biased a) (biased b)
+  words-order =
+      rw (← word-raised a ha, ← word-raised b hb)
+      (raised-order 0x80000000 (integer a) (integer b) (word-small a ha) (word-small b hb))
+
   -- the sum, moved up by 2^32
   sum-small : mag (integer a +ℤ integer b) < 0x100000000
   sum-small = sum-mag 0x80000000 (integer a) (integer b) (word-small a ha) (word-small b hb)

@@ -7,7 +7,7 @@ pub mod set_points;
 pub mod states;
 pub mod status;
 pub mod window;
-mod words;
+pub mod words;
 
 use rules_dictionary::Mode;
 

@@ -3,6 +3,7 @@
 
 ghost use mathlib.Core.Path.{_≡_};
 ghost use lib.IntN.{natAbs, _+ℤ_, _-ℤ_};
+ghost use lib.Signed.{leZ};
 ghost use Rattle.rules_dictionary.specs.Numbers.{integer};
 ghost use Rattle.drive.specs.Window.{within};
 ghost use Rattle.drive.specs.Words.{biased, aimed};
@@ -25,6 +26,13 @@ fn biased(word: u32) -> u64
     ensures { λ r. ⌜ r ≡ biased word ⌝ }
 {
     (wide(word) + HALF) % WHOLE
+}
+
+// Is the integer of one word at most that of another: compared as words, which a controller does faster than 64 bits.
+pub fn is_at_most(a: u32, b: u32) -> bool
+    ensures { λ r. ⌜ r ≡ leZ (integer a) (integer b) ⌝ }
+{
+    biased(a) as u32 <= biased(b) as u32
 }
 
 // The sum of two integers, where it lies within the limits: all are words.

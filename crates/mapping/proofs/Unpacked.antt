@@ -19,7 +19,7 @@ use Rattle.rules_dictionary.specs.Table.{profileVelocity, profileAcceleration, 
 use Rattle.rules_dictionary.specs.Table.{open-table}
 use Rattle.rules_dictionary.specs.Values.{read, store, stored, unpacked}
 use Rattle.rules_dictionary.specs.Aborts.{good, bad, isGood, firstOf, belowRange, badValue}
-use Rattle.rules_dictionary.specs.Legal.{isMode, suits, otherBadValue, mappingVerdict, valueVerdict, entryVerdict, mapWords}
+use Rattle.rules_dictionary.specs.Legal.{isMode, suits, otherBadValue, swapsLimits, mappingVerdict, valueVerdict, entryVerdict, mapWords}
 use Rattle.rules_dictionary.specs.Plans.{targets, mapped, move, noMove, planFor}
 use Rattle.rules_dictionary.specs.Members.{In, here, there, Each}
 use Rattle.rules_dictionary.proofs.Tests.{and-left, and-right, and-both, all-in, each-in, none-in}
@@ -44,7 +44,7 @@ nonzero (suc v) = rw (le-ltb (suc v) 1 (omega arith), ne-eqb (suc v) 0 (λ e. ab
 -- of a value that fits the row only the lower end of the range is left to test, and of 6060h that it is a mode
 module _ (x : Row) (wide : suc (x .range .greatest) ≡ 256 ^ sizeOf x) (d : List ℕ) (v : ℕ) (h : v < 256 ^ sizeOf x) where
   ranged : x .role ≡ Plain → isGood (valueVerdict d x v) ≡ not (ltb v (x .range .least))
-  unfolding valueVerdict firstOf otherBadValue mappingVerdict
+  unfolding valueVerdict firstOf otherBadValue swapsLimits mappingVerdict
   ranged e = rw (e, le-ltb (x .range .greatest) v (omega arith)) (go (ltb v (x .range .least)))
     where
       go : (b : Bool) → isGood (elim b [ true ↦ bad belowRange | false ↦ good ]) ≡ not b
@@ -58,7 +58,7 @@ module _ (x : Row) (wide : suc (x .range .greatest) ≡ 256 ^ sizeOf x) (d : Lis
   positive e z = ranged e ∙ rw z (nonzero v)
 
   chosen : x .role ≡ ModeOfOperation → x .range .least ≡ 0 → isGood (valueVerdict d x v) ≡ isMode v
-  unfolding valueVerdict firstOf otherBadValue mappingVerdict
+  unfolding valueVerdict firstOf otherBadValue swapsLimits mappingVerdict
   chosen e z = rw (e, z, le-ltb v 0 (omega arith), le-ltb (x .range .greatest) v (omega arith)) (go (isMode v))
     where
       go : (b : Bool) → isGood (elim (not b) [ true ↦ bad badValue | false ↦ good ]) ≡ b

@@ -10,7 +10,8 @@ use Rattle.state.specs.declared.Occasion.the-variants.{Plain}
 use Rattle.state.specs.Occasions.{isSynced}
 use Rattle.rules_dictionary.specs.Numbers.{any}
 use Rattle.rules_dictionary.specs.declared.Role.{Role}
-use Rattle.rules_dictionary.specs.declared.Role.the-variants.{Plain, ModeOfOperation, PdoIdentifier, PdoType, MappingCount, MappingEntry}
+use Rattle.rules_dictionary.specs.declared.Role.the-variants.{Plain, ModeOfOperation, MinimumLimit, MaximumLimit, PdoIdentifier, PdoType}
+use Rattle.rules_dictionary.specs.declared.Role.the-variants.{MappingCount, MappingEntry}
 use Rattle.rules_dictionary.specs.TheNode.{lastNode}
 use Rattle.rules_dictionary.specs.Table.{transmit, dictionaryLength}
 use Rattle.rules_dictionary.specs.Values.{Write, stored}
@@ -31,6 +32,8 @@ touches ws = any (λ w. suits transmit (w .row .mappable)) ws
 abbrev pub isMapping : Role → Bool
 isMapping Plain = false
 isMapping ModeOfOperation = false
+isMapping MinimumLimit = false
+isMapping MaximumLimit = false
 isMapping (PdoIdentifier p) = false
 isMapping (PdoType p) = false
 isMapping (MappingCount p) = true

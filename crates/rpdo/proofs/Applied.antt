@@ -12,7 +12,8 @@ use Rattle.state.specs.NmtStates.{isStopped}
 use Rattle.drive.specs.SetPoints.{controlWritten}
 use Rattle.rules_dictionary.specs.declared.Plan.{Plan}
 use Rattle.rules_dictionary.specs.declared.Role.{Role}
-use Rattle.rules_dictionary.specs.declared.Role.the-variants.{Plain, ModeOfOperation, PdoIdentifier, PdoType, MappingCount, MappingEntry}
+use Rattle.rules_dictionary.specs.declared.Role.the-variants.{Plain, ModeOfOperation, MinimumLimit, MaximumLimit, PdoIdentifier, PdoType}
+use Rattle.rules_dictionary.specs.declared.Role.the-variants.{MappingCount, MappingEntry}
 use Rattle.rules_dictionary.specs.Table.{Row, placeOf, controlWord, mode}
 use Rattle.rules_dictionary.specs.Values.{Write, read, stored, unpacked}
 use Rattle.rules_dictionary.specs.Plans.{mapped}
@@ -22,8 +23,10 @@ use Rattle.rules_services.specs.Emergency.{faultGone}
 use Rattle.rules_services.specs.Written.{applied, wrote, countRestarted, faultReset}
 use Rattle.rules.specs.Outcome.{sentInto}
 use Rattle.theorems.proofs.Booleans.{any-false-of, whichever}
-use Rattle.theorems.proofs.Dictionary.{isPdo, mapped-in}
-use Rattle.theorems.proofs.PdoKept.{QuietRow, unpacked-rows}
+use Rattle.rules_dictionary.proofs.Plans.{mapped-in}
+use Rattle.theorems.proofs.Dictionary.{isPdo}
+use Rattle.theorems.proofs.Mapped.{QuietRow}
+use Rattle.theorems.proofs.PdoKept.{unpacked-rows}
 use Rattle.theorems.proofs.Writes.{NoPdo}
 use Rattle.theorems.proofs.Settled.{register-in}
 use Rattle.theorems.proofs.Services.{applied-all}
@@ -45,6 +48,8 @@ no-mapping ws quiet = any-false-of (λ w. isMapping (w .row .role)) ws (λ w i. 
     kind : (r : Role) → isPdo r ≡ false → isMapping r ≡ false
     kind Plain h = refl
     kind ModeOfOperation h = refl
+    kind MinimumLimit h = refl
+    kind MaximumLimit h = refl
     kind (PdoIdentifier p) h = refl
     kind (PdoType p) h = refl
     kind (MappingCount p) h = h

@@ -22,8 +22,9 @@ use Rattle.drive.specs.declared.Store.the-variants.{Empty, Rested, Moving, Queu
 use Rattle.drive.specs.declared.Drive.{Drive}
 use Rattle.rules_dictionary.specs.TheNode.{isNodeId}
 use Rattle.rules_dictionary.specs.Table.{table, deviceType, syncIdentifier, emergencyIdentifier, supportedModes, limitCount, communicationCount}
-use Rattle.rules_dictionary.specs.Table.{mapCount, positionWindow, profileAcceleration, profileDeceleration, transmissionType, mapEntry, mapSlots, identifier}
-use Rattle.rules_dictionary.specs.Table.{controlWord, mode, modeDisplay, heartbeatTime, errorCode, velocity, position, windowTime}
+use Rattle.rules_dictionary.specs.Table.{mapCount, positionWindow, profileAcceleration, profileDeceleration, transmissionType, mapEntry, mapSlots}
+use Rattle.rules_dictionary.specs.Table.{controlWord, mode, modeDisplay, heartbeatTime, errorCode, velocity, position, windowTime, minimumPosition}
+use Rattle.rules_dictionary.specs.Table.{maximumPosition, identifier}
 use Rattle.rules_dictionary.specs.Values.{Write, write, stored, packedDefaults}
 use Rattle.drive.specs.SetPoints.{withMode, withCause, withStay}
 use Rattle.rules_services.specs.Effects.{writes, becomes, withDrive, withPaces, withNmt, withVoltage, withHeartbeat, withAxis, withNode, withTransfer}
@@ -40,7 +41,8 @@ use Rattle.rules.specs.Scripts.{nothing, open-rules}
 clauses : State → List ℕ → List Bool
 clauses s d =
     let v = s .axis .drive in
-    isNodeId (s .node .id) ∷ constantsAsListed (s .node .id) d ∷ valuesLegal d ∷ statusAsMade s d ∷ modeAsMade s d ∷ plansFresh s d ∷ readyFresh s d ∷ storeInPlace v ∷ takenInPlace v d ∷ causeInPlace v
+    isNodeId (s .node .id) ∷ constantsAsListed (s .node .id) d ∷ valuesLegal d ∷ statusAsMade s d ∷ modeAsMade s d
+    ∷ plansFresh s d ∷ readyFresh s d ∷ storeInPlace v ∷ takenInPlace v d ∷ causeInPlace v
     ∷ heartbeatSound (s .node .heartbeat) d ∷ waitingSound s d ∷ transferSound (s .transfer) ∷ staySound v d ∷ []
 
 every : Bool → List Bool → Bool
@@ -98,11 +100,13 @@ node-id-alone : (said resting (write emergencyIdentifier 0x80 ∷ []) (withId 0)
 unfolding open-said
 node-id-alone = (refl, refl, refl, refl, refl)
 
--- "constants as listed, values in range, mappings and PDO identifiers legal": 6502h 7, 6083h 0, a transmit object in 1600h:8, 1400h:1 305h
+-- "constants as listed, values in range, mappings and PDO identifiers legal", and the limits in order: 6502h 7, 6083h 0, a transmit object in
+-- 1600h:8, 1400h:1 305h, 607Dh:1 1 and :2 0
 dictionary-alone : (said resting (write supportedModes 7 ∷ []) same ≡ but 1) × (said resting (write profileAcceleration 0 ∷ []) same ≡ but 2)
     × (said resting (write (mapEntry 0 8) 0x60410010 ∷ []) same ≡ but 2) × (said resting (write (identifier 0) 0x305 ∷ []) same ≡ but 2)
+    × (said resting (write minimumPosition 1 ∷ write maximumPosition 0 ∷ []) same ≡ but 2)
 unfolding open-said
-dictionary-alone = (refl, refl, refl, refl)
+dictionary-alone = (refl, refl, refl, refl, refl)
 
 -- "6041h, 6061h as the rules make them": voltage on, Stopped; the drive's own mode
 made-alone : (said resting [] (withVoltage true) ≡ but 3) × (said resting [] (withNmt Stopped) ≡ but 3)
@@ -265,6 +269,14 @@ identifiers-told : (map (λ v. valuesLegal (with (write (identifier 0) v ∷ [])
     ≡ false ∷ false ∷ false ∷ true ∷ [])
 unfolding with packedDefaults open-rules
 identifiers-told = (refl, refl, refl)
+
+-- ticket 5, "Soundness gains the pair's order": minimum at most maximum, as signed integers
+limits-told : map valuesLegal
+    (with (write minimumPosition 1 ∷ write maximumPosition 0 ∷ []) ∷ with (write minimumPosition 0 ∷ write maximumPosition 0xFFFFFFFF ∷ [])
+    ∷ with (write minimumPosition 7 ∷ write maximumPosition 7 ∷ []) ∷ with (write minimumPosition 0xFFFFFFFF ∷ write maximumPosition 0 ∷ []) ∷ [])
+    ≡ false ∷ false ∷ true ∷ true ∷ []
+unfolding with packedDefaults open-rules
+limits-told = refl
 
 -- 6061h beside 6060h, and both beside the drive's mode
 modes-told : map (λ ws. modeAsMade (withDrive (driven NotReady ProfilePosition Empty false false) (freshState 5)) (with ws))

@@ -1,4 +1,4 @@
--- Document 01, 'Calls and refusals', the paragraph that begins "Sound:", and what tickets 1 and 2 add, each clause as a test of its own.
+-- Document 01, 'Calls and refusals', the paragraph that begins "Sound:", and what tickets 1, 2 and 5 add, clause by clause.
 -- Assumes nothing.
 use Prim.Native.Nat.{ℕ, _*_}
 use mathlib.Core.List.{List, [], _∷_}
@@ -40,7 +40,8 @@ pairwise f (x ∷ xs) (y ∷ ys) = f x y && pairwise f xs ys
 unfoldable pub constantsAsListed : ℕ → List ℕ → Bool
 constantsAsListed n d = all (λ w. not (isConstant (w .row .access)) || eqb (w .value) (defaultOf n (w .row))) (unpacked table d)
 
--- "values in range, mappings and PDO identifiers legal": each row holds what it may hold in this dictionary, beside all others
+-- "values in range, mappings and PDO identifiers legal"; ticket 5, "Soundness gains the pair's order": each row holds what it may hold in this
+-- dictionary, beside all others
 unfoldable pub valuesLegal : List ℕ → Bool
 valuesLegal d = areLegal d (unpacked table d)
 

@@ -9,7 +9,8 @@ use lib.ListN.{length}
 use Rattle.rules_dictionary.specs.declared.Access.{Access}
 use Rattle.rules_dictionary.specs.declared.Access.the-variants.{Constant, NodeWritten, Writable}
 use Rattle.rules_dictionary.specs.declared.Role.{Role}
-use Rattle.rules_dictionary.specs.declared.Role.the-variants.{Plain, ModeOfOperation, PdoIdentifier, PdoType, MappingCount, MappingEntry}
+use Rattle.rules_dictionary.specs.declared.Role.the-variants.{Plain, ModeOfOperation, MinimumLimit, MaximumLimit, PdoIdentifier, PdoType}
+use Rattle.rules_dictionary.specs.declared.Role.the-variants.{MappingCount, MappingEntry}
 use Rattle.rules_dictionary.specs.Numbers.{filter}
 use Rattle.rules_dictionary.specs.Table.{ValueType, u8, u16, u32, i8, i32, size, Mappable, unmappable, toReceive, toTransmit, Row, key, table}
 use Rattle.rules_dictionary.specs.Table.{placeOf, isReset}
@@ -233,7 +234,8 @@ as-printed = refl
 bytes-of-types : map size (u8 ∷ u16 ∷ u32 ∷ i8 ∷ i32 ∷ []) ≡ 1 ∷ 2 ∷ 4 ∷ 1 ∷ 4 ∷ []
 bytes-of-types = refl
 
--- which rows have a rule of their own: of each PDO the identifier, the type, :0 and the eight entries; and 6060h, "Mode must be 0, 1 or 3"
+-- which rows have a rule of their own: of each PDO the identifier, the type, :0 and the eight entries; 6060h, "Mode must be 0, 1 or 3";
+-- and 607Dh:1 and :2
 abbrev ofCommunication : ℕ → List Role
 ofCommunication p = Plain ∷ PdoIdentifier p ∷ PdoType p ∷ []
 
@@ -243,7 +245,8 @@ ofMapping p = MappingCount p ∷ times 8 (MappingEntry p)
 roles : map (λ x. x .role) table
     ≡ times 7 Plain ++ ofCommunication 0 ++ ofCommunication 1 ++ ofCommunication 2 ++ ofCommunication 3 ++ ofMapping 0 ++ ofMapping 1
     ++ ofMapping 2 ++ ofMapping 3 ++ ofCommunication 4 ++ ofCommunication 5 ++ ofCommunication 6 ++ ofCommunication 7 ++ ofMapping 4
-    ++ ofMapping 5 ++ ofMapping 6 ++ ofMapping 7 ++ times 3 Plain ++ ModeOfOperation ∷ times 16 Plain
+    ++ ofMapping 5 ++ ofMapping 6 ++ ofMapping 7 ++ times 3 Plain ++ ModeOfOperation ∷ times 9 Plain ++ MinimumLimit ∷ MaximumLimit
+    ∷ times 5 Plain
 unfolding open-edges
 roles = refl
 

@@ -16,18 +16,19 @@ use Rattle.rules_dictionary.specs.Table.{positionWindow, velocity, veloc
 use Rattle.rules_dictionary.specs.Table.{maximumPosition, profileVelocity, profileAcceleration, profileDeceleration, targetVelocity, pdos}
 use Rattle.rules_dictionary.specs.Table.{transmissionType, mapCount, mapEntry, windowTime}
 use Rattle.rules_dictionary.specs.Aborts.{abortCode, unknownCommand, wrongToggle, noObject, noSubindex, noWriting, tooLong, tooShort, wrongTime}
-use Rattle.rules_dictionary.specs.Aborts.{belowRange, aboveRange, badValue, notMappable, overLength, Verdict, good, bad, isGood, test, firstOf}
+use Rattle.rules_dictionary.specs.Aborts.{belowRange, aboveRange, badValue, limitsSwapped, notMappable, overLength, Verdict, good, bad}
+use Rattle.rules_dictionary.specs.Aborts.{isGood, test, firstOf}
 use Rattle.rules_dictionary.specs.Legal.{isBelow, isAbove, valueVerdict}
 use Rattle.rules_dictionary.proofs.Edges.{fresh, open-edges}
 
 -- "05040001h"; "wrong toggle 05030000h"; "no object 06020000h; no subindex 06090011h; download to c or o 06010002h; longer 06070012h, shorter
 -- 06070013h; wrong time 08000022h; below range 06090032h, above 06090031h; other bad value 06090030h"; "wrong direction or length 06040041h"; "over
--- 64 bits 06040042h"
+-- 64 bits 06040042h"; ticket 5, "06040043h"
 abort-codes : map abortCode
     (unknownCommand ∷ wrongToggle ∷ noObject ∷ noSubindex ∷ noWriting ∷ tooLong ∷ tooShort ∷ wrongTime ∷ belowRange ∷ aboveRange ∷ badValue
-    ∷ notMappable ∷ overLength ∷ [])
+    ∷ limitsSwapped ∷ notMappable ∷ overLength ∷ [])
     ≡ 0x05040001 ∷ 0x05030000 ∷ 0x06020000 ∷ 0x06090011 ∷ 0x06010002 ∷ 0x06070012 ∷ 0x06070013 ∷ 0x08000022 ∷ 0x06090032 ∷ 0x06090031 ∷ 0x06090030
-    ∷ 0x06040041 ∷ 0x06040042 ∷ []
+    ∷ 0x06040043 ∷ 0x06040041 ∷ 0x06040042 ∷ []
 abort-codes = refl
 
 -- the code of a verdict, 0 for good

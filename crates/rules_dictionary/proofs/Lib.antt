@@ -8,6 +8,7 @@ pub mod LookUp
 pub mod Plans
 pub mod Edges
 pub mod EdgesOfVerdicts
+pub mod EdgesOfLimits
 pub mod EdgesOfIdentifiers
 pub mod EdgesOfMappings
 pub mod EdgesOfPlans

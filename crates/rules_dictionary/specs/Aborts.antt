@@ -1,11 +1,12 @@
--- Document 01, 'SDO', and ticket 1: the abort codes, and tests in order of which the first that fires decides.
+-- Document 01, 'SDO', and tickets 1 and 5: the abort codes, and tests in order of which the first that fires decides.
 -- Assumes nothing.
 use Prim.Native.Nat.{ℕ}
 use mathlib.Core.List.{List, [], _∷_}
 use mathlib.Core.Bool.{Bool, true, false}
 
 pub data Abort : Type 0 where
-  unknownCommand wrongToggle noObject noSubindex noWriting tooLong tooShort wrongTime belowRange aboveRange badValue notMappable overLength : Abort
+  unknownCommand wrongToggle noObject noSubindex noWriting tooLong tooShort wrongTime belowRange aboveRange badValue limitsSwapped : Abort
+  notMappable overLength : Abort
 
 abbrev pub abortCode : Abort → ℕ
 abortCode unknownCommand = 0x05040001
@@ -19,6 +20,7 @@ abortCode wrongTime = 0x08000022
 abortCode belowRange = 0x06090032
 abortCode aboveRange = 0x06090031
 abortCode badValue = 0x06090030
+abortCode limitsSwapped = 0x06040043
 abortCode notMappable = 0x06040041
 abortCode overLength = 0x06040042
 

@@ -1,21 +1,23 @@
--- Document 01, 'SDO': what value a row may hold in a dictionary. An SDO write, a received frame and soundness all go by it.
+-- Document 01, 'SDO', and ticket 5: what value a row may hold in a dictionary. An SDO write, a received frame and soundness all go by it.
 -- Assumes nothing.
 use Prim.Native.Nat.{ℕ, _*_}
 use mathlib.Core.List.{List, [], _∷_, map}
 use mathlib.Core.Bool.{Bool, true, false, not, _&&_, _||_, Bool·beq}
 use lib.Dec.{eqb, leb, ltb}
 use lib.ListN.{take, drop, getD}
+use lib.Signed.{leZ}
 use Rattle.rules_dictionary.specs.declared.Mode.{Mode}
 use Rattle.rules_dictionary.specs.declared.Mode.the-variants.{NoMode, ProfilePosition, ProfileVelocity}
-use Rattle.rules_dictionary.specs.Numbers.{bit, bits, between, any, sum}
+use Rattle.rules_dictionary.specs.Numbers.{bit, bits, integer, between, any, sum}
 use Rattle.rules_dictionary.specs.declared.Role.{Role}
-use Rattle.rules_dictionary.specs.declared.Role.the-variants.{Plain, ModeOfOperation, PdoIdentifier, PdoType, MappingCount, MappingEntry}
+use Rattle.rules_dictionary.specs.declared.Role.the-variants.{Plain, ModeOfOperation, MinimumLimit, MaximumLimit, PdoIdentifier, PdoType}
+use Rattle.rules_dictionary.specs.declared.Role.the-variants.{MappingCount, MappingEntry}
 use Rattle.rules_dictionary.specs.Table.{Row, Mappable, unmappable, toReceive, toTransmit, Direction, receive, transmit, directionOf, pdos}
 use Rattle.rules_dictionary.specs.Table.{identifier, mapEntry, mapSlots, wordsPlace, wordIndex, wordSubindex, wordLength, sizeOf, Found, found}
-use Rattle.rules_dictionary.specs.Table.{theName, noObject as missing, noSubindex as missingSubindex, lookup}
+use Rattle.rules_dictionary.specs.Table.{theName, noObject as missing, noSubindex as missingSubindex, lookup, minimumPosition, maximumPosition}
 use Rattle.rules_dictionary.specs.Values.{read, unpacked}
 use Rattle.rules_dictionary.specs.Aborts.{Verdict, good, bad, isGood, test, firstOf, noObject, noSubindex, belowRange, aboveRange, badValue}
-use Rattle.rules_dictionary.specs.Aborts.{notMappable, overLength}
+use Rattle.rules_dictionary.specs.Aborts.{limitsSwapped, notMappable, overLength}
 
 -- ---- modes: "Mode must be 0, 1 or 3"
 
@@ -101,6 +103,23 @@ badIdentifier ws p w =
     || (isValid w && any (clashes ws p w) pdos)
     || (isValid w && isValid (getD ws p 0) && not (eqb w (getD ws p 0)))
 
+-- ---- the software limits, by ticket 5: "A write to 607Dh:1 or :2 that would leave minimum above maximum is now refused"
+
+-- the words as signed integers; "equal limits are accepted"
+abbrev pub inOrder : ℕ → ℕ → Bool
+inOrder minimum maximum = leZ (integer minimum) (integer maximum)
+
+-- a limit beside the other one as it stands in the dictionary
+unfoldable pub swapsLimits : List ℕ → Role → ℕ → Bool
+swapsLimits d Plain v = false
+swapsLimits d ModeOfOperation v = false
+swapsLimits d MinimumLimit v = not (inOrder v (read d maximumPosition))
+swapsLimits d MaximumLimit v = not (inOrder (read d minimumPosition) v)
+swapsLimits d (PdoIdentifier p) v = false
+swapsLimits d (PdoType p) v = false
+swapsLimits d (MappingCount p) v = false
+swapsLimits d (MappingEntry p) v = false
+
 -- ---- mapping words: "0 or index, subindex, bit length"
 
 abbrev pub suits : Direction → Mappable → Bool
@@ -136,12 +155,15 @@ countVerdict words n =
     let ws = take n words in
     firstOf (test (any (eqb 0) ws) notMappable ∷ test (ltb mostBits (sum (map wordLength ws))) overLength ∷ []) good
 
--- ---- a value for a row, "in order: below range 06090032h, above 06090031h; other bad value 06090030h; mapping faults"
+-- ---- a value for a row, "in order: below range 06090032h, above 06090031h; other bad value 06090030h; mapping faults"; the limits' order
+-- "06040043h, after the range aborts and before mapping faults"
 
 -- a bad mode or transmission type
 abbrev pub badChoice : Role → ℕ → Bool
 badChoice Plain v = false
 badChoice ModeOfOperation v = not (isMode v)
+badChoice MinimumLimit v = false
+badChoice MaximumLimit v = false
 badChoice (PdoIdentifier p) v = false
 badChoice (PdoType p) v = not (isType v)
 badChoice (MappingCount p) v = false
@@ -150,6 +172,8 @@ badChoice (MappingEntry p) v = false
 unfoldable pub otherBadValue : List ℕ → Role → ℕ → Bool
 otherBadValue d Plain v = false
 otherBadValue d ModeOfOperation v = badChoice ModeOfOperation v
+otherBadValue d MinimumLimit v = false
+otherBadValue d MaximumLimit v = false
 otherBadValue d (PdoIdentifier p) v = badIdentifier (identifiers d) p v
 otherBadValue d (PdoType p) v = badChoice (PdoType p) v
 otherBadValue d (MappingCount p) v = false
@@ -158,6 +182,8 @@ otherBadValue d (MappingEntry p) v = false
 unfoldable pub mappingVerdict : List ℕ → Role → ℕ → Verdict
 mappingVerdict d Plain v = good
 mappingVerdict d ModeOfOperation v = good
+mappingVerdict d MinimumLimit v = good
+mappingVerdict d MaximumLimit v = good
 mappingVerdict d (PdoIdentifier p) v = good
 mappingVerdict d (PdoType p) v = good
 mappingVerdict d (MappingCount p) v = countVerdict (mapWords d p) v
@@ -175,6 +201,7 @@ valueVerdict d x v =
     (test (isBelow x v) belowRange
     ∷ test (isAbove x v) aboveRange
     ∷ test (otherBadValue d (x .role) v) badValue
+    ∷ test (swapsLimits d (x .role) v) limitsSwapped
     ∷ [])
     (mappingVerdict d (x .role) v)
 
@@ -184,5 +211,5 @@ mayHold d x v = isGood (valueVerdict d x v)
 
 -- opens every definition of this module, where a proof computes
 unfoldable pub open-legal : Unit {0}
-unfolding identifiers clashes badIdentifier targetVerdict entryVerdict mapWords countVerdict otherBadValue mappingVerdict valueVerdict
+unfolding identifiers clashes badIdentifier swapsLimits targetVerdict entryVerdict mapWords countVerdict otherBadValue mappingVerdict valueVerdict
 open-legal = tt

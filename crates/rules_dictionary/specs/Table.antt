@@ -8,7 +8,8 @@ use lib.ListN.{length, getD}
 use Rattle.rules_dictionary.specs.declared.Access.{Access}
 use Rattle.rules_dictionary.specs.declared.Access.the-variants.{Constant, NodeWritten, Writable}
 use Rattle.rules_dictionary.specs.declared.Role.{Role}
-use Rattle.rules_dictionary.specs.declared.Role.the-variants.{Plain, ModeOfOperation, PdoIdentifier, PdoType, MappingCount, MappingEntry}
+use Rattle.rules_dictionary.specs.declared.Role.the-variants.{Plain, ModeOfOperation, MinimumLimit, MaximumLimit, PdoIdentifier, PdoType}
+use Rattle.rules_dictionary.specs.declared.Role.the-variants.{MappingCount, MappingEntry}
 use Rattle.rules_dictionary.specs.Numbers.{bits, between}
 use Rattle.rules_dictionary.specs.DeviceName.{nameIndex, nameSubindex}
 
@@ -190,10 +191,10 @@ limitCount = row 0x607D 0 u8 Constant unmappable (fixed 2)
 
 -- -2^31 and 2^31-1, in their words
 abbrev pub minimumPosition : Row
-minimumPosition = row 0x607D 1 i32 Writable unmappable (fixed 0x80000000)
+minimumPosition = obeying MinimumLimit (row 0x607D 1 i32 Writable unmappable (fixed 0x80000000))
 
 abbrev pub maximumPosition : Row
-maximumPosition = row 0x607D 2 i32 Writable unmappable (fixed 0x7FFFFFFF)
+maximumPosition = obeying MaximumLimit (row 0x607D 2 i32 Writable unmappable (fixed 0x7FFFFFFF))
 
 abbrev pub profileVelocity : Row
 profileVelocity = row 0x6081 0 u32 Writable toReceive (fixed 0)

@@ -42,6 +42,8 @@ pub enum Access {
 pub enum Role {
     Plain,
     ModeOfOperation,
+    MinimumLimit,
+    MaximumLimit,
     PdoIdentifier(u8),
     PdoType(u8),
     MappingCount(u8),

@@ -3,6 +3,7 @@ pub mod Transfers5
 pub mod Edges
 pub mod EdgesOfSdo
 pub mod EdgesOfSegments
+pub mod EdgesOfLimits
 pub mod EdgesOfTransfers
 pub mod EdgesOfPdos
 pub mod EdgesOfNmt

@@ -10,7 +10,8 @@ use Rattle.state.specs.declared.NmtState.{NmtState}
 use Rattle.state.specs.declared.State.{State}
 use Rattle.rules_dictionary.specs.Numbers.{bit, bits, bytes, value, part}
 use Rattle.rules_dictionary.specs.declared.Role.{Role}
-use Rattle.rules_dictionary.specs.declared.Role.the-variants.{Plain, ModeOfOperation, PdoIdentifier, PdoType, MappingCount, MappingEntry}
+use Rattle.rules_dictionary.specs.declared.Role.the-variants.{Plain, ModeOfOperation, MinimumLimit, MaximumLimit, PdoIdentifier, PdoType}
+use Rattle.rules_dictionary.specs.declared.Role.the-variants.{MappingCount, MappingEntry}
 use Rattle.rules_dictionary.specs.Table.{Row, ValueType, u8, u16, u32, i8, i32, isWritable, sizeOf, identifier, mapCount, Found, found, theName}
 use Rattle.rules_dictionary.specs.Table.{noObject as missing, noSubindex as missingSubindex, lookup}
 use Rattle.rules_dictionary.specs.Values.{read, write}
@@ -122,6 +123,8 @@ uploaded i32 = 0x43
 unfoldable pub isWrongTime : NmtState → List ℕ → Role → Bool
 isWrongTime nmt d Plain = false
 isWrongTime nmt d ModeOfOperation = false
+isWrongTime nmt d MinimumLimit = false
+isWrongTime nmt d MaximumLimit = false
 isWrongTime nmt d (PdoIdentifier p) = not (isPreOperational nmt)
 isWrongTime nmt d (PdoType p) = not (isPreOperational nmt)
 isWrongTime nmt d (MappingCount p) = not (isPreOperational nmt) || isValid (read d (identifier p))

@@ -8,7 +8,7 @@ use borrow.Author.Tests.{ltb-true}
 use lib.Dec.{eqb, ltb}
 use Rattle.rules_dictionary.specs.Table.{Row, eachWay, table}
 use Rattle.rules_dictionary.specs.Aborts.{Abort, unknownCommand, wrongToggle, noObject, noSubindex, noWriting, tooLong, tooShort, wrongTime}
-use Rattle.rules_dictionary.specs.Aborts.{belowRange, aboveRange, badValue, notMappable, overLength, Verdict, good, bad, isGood}
+use Rattle.rules_dictionary.specs.Aborts.{belowRange, aboveRange, badValue, limitsSwapped, notMappable, overLength, Verdict, good, bad, isGood}
 use Rattle.rules_dictionary.specs.Members.{In}
 use Rattle.rules_dictionary.proofs.Tests.{all-in}
 use Rattle.dictionary.specs.declared.Entry.{Entry}
@@ -33,6 +33,7 @@ good-code (bad a) = go a
     go belowRange = refl
     go aboveRange = refl
     go badValue = refl
+    go limitsSwapped = refl
     go notMappable = refl
     go overLength = refl
 

@@ -7,11 +7,12 @@ use lib.Dec.{eqb, ltb}
 use Rattle.rules_dictionary.specs.Numbers.{bit, between, any, sum}
 use Rattle.rules_dictionary.specs.Table as rows
 use Rattle.rules_dictionary.specs.Aborts.{Verdict, good, bad, abortCode, test, firstOf}
-use Rattle.rules_dictionary.specs.Aborts.{belowRange, aboveRange, badValue, notMappable, overLength, noObject, noSubindex}
+use Rattle.rules_dictionary.specs.Aborts.{belowRange, aboveRange, badValue, limitsSwapped, notMappable, overLength, noObject, noSubindex}
 use Rattle.rules_dictionary.specs.Legal.{transmitBit, firstIdentifier, lastIdentifier, isValid, frameIdentifier}
-use Rattle.rules_dictionary.specs.Legal.{reservedBits, transmits, mostBits, otherBadValue, mappingVerdict}
+use Rattle.rules_dictionary.specs.Legal.{reservedBits, transmits, mostBits, otherBadValue, inOrder, swapsLimits, mappingVerdict}
 use Rattle.rules_dictionary.specs.declared.Role.{Role}
-use Rattle.rules_dictionary.specs.declared.Role.the-variants.{Plain, ModeOfOperation, PdoIdentifier, PdoType, MappingCount, MappingEntry}
+use Rattle.rules_dictionary.specs.declared.Role.the-variants.{Plain, ModeOfOperation, MinimumLimit, MaximumLimit, PdoIdentifier, PdoType}
+use Rattle.rules_dictionary.specs.declared.Role.the-variants.{MappingCount, MappingEntry}
 use Rattle.dictionary.specs.declared.Entry.{Entry}
 use Rattle.dictionary.specs.declared.Presence.{Presence}
 use Rattle.dictionary.specs.declared.Presence.the-variants.{Listed, NoObject, NoSubindex}
@@ -26,15 +27,17 @@ verdictCode (bad a) = abortCode a
 abbrev pub pdoOf : Role → ℕ
 pdoOf Plain = 0
 pdoOf ModeOfOperation = 0
+pdoOf MinimumLimit = 0
+pdoOf MaximumLimit = 0
 pdoOf (PdoIdentifier p) = p
 pdoOf (PdoType p) = p
 pdoOf (MappingCount p) = p
 pdoOf (MappingEntry p) = p
 
--- past the range: other bad values, and mapping faults
+-- past the range: other bad values, the limits' order, and mapping faults
 unfoldable pub roleVerdict : List ℕ → Role → ℕ → Verdict
 roleVerdict d o v =
-    firstOf (test (otherBadValue d o v) badValue ∷ []) (mappingVerdict d o v)
+    firstOf (test (otherBadValue d o v) badValue ∷ test (swapsLimits d o v) limitsSwapped ∷ []) (mappingVerdict d o v)
 
 -- `valueVerdict`, of an entry
 unfoldable pub valueVerdictOf : List ℕ → Entry → ℕ → Verdict
@@ -43,6 +46,10 @@ valueVerdictOf d e v =
 
 unfoldable pub badIf : Bool → Verdict
 badIf b = firstOf (test b badValue ∷ []) good
+
+-- of a minimum beside a maximum
+unfoldable pub limitsVerdict : ℕ → ℕ → Verdict
+limitsVerdict minimum maximum = firstOf (test (not (inOrder minimum maximum)) limitsSwapped ∷ []) good
 
 -- ---- identifiers
 

@@ -36,6 +36,9 @@ pub const ABOVE_RANGE: u32 = 0x0609_0031;
 // The value is bad for another reason.
 pub const BAD_VALUE: u32 = 0x0609_0030;
 
+// The minimum would be above the maximum.
+pub const LIMITS_SWAPPED: u32 = 0x0604_0043;
+
 // The object may not be mapped so.
 pub const NOT_MAPPABLE: u32 = 0x0604_0041;
 

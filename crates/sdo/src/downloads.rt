@@ -45,6 +45,8 @@ fn is_mapping(role: Role) -> bool
     match role {
         Role::Plain => false,
         Role::ModeOfOperation => false,
+        Role::MinimumLimit => false,
+        Role::MaximumLimit => false,
         Role::PdoIdentifier(_) => false,
         Role::PdoType(_) => false,
         Role::MappingCount(_) => true,

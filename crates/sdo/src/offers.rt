@@ -86,6 +86,8 @@ fn is_wrong_time(nmt: NmtState, d: &[u8], role: Role) -> bool
     match role {
         Role::Plain => false,
         Role::ModeOfOperation => false,
+        Role::MinimumLimit => false,
+        Role::MaximumLimit => false,
         Role::PdoIdentifier(_) => !nmt.is_pre_operational(),
         Role::PdoType(_) => !nmt.is_pre_operational(),
         Role::MappingCount(p) => is_mapping_shut(nmt, d, p as usize),

@@ -31,7 +31,7 @@ use Rattle.form.proofs.OneForm.{is-own}
 use Rattle.mapping.proofs.Assembly.{are-bytes}
 use Rattle.mapping.specs.Words.{mappingLegal}
 use Rattle.mapping.proofs.Orders.{swap, both-ways}
-use Rattle.soundness.specs.Rows.{rowTests, fewMoves}
+use Rattle.soundness.specs.Rows.{rowTests, limitsInOrder, fewMoves}
 use Rattle.soundness.specs.Keys.{identifiersLegal}
 use Rattle.soundness.specs.Kept.{plansKept, plansKeptIn, readyKept}
 use Rattle.soundness.specs.Waiting.{waitSound}
@@ -43,7 +43,8 @@ use Rattle.soundness.proofs.RowTests.{ranged, rows-tested}
 
 -- the clauses of a dictionary by themselves
 abbrev apart-clauses : ℕ → List ℕ → Bool
-apart-clauses n d = (constantsAsListed n d && all ranged (unpacked table d)) && (all (mappingLegal d) pdos && identifiersLegal d)
+apart-clauses n d =
+    (constantsAsListed n d && all ranged (unpacked table d)) && (limitsInOrder d && (all (mappingLegal d) pdos && identifiersLegal d))
 
 dictionary-parts : (n : ℕ) (d : List ℕ) → dictionarySound n d ≡ apart-clauses n d
 unfolding dictionarySound constantsAsListed mappingLegal identifiersLegal ranged listed
@@ -55,13 +56,15 @@ dictionary-parts n d = both-ways _ _ to from
         and-both _ _
         (and-both _ _ (and-left (constantsAsListed n d) (valuesLegal d) h)
         (of-values ranged d ∙ all-of (λ x. ranged (write x (read d x))) table (ok .ranged)))
+        (and-both _ _ (ok .ordered)
         (and-both _ _ (all-of (mappingLegal d) pdos (λ p i. and-both _ _ (words-legal ok i) (ok .counts p i)))
-        (all-of (λ p. not (badIdentifier (identifiers d) p (read d (identifier p)))) pdos (λ p i. false-not _ (ok .named p i))))
+        (all-of (λ p. not (badIdentifier (identifiers d) p (read d (identifier p)))) pdos (λ p i. false-not _ (ok .named p i)))))
 
     from : apart-clauses n d ≡ true → dictionarySound n d ≡ true
     from h =
         let rows = and-left (constantsAsListed n d && all ranged (unpacked table d)) _ h in
-        let pdo = and-right (constantsAsListed n d && all ranged (unpacked table d)) _ h in
+        let rest = and-right (constantsAsListed n d && all ranged (unpacked table d)) _ h in
+        let pdo = and-right (limitsInOrder d) _ rest in
         let maps : (p : ℕ) → In p pdos → mappingLegal d p ≡ true =
         λ p i. all-in (mappingLegal d) i (and-left (all (mappingLegal d) pdos) (identifiersLegal d) pdo) in
         to-test n d (record {
@@ -73,13 +76,14 @@ dictionary-parts n d = both-ways _ _ to from
           counts = λ p i. and-right (all (λ w. isGood (entryVerdict p w)) (mapWords d p)) _ (maps p i);
           named = λ p i. not-true _ (all-in (λ p. not (badIdentifier (identifiers d) p (read d (identifier p)))) i
               (and-right (all (mappingLegal d) pdos) (identifiersLegal d) pdo));
+          ordered = and-left (limitsInOrder d) _ rest;
         })
 
 -- the clauses of the rules and those of the code
-ordered : (n k f m i s o p r w h t x y : Bool) →
-    (n && ((k && f) && (m && i)) && s && o && p && r && w && h && t && x && y)
-    ≡ (x && (y && (n && ((k && i) && (((s && o) && (w && h)) && ((f && (m && p)) && (r && t)))))))
-ordered n k f m i s o p r w h t x y = simp (and-assoc, and-comm, swap)
+ordered : (n k f l m i s o p r w h t x y : Bool) →
+    (n && ((k && f) && (l && (m && i))) && s && o && p && r && w && h && t && x && y)
+    ≡ (x && (y && (n && (((k && l) && i) && (((s && o) && (w && h)) && ((f && (m && p)) && (r && t)))))))
+ordered n k f l m i s o p r w h t x y = simp (and-assoc, and-comm, swap)
 
 -- ---- what is kept for the PDOs
 
@@ -125,8 +129,8 @@ module _ (s : State) (d : List ℕ) where
   unfolding sound dictionaryClauses driveClauses statusAsMade statusOf modeAsMade waitingSound waitSound
   sound-parts long bytes =
       rw (plans-kept, ← ready-kept, dictionary-parts (s .node .id) d, rows-tested (s .node .id) d long bytes)
-      (ordered (isNodeId (s .node .id)) (rowTests (s .node .id) d) (all (fewMoves d) pdos) (all (mappingLegal d) pdos) (identifiersLegal d)
-      (statusAsMade s d) (modeAsMade s d)
+      (ordered (isNodeId (s .node .id)) (rowTests (s .node .id) d) (all (fewMoves d) pdos) (limitsInOrder d) (all (mappingLegal d) pdos)
+      (identifiersLegal d) (statusAsMade s d) (modeAsMade s d)
       (plansFresh s d) (readyFresh s d) (driveSound (s .axis .drive) d) (heartbeatSound (s .node .heartbeat) d) (waitingSound s d)
       (transferSound (s .transfer)) (staySound (s .axis .drive) d))
 

@@ -14,14 +14,14 @@ use Rattle.rules_dictionary.specs.Legal.{modeNumber}
 use Rattle.drive.specs.StatusWord.{status}
 use Rattle.rules.specs.Sound.{driveSound, heartbeatSound}
 use Rattle.form.specs.Form.{stateOf}
-use Rattle.soundness.specs.Rows.{rowTests}
+use Rattle.soundness.specs.Rows.{rowTests, limitsInOrder}
 use Rattle.soundness.specs.Keys.{identifiersLegal}
 use Rattle.soundness.specs.Kept.{plansKeptIn, readyKept}
 use Rattle.soundness.specs.Waiting.{waitSound}
 
--- the dictionary's rows and PDO identifiers
+-- the dictionary's rows, software limits and PDO identifiers
 unfoldable pub dictionaryClauses : ℕ → List ℕ → Bool
-dictionaryClauses n d = rowTests n d && identifiersLegal d
+dictionaryClauses n d = (rowTests n d && limitsInOrder d) && identifiersLegal d
 
 -- the drive, 6041h, 6061h and the heartbeat count
 unfoldable pub driveClauses : Node → Drive → List ℕ → Bool

@@ -5,9 +5,9 @@ use mathlib.Core.List.{List, [], _∷_}
 use mathlib.Core.Bool.{Bool, true, not, _&&_, _||_}
 use lib.Dec.{eqb, leb}
 use Rattle.rules_dictionary.specs.Table.{Row, isConstant, largest, eachWay, communicationCount, transmissionType, mapCount, mostMoves}
-use Rattle.rules_dictionary.specs.Table.{nodeRows, driveRows}
+use Rattle.rules_dictionary.specs.Table.{nodeRows, driveRows, minimumPosition, maximumPosition}
 use Rattle.rules_dictionary.specs.Values.{read, defaultOf}
-use Rattle.rules_dictionary.specs.Legal.{badChoice, isType}
+use Rattle.rules_dictionary.specs.Legal.{badChoice, isType, inOrder}
 
 -- the tests of a row with that value, and then the rest; those that say nothing compute away
 abbrev pub testsOf : ℕ → Row → ℕ → Bool → Bool
@@ -41,6 +41,10 @@ communicationTests d p = fourFrom (communicationTest d) p
 -- all rows but the counts of the mappings, which are tested with the plans
 unfoldable pub rowTests : ℕ → List ℕ → Bool
 rowTests n d = tests n d nodeRows && (communicationTests d 0 && (communicationTests d eachWay && tests n d driveRows))
+
+-- ticket 5: the software limits are in order
+abbrev pub limitsInOrder : List ℕ → Bool
+limitsInOrder d = inOrder (read d minimumPosition) (read d maximumPosition)
 
 -- a PDO maps eight objects at the most
 abbrev pub fewMoves : List ℕ → ℕ → Bool

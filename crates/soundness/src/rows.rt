@@ -5,12 +5,13 @@ use dictionary::choices::is_type;
 use dictionary::objects;
 use dictionary::places;
 use dictionary::records;
+use drive::words::is_at_most;
 ghost use mathlib.Core.Path.{_≡_};
 ghost use Prim.Native.Nat.{_≤_};
 ghost use lib.ListN.{length};
 ghost use Rattle.rules_dictionary.specs.Table.{nodeRows, driveRows, eachWay, dictionaryLength};
 ghost use Rattle.dictionary.specs.Sizes.{IsPdo};
-ghost use Rattle.soundness.specs.Rows.{tests, communicationTest, communicationTests, rowTests};
+ghost use Rattle.soundness.specs.Rows.{tests, communicationTest, communicationTests, rowTests, limitsInOrder};
 
 // Whether the node's rows, 1000h to 1018h, are legal.
 fn node_legal(d: &[u8], n: u8) -> bool
@@ -64,4 +65,12 @@ pub fn rows_legal(d: &[u8], n: u8) -> bool
     node_legal(d, n)
         & (communications_legal(d, 0)
             & (communications_legal(d, places::EACH_WAY) & drive_legal(d, n)))
+}
+
+// Whether the software limits are in order: the minimum is at most the maximum.
+pub fn limits_in_order(d: &[u8]) -> bool
+    requires { ⌜ length (now d) ≡ dictionaryLength ⌝ }
+    ensures { λ r. ⌜ r ≡ limitsInOrder (now (d .entry)) ⌝ }
+{
+    is_at_most(objects::minimum_position(d), objects::maximum_position(d))
 }

@@ -12,7 +12,7 @@ use Rattle.theorems.proofs.Transfers.{applied-leaves}
 use Rattle.rules_dictionary.specs.Table.{Row, Found, found, noObject, noSubindex, theName}
 use Rattle.rules_dictionary.specs.Aborts.{Verdict, good, bad, test, firstOf, wrongToggle, Abort, abortCode, unknownCommand, noObject as absent}
 use Rattle.rules_dictionary.specs.Aborts.{noSubindex as absentSub, noWriting, tooLong, tooShort, wrongTime, belowRange, aboveRange, badValue}
-use Rattle.rules_dictionary.specs.Aborts.{notMappable, overLength}
+use Rattle.rules_dictionary.specs.Aborts.{limitsSwapped, notMappable, overLength}
 use Rattle.rules_dictionary.specs.Values.{write, Write}
 use Rattle.rules_dictionary.specs.TheNode.{firstNode, lastNode}
 use Rattle.rules_dictionary.specs.Numbers.{bytes, any}
@@ -30,7 +30,7 @@ use Rattle.rules.specs.Calls.{frameCall, does as performs, framed, decided, ans
 use Rattle.rules.proofs.Encoded.{length-encoded}
 use Rattle.theorems.specs.Promises.{Stand, left, reached, onlySends, running, nothingRuns, frameAt, objectVerdict, segmentVerdict, askedVerdict}
 use Rattle.theorems.specs.Promises.{sentVerdict, Heard, requested, Uploaded, SegmentAnswered, SegmentTaken, commandIn, verdictOn, verdictAt}
-use Rattle.theorems.specs.Promises.{objectOn, says, codes, fourZeros, taking, Served, RefusedWriteChangesNothing, AbortSaysWhy, ThirteenCodes}
+use Rattle.theorems.specs.Promises.{objectOn, says, codes, fourZeros, taking, Served, RefusedWriteChangesNothing, AbortSaysWhy, FourteenCodes}
 use Rattle.theorems.specs.Promises.{GoodIsServed, does}
 
 -- ---- the request's identifier is no other's
@@ -215,8 +215,8 @@ abort-says-why r rq o c heard verdict =
     let h = run-rests r in
     says-answer a o _ (why a h rq o c) NoTransfer h (sdo-decided a h rq o heard ∙ ap performs (aborts-it a h rq o c verdict))
 
-pub thirteen-codes : ThirteenCodes
-thirteen-codes = (refl, among)
+pub fourteen-codes : FourteenCodes
+fourteen-codes = (refl, among)
   where
     among : (c : Abort) → any (eqb (abortCode c)) codes ≡ true
     among unknownCommand = refl
@@ -230,6 +230,7 @@ thirteen-codes = (refl, among)
     among belowRange = refl
     among aboveRange = refl
     among badValue = refl
+    among limitsSwapped = refl
     among notMappable = refl
     among overLength = refl
 

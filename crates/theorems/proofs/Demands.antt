@@ -13,7 +13,7 @@ use Rattle.theorems.proofs.Writes.{in-cons}
 use Rattle.theorems.proofs.Settled.{status-in, display-in}
 use Rattle.theorems.proofs.Lawful.{sound-lawful, transmitter-in, clauses, data-refl, unticked}
 use Rattle.theorems.proofs.Runs.{Holds, run-holds, step-holds, passed, standing}
-use Rattle.theorems.proofs.PdoKept.{mapped-short}
+use Rattle.theorems.proofs.Mapped.{mapped-short}
 use Rattle.theorems.proofs.Still.{idles, at-each}
 use Rattle.theorems.proofs.Decisions.{Decided, decided-by}
 use Rattle.rules_dictionary.specs.Table.{Row, dictionaryLength, statusWord, mapCount, mapEntry, mapSlots, mappingRows, identifier, eachWay, pdos}
@@ -254,7 +254,7 @@ module _ (n : ℕ) (d : List ℕ) (ok : DictionaryOk n d) (m : NmtState) where
       let k = simp (Bool·not-not, and-eq-true-iff) at near in
       (leb-true _ _ (k .0), leb-true _ _ (k .1))
 
-  receives : (i : ℕ) (bs : List ℕ) (s : State) (p : ℕ) (ps : List ℕ) → s .node .nmt ≡ m → In p pdos → ((q : ℕ) → In q ps → In q pdos) → In p ps →
+  pub receives : (i : ℕ) (bs : List ℕ) (s : State) (p : ℕ) (ps : List ℕ) → s .node .nmt ≡ m → In p pdos → ((q : ℕ) → In q ps → In q pdos) → In p ps →
       listens i m d p ≡ true → receivedBy ps i bs s d ≡ received p bs s d
   unfolding receivedBy
   receives i bs s p [] e j sub k h = absurd (none-in k)

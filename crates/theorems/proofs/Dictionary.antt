@@ -1,20 +1,20 @@
 -- The dictionary stays sound when a row is written with a value that it may hold, and two dictionaries that agree on the rows of the PDOs have
 -- the same mappings, plans, working PDOs and legal values.
 -- Assumes nothing.
-pub use Rattle.rules_dictionary.proofs.Plans.{mapped-in}
 use Rattle.theorems.proofs.Words.{ℕ, _^_, _<_, arith, _≡_, refl, sym, _∙_, subst, ap, ap₂, _⊎_, inl, inr, Bool, true, false, not, _&&_, _||_}
 use Rattle.theorems.proofs.Words.{Bool·beq, map, List, [], _∷_, eq-eqb, eqb-true, ltb-true, eqb, ltb, getD, length, take, drop, Role, Plain}
-use Rattle.theorems.proofs.Words.{ModeOfOperation, PdoIdentifier, PdoType, MappingCount, MappingEntry, PdoData, NmtState, In, here, there}
-use Rattle.theorems.proofs.Words.{apart, is-good, each-in, and-left, and-right, and-both, all-in, within, same-or-apart, read-apart, read-same, all-of}
-use Rattle.theorems.proofs.Words.{unpacked-table, words-read, pdo-in, identifier-in, count-in, entry-in, type-in, clash, or-false-left}
-use Rattle.theorems.proofs.Words.{or-false-right, or-both-false, and-false-if, and-then-false, not-true, any-false-in, any-false-of, eqb-comm}
-use Rattle.theorems.proofs.Words.{either, implied, implies}
+use Rattle.theorems.proofs.Words.{MinimumLimit, MaximumLimit, ModeOfOperation, PdoIdentifier, PdoType, MappingCount, MappingEntry, PdoData}
+use Rattle.theorems.proofs.Words.{NmtState, In, here, there, apart, found-in, is-good, each-in, and-left, and-right, and-both, all-in, within}
+use Rattle.theorems.proofs.Words.{same-or-apart, read-apart, read-same, all-of, unpacked-table, words-read, pdo-in, identifier-in, count-in}
+use Rattle.theorems.proofs.Words.{entry-in, type-in, clash, or-false-left, or-false-right, or-both-false, and-false-if, and-then-false}
+use Rattle.theorems.proofs.Words.{not-true, any-false-in, any-false-of, eqb-comm, either, implied, implies}
+use borrow.Author.Tests.{not-false}
 use Rattle.rules_dictionary.specs.Numbers.{bit, between, any, all, value}
 use Rattle.rules_dictionary.specs.Table.{pdos, directionOf, Row, table, sizeOf, dictionaryLength, isConstant, identifier, mapCount, mapEntry}
-use Rattle.rules_dictionary.specs.Table.{mapSlots, transmissionType, open-table}
+use Rattle.rules_dictionary.specs.Table.{mapSlots, transmissionType, minimumPosition, maximumPosition, open-table}
 use Rattle.rules_dictionary.specs.Legal.{badIdentifier, clashes, isValid, frameIdentifier, reservedBits, transmits, transmitBit, firstIdentifier}
 use Rattle.rules_dictionary.specs.Legal.{lastIdentifier, entryVerdict, countVerdict, mapWords, identifiers, valueVerdict, otherBadValue}
-use Rattle.rules_dictionary.specs.Legal.{mappingVerdict, mayHold, badChoice, isBelow, isAbove}
+use Rattle.rules_dictionary.specs.Legal.{inOrder, swapsLimits, mappingVerdict, mayHold, badChoice, isBelow, isAbove}
 use Rattle.rules_dictionary.specs.Values.{Write, write, read, store, defaultOf, unpacked}
 use Rattle.rules_dictionary.specs.{Aborts.good, Aborts.isGood, Aborts.firstOf, Plans.targets, Plans.mapped}
 use Rattle.theorems.proofs.GoodValues.{inRange, GoodValue, good-value, value-good, good-range}
@@ -103,6 +103,7 @@ pub record DictionaryOk (n : ℕ) (d : List ℕ) : Type 0 where
   pub words : (p k : ℕ) → In p pdos → In k mapSlots → isGood (entryVerdict p (read d (mapEntry p k))) ≡ true
   pub counts : (p : ℕ) → In p pdos → isGood (countVerdict (mapWords d p) (read d (mapCount p))) ≡ true
   pub named : (p : ℕ) → In p pdos → badIdentifier (identifiers d) p (read d (identifier p)) ≡ false
+  pub ordered : inOrder (read d minimumPosition) (read d maximumPosition) ≡ true
 
 all-map : {A B : Type 0} (f : B → Bool) (g : A → B) (xs : List A) → all f (map g xs) ≡ all (λ x. f (g x)) xs
 all-map f g [] = refl
@@ -137,12 +138,14 @@ pub words-legal : {n : ℕ} {d : List ℕ} → DictionaryOk n d → {p : ℕ} �
 words-legal {d = d} ok {p} i =
     words-tested d i ∙ all-of (λ k. isGood (entryVerdict p (read d (mapEntry p k)))) mapSlots (λ k j. ok .words p k i j)
 
--- ---- a PDO's rows, found by their role
+-- ---- rows, found by their role
 
 -- a PDO's row belongs to one of the eight
 abbrev pub ofPdo : Role → Bool
 ofPdo Plain = true
 ofPdo ModeOfOperation = true
+ofPdo MinimumLimit = true
+ofPdo MaximumLimit = true
 ofPdo (PdoIdentifier p) = ltb p 8
 ofPdo (PdoType p) = ltb p 8
 ofPdo (MappingCount p) = ltb p 8
@@ -156,6 +159,8 @@ pdo-of {x} {p} i e = pdo-in p (ltb-true p 8 (sym e ∙ all-in (λ x. ofPdo (x .r
 abbrev isAtHome : Row → Role → Bool
 isAtHome x Plain = true
 isAtHome x ModeOfOperation = true
+isAtHome x MinimumLimit = not (apart x minimumPosition)
+isAtHome x MaximumLimit = not (apart x maximumPosition)
 isAtHome x (PdoIdentifier p) = not (apart x (identifier p))
 isAtHome x (PdoType p) = true
 isAtHome x (MappingCount p) = not (apart x (mapCount p))
@@ -170,6 +175,14 @@ at-home {x} i r e = subst (λ (q : Role). isAtHome x q ≡ true) e (all-in (λ x
 
 not-apart : {x y : Row} → In x table → In y table → not (apart x y) ≡ true → y ≡ x
 not-apart {x} {y} i j h = elim (same-or-apart i j) [ inl e ↦ sym e | inr a ↦ clash (apart x y) a (not-true _ h) ]
+
+pub minimum-in : In minimumPosition table
+unfolding open-table
+minimum-in = found-in 0x607D 1 refl
+
+pub maximum-in : In maximumPosition table
+unfolding open-table
+maximum-in = found-in 0x607D 2 refl
 
 any-in : (k : ℕ) (xs : List ℕ) → any (eqb k) xs ≡ true → In k xs
 any-in k [] h = clash false h refl
@@ -190,7 +203,7 @@ unfoldable pub held : List ℕ → Write → Bool
 held d w = mayHold d (w .row) (w .value)
 
 pub from-test : (n : ℕ) (d : List ℕ) → dictionarySound n d ≡ true → DictionaryOk n d
-unfolding dictionarySound constantsAsListed valuesLegal areLegal listed held otherBadValue mappingVerdict
+unfolding dictionarySound constantsAsListed valuesLegal areLegal listed held otherBadValue swapsLimits mappingVerdict
 from-test n d h =
     let value : (x : Row) → In x table → GoodValue d x (read d x) = λ x i.
     good-value d x (read d x) (is-good _ (all-in (λ x. mayHold d x (read d x)) i
@@ -202,23 +215,39 @@ from-test n d h =
       words = λ p k i j. ap isGood (value (mapEntry p k) (entry-in i j) .mapping);
       counts = λ p i. ap isGood (value (mapCount p) (count-in i) .mapping);
       named = λ p i. value (identifier p) (identifier-in i) .choice;
+      ordered = not-false _ (value minimumPosition minimum-in .ordered);
     }
 
 module _ {n : ℕ} {d : List ℕ} (ok : DictionaryOk n d) where
   -- what the role of a row asks of its value
-  by-role : {x : Row} → In x table → (r : Role) → x .role ≡ r → (otherBadValue d r (read d x) ≡ false) × (mappingVerdict d r (read d x) ≡ good)
-  unfolding otherBadValue mappingVerdict
-  by-role i Plain e = (refl, refl)
-  by-role {x} i ModeOfOperation e = (subst (λ (r : Role). badChoice r (read d x) ≡ false) e (well-chosen ok i), refl)
+  by-role : {x : Row} → In x table → (r : Role) → x .role ≡ r →
+      (otherBadValue d r (read d x) ≡ false) × (swapsLimits d r (read d x) ≡ false) × (mappingVerdict d r (read d x) ≡ good)
+  unfolding otherBadValue swapsLimits mappingVerdict
+  by-role i Plain e = (refl, refl, refl)
+  by-role {x} i ModeOfOperation e = (subst (λ (r : Role). badChoice r (read d x) ≡ false) e (well-chosen ok i), refl, refl)
+  by-role i MinimumLimit e = (
+    refl,
+    subst (λ (z : Row). not (inOrder (read d z) (read d maximumPosition)) ≡ false) (not-apart i minimum-in (at-home i MinimumLimit e))
+        (rw (ok .ordered)),
+    refl,
+  )
+  by-role i MaximumLimit e = (
+    refl,
+    subst (λ (z : Row). not (inOrder (read d minimumPosition) (read d z)) ≡ false) (not-apart i maximum-in (at-home i MaximumLimit e))
+        (rw (ok .ordered)),
+    refl,
+  )
   by-role i (PdoIdentifier p) e =
       let j = pdo-of i (ap ofPdo e) in (
         subst (λ (z : Row). badIdentifier (identifiers d) p (read d z) ≡ false) (not-apart i (identifier-in j) (at-home i (PdoIdentifier p) e))
             (ok .named p j),
         refl,
+        refl,
       )
-  by-role {x} i (PdoType p) e = (subst (λ (r : Role). badChoice r (read d x) ≡ false) e (well-chosen ok i), refl)
+  by-role {x} i (PdoType p) e = (subst (λ (r : Role). badChoice r (read d x) ≡ false) e (well-chosen ok i), refl, refl)
   by-role i (MappingCount p) e =
       let j = pdo-of i (ap ofPdo e) in (
+        refl,
         refl,
         is-good _ (subst (λ (z : Row). isGood (countVerdict (mapWords d p) (read d z)) ≡ true)
             (not-apart i (count-in j) (at-home i (MappingCount p) e)) (ok .counts p j)),
@@ -228,6 +257,7 @@ module _ {n : ℕ} {d : List ℕ} (ok : DictionaryOk n d) where
       let k = x .subindex in
       let h = at-home i (MappingEntry p) e in
       let slot = any-in k mapSlots (and-right (not (apart x (mapEntry p k))) _ h) in (
+        refl,
         refl,
         is-good _ (subst (λ (z : Row). isGood (entryVerdict p (read d z)) ≡ true)
             (not-apart i (entry-in j slot) (and-left _ (any (eqb k) mapSlots) h)) (ok .words p k j slot)),
@@ -239,7 +269,8 @@ module _ {n : ℕ} {d : List ℕ} (ok : DictionaryOk n d) where
       let v = read d x in
       let r = by-role i (x .role) refl in
       let range = and-left (not (isBelow x v) && not (isAbove x v)) (not (badChoice (x .role) v)) (ok .ranged x i) in
-      record { notBelow = not-true _ (and-left _ (not (isAbove x v)) range); notAbove = not-above ok i; choice = r .0; mapping = r .1 }
+      let low = not-true _ (and-left _ (not (isAbove x v)) range) in
+      record { notBelow = low; notAbove = not-above ok i; choice = r .0; ordered = r .1; mapping = r .2 }
 
 pub to-test : (n : ℕ) (d : List ℕ) → DictionaryOk n d → dictionarySound n d ≡ true
 unfolding dictionarySound constantsAsListed valuesLegal areLegal listed held
@@ -261,6 +292,7 @@ pub record MayHold (n : ℕ) (d : List ℕ) (x : Row) (v : ℕ) : Type 0 where
   pub entry : (p : ℕ) → x .role ≡ MappingEntry p → (isGood (entryVerdict p v) ≡ true) × (read d (mapCount p) ≡ 0)
   pub count : (p : ℕ) → x .role ≡ MappingCount p → isGood (countVerdict (mapWords d p) v) ≡ true
   pub named : (p : ℕ) → x .role ≡ PdoIdentifier p → badIdentifier (identifiers d) p v ≡ false
+  pub ordered : swapsLimits d (x .role) v ≡ false
 
 pub map-same {ℓ κ} : {A : Type ℓ} {B : Type κ} (f g : A → B) (xs : List A) → ((x : A) → In x xs → f x ≡ g x) → map f xs ≡ map g xs
 map-same f g [] h = refl
@@ -326,6 +358,23 @@ module _ (n : ℕ) (d : List ℕ) (x : Row) (v : ℕ) (here-in : In x table) (lo
         | inr s ↦ inl s
       ])
 
+  -- the limits: one of them is written, or both stay
+  ordered-after : inOrder (read d′ minimumPosition) (read d′ maximumPosition) ≡ true
+  unfolding swapsLimits
+  ordered-after =
+      let with : (y : Row) → x ≡ y → swapsLimits d (y .role) v ≡ false =
+      λ y e. subst (λ (z : Row). swapsLimits d (z .role) v ≡ false) e (may .ordered) in
+      elim (after minimumPosition minimum-in) [
+        | inl s ↦ elim (after maximumPosition maximum-in) [
+          | inl u ↦ let z : _≡_ {A = ℕ} 1 2 = ap (λ (z : Row). z .subindex) (sym (s .0) ∙ u .0) in absurd (omega arith)
+          | inr u ↦ rw (s .1, u) (not-false _ (with minimumPosition (s .0)))
+        ]
+        | inr s ↦ elim (after maximumPosition maximum-in) [
+          | inl u ↦ rw (s, u .1) (not-false _ (with maximumPosition (u .0)))
+          | inr u ↦ rw (s, u) (ok .ordered)
+        ]
+      ]
+
 pub store-ok : (n : ℕ) (d : List ℕ) (x : Row) (v : ℕ) → In x table → length d ≡ dictionaryLength → DictionaryOk n d → MayHold n d x v →
     DictionaryOk n (store x v d)
 store-ok n d x v i l ok may =
@@ -341,16 +390,46 @@ store-ok n d x v i l ok may =
       words = words-after n d x v i l ok may;
       counts = counts-after n d x v i l ok may;
       named = named-after n d x v i l ok may;
+      ordered = ordered-after n d x v i l ok may;
     }
 
 -- the row is of a PDO
 abbrev pub isPdo : Role → Bool
 isPdo Plain = false
 isPdo ModeOfOperation = false
+isPdo MinimumLimit = false
+isPdo MaximumLimit = false
 isPdo (PdoIdentifier p) = true
 isPdo (PdoType p) = true
 isPdo (MappingCount p) = true
 isPdo (MappingEntry p) = true
+
+-- the row is one of the limits
+abbrev pub isLimit : Role → Bool
+isLimit Plain = false
+isLimit ModeOfOperation = false
+isLimit MinimumLimit = true
+isLimit MaximumLimit = true
+isLimit (PdoIdentifier p) = false
+isLimit (PdoType p) = false
+isLimit (MappingCount p) = false
+isLimit (MappingEntry p) = false
+
+-- a row of the table, and none of the limits
+abbrev pub FreeRow : Row → Type 0
+FreeRow x = In x table × (isLimit (x .role) ≡ false)
+
+-- the other rows have no order
+pub no-order : (d : List ℕ) (v : ℕ) (r : Role) → isLimit r ≡ false → swapsLimits d r v ≡ false
+unfolding swapsLimits
+no-order d v Plain h = refl
+no-order d v ModeOfOperation h = refl
+no-order d v MinimumLimit h = clash true refl h
+no-order d v MaximumLimit h = clash true refl h
+no-order d v (PdoIdentifier p) h = refl
+no-order d v (PdoType p) h = refl
+no-order d v (MappingCount p) h = refl
+no-order d v (MappingEntry p) h = refl
 
 -- ---- two dictionaries
 
@@ -382,6 +461,8 @@ module _ (d d′ : List ℕ) (alike : (y : Row) → In y table → isPdo (y .rol
   unfolding otherBadValue
   other-alike v Plain = refl
   other-alike v ModeOfOperation = refl
+  other-alike v MinimumLimit = refl
+  other-alike v MaximumLimit = refl
   other-alike v (PdoIdentifier p) = rw identifiers-alike
   other-alike v (PdoType p) = refl
   other-alike v (MappingCount p) = refl
@@ -391,22 +472,25 @@ module _ (d d′ : List ℕ) (alike : (y : Row) → In y table → isPdo (y .rol
   unfolding mappingVerdict
   mapping-alike i v Plain e = refl
   mapping-alike i v ModeOfOperation e = refl
+  mapping-alike i v MinimumLimit e = refl
+  mapping-alike i v MaximumLimit e = refl
   mapping-alike i v (PdoIdentifier p) e = refl
   mapping-alike i v (PdoType p) e = refl
   mapping-alike i v (MappingCount p) e = rw (words-alike (pdo-of i (ap ofPdo e)))
   mapping-alike i v (MappingEntry p) e = refl
 
-  pub verdict-alike : (x : Row) → In x table → (v : ℕ) → valueVerdict d′ x v ≡ valueVerdict d x v
+  verdict-alike : (x : Row) → FreeRow x → (v : ℕ) → valueVerdict d′ x v ≡ valueVerdict d x v
   unfolding valueVerdict
-  verdict-alike x i v = rw (other-alike v (x .role), mapping-alike i v (x .role) refl)
+  verdict-alike x f v =
+      rw (other-alike v (x .role), no-order d′ v (x .role) (f .1), no-order d v (x .role) (f .1), mapping-alike (f .0) v (x .role) refl)
 
-  legal-alike : (xs : List Row) (bs : List ℕ) → ((x : Row) → In x xs → In x table) → areLegal d′ (unpacked xs bs) ≡ areLegal d (unpacked xs bs)
+  legal-alike : (xs : List Row) (bs : List ℕ) → ((x : Row) → In x xs → FreeRow x) → areLegal d′ (unpacked xs bs) ≡ areLegal d (unpacked xs bs)
   unfolding areLegal unpacked
   legal-alike [] bs h = refl
   legal-alike (x ∷ xs) bs h =
       ap₂ _&&_ (ap isGood (verdict-alike x (h x here) (value (take (sizeOf x) bs)))) (legal-alike xs (drop (sizeOf x) bs) (λ y i. h y (there i)))
 
-  pub held-alike : (m : NmtState) {p : ℕ} → In p pdos → (f : PdoData) → heldSound m d′ p f ≡ heldSound m d p f
+  pub held-alike : (m : NmtState) {p : ℕ} → In p pdos → ((x : Row) → In x (mapped d p) → FreeRow x) → (f : PdoData) →
+      heldSound m d′ p f ≡ heldSound m d p f
   unfolding heldSound
-  held-alike m {p} i f =
-      rw (works-alike m i, type-alike i, mapped-alike i, legal-alike (mapped d p) (f .bytes) (λ x j. mapped-in d p j))
+  held-alike m {p} i free f = rw (works-alike m i, type-alike i, mapped-alike i, legal-alike (mapped d p) (f .bytes) free)

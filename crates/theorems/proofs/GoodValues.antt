@@ -1,10 +1,10 @@
 -- What a good verdict on a value says, test by test, and back.
 -- Assumes nothing.
-use Rattle.theorems.proofs.Words.{ℕ, _≡_, refl, ap, Bool, true, false, not, _&&_, List, [], _∷_, Role, Plain, ModeOfOperation}
-use Rattle.theorems.proofs.Words.{PdoIdentifier, PdoType, MappingCount, MappingEntry, clash, by-match}
+use Rattle.theorems.proofs.Words.{ℕ, _≡_, refl, ap, Bool, true, false, not, _&&_, List, [], _∷_, Role, Plain, ModeOfOperation, MinimumLimit}
+use Rattle.theorems.proofs.Words.{MaximumLimit, PdoIdentifier, PdoType, MappingCount, MappingEntry, clash, by-match}
 use Rattle.rules_dictionary.specs.Table.{Row}
 use Rattle.rules_dictionary.specs.Aborts.{Verdict, good, bad, isGood, Test, firstOf}
-use Rattle.rules_dictionary.specs.Legal.{valueVerdict, otherBadValue, mappingVerdict, badChoice, isBelow, isAbove}
+use Rattle.rules_dictionary.specs.Legal.{valueVerdict, otherBadValue, swapsLimits, mappingVerdict, badChoice, isBelow, isAbove}
 
 -- ---- where the verdict is good, no test fired
 
@@ -23,6 +23,7 @@ pub record GoodValue (d : List ℕ) (x : Row) (v : ℕ) : Type 0 where
   pub notBelow : isBelow x v ≡ false
   pub notAbove : isAbove x v ≡ false
   pub choice : otherBadValue d (x .role) v ≡ false
+  pub ordered : swapsLimits d (x .role) v ≡ false
   pub mapping : mappingVerdict d (x .role) v ≡ good
 
 pub good-value : (d : List ℕ) (x : Row) (v : ℕ) → valueVerdict d x v ≡ good → GoodValue d x v
@@ -31,12 +32,13 @@ good-value d x v h =
     let a = good-passes _ _ _ h in
     let b = good-passes _ _ _ (a .1) in
     let c = good-passes _ _ _ (b .1) in
-    record { notBelow = a .0; notAbove = b .0; choice = c .0; mapping = good-last _ (c .1) }
+    let e = good-passes _ _ _ (c .1) in
+    record { notBelow = a .0; notAbove = b .0; choice = c .0; ordered = e .0; mapping = good-last _ (e .1) }
 
 -- a value of which all that holds has a good verdict
 pub value-good : (d : List ℕ) (x : Row) (v : ℕ) → GoodValue d x v → valueVerdict d x v ≡ good
 unfolding valueVerdict firstOf
-value-good d x v g = rw (g .notBelow, g .notAbove, g .choice) (g .mapping)
+value-good d x v g = rw (g .notBelow, g .notAbove, g .choice, g .ordered) (g .mapping)
 
 -- ---- what a row may hold whatever the others do: what is in its range, and no bad choice
 
@@ -47,6 +49,8 @@ choice-known : (d : List ℕ) (r : Role) (v : ℕ) → otherBadValue d r v ≡ f
 unfolding otherBadValue
 choice-known d Plain v h = refl
 choice-known d ModeOfOperation v h = h
+choice-known d MinimumLimit v h = refl
+choice-known d MaximumLimit v h = refl
 choice-known d (PdoIdentifier p) v h = refl
 choice-known d (PdoType p) v h = h
 choice-known d (MappingCount p) v h = refl

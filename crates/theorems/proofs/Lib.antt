@@ -2,6 +2,7 @@ pub mod Words
 pub mod Booleans
 pub mod GoodValues
 pub mod Dictionary
+pub mod Mapped
 pub mod Settled
 pub mod Lawful
 pub mod DriveKept
@@ -28,6 +29,8 @@ pub mod AsBefore
 pub mod Occasions
 pub mod Ticks
 pub mod Window
+pub mod Limits
 pub mod Telling
 pub mod TellingOfSegments
 pub mod TellingOfWindow
+pub mod TellingOfLimits

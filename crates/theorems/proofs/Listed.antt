@@ -11,7 +11,8 @@ use Rattle.theorems.proofs.Words.{by-test, by-match, both-by-test, both
 use Rattle.theorems.proofs.Words.{Uploading, Downloading, DownloadBySegments, DownloadSegment, UploadSegment}
 use Rattle.theorems.proofs.Dictionary.{DictionaryOk, isPdo, mapped-alike}
 use Rattle.theorems.proofs.Writes.{InTable, one-row, not-wrote, no-pdo-alike}
-use Rattle.theorems.proofs.PdoKept.{QuietRow, received-row, unpacked-rows, unpacked-same}
+use Rattle.theorems.proofs.Mapped.{QuietRow, received-row}
+use Rattle.theorems.proofs.PdoKept.{unpacked-rows, unpacked-same}
 use Rattle.theorems.proofs.{Settled.control-in, Settled.register-in, DriveKept.emptied-same, DriveKept.rule-same, Lawful.Lawful}
 use Rattle.theorems.proofs.{Lawful.sound-lawful, Services.applied-all, Demands.one-listener, Sent.control-state, Sent.found-by}
 use Rattle.theorems.proofs.Decisions.{Decided, isGiven}
@@ -121,7 +122,7 @@ module _ (ws : List Write) (s : State) (d : List ℕ) (rows : InTable ws) where
   unfolding applied
   applied-clearable = control-acts .clearable
 
-  applied-held : applied ws s d .state .axis .held ≡ s .axis .held
+  pub applied-held : applied ws s d .state .axis .held ≡ s .axis .held
   unfolding applied
   applied-held = control-acts .held
 
@@ -159,7 +160,7 @@ module _ {n : ℕ} (d₀ : List ℕ) (ok : DictionaryOk n d₀) (h₀ : ℕ → 
   brought p = unpacked (mapped d₀ p) (h₀ p .bytes)
 
   brought-quiet : {p : ℕ} → In p receivePdos → (w : Write) → In w (brought p) → QuietRow (w .row)
-  brought-quiet {p} i w j = received-row ok i (unpacked-rows (mapped d₀ p) (h₀ p .bytes) j) .0
+  brought-quiet {p} i w j = received-row ok i (unpacked-rows (mapped d₀ p) (h₀ p .bytes) j) .quiet
 
   releases-bring : (ps : List ℕ) (s : State) (d : List ℕ) → ((p : ℕ) → In p ps → In p receivePdos) → differ ps ≡ true →
       ((p : ℕ) → In p ps → heldFor s p ≡ h₀ p) → ((y : Row) → In y table → isPdo (y .role) ≡ true → read d y ≡ read d₀ y) →
@@ -280,7 +281,7 @@ module _ (s : State) (d : List ℕ) (law : Lawful s d) where
         (λ now.
         let q : appliesAtOnce i bs s d p ≡ true = rw (listening, enough, legal, now) in
         let same : unpacked (mapped d p) (take k bs) ≡ values p = unpacked-same (mapped d p) (take k bs) bs (take-take k k bs (omega arith)) in
-        let rows : InTable (values p) = λ w l. received-row (law .dictionary) j (unpacked-rows (mapped d p) bs l) .0 .0 in
+        let rows : InTable (values p) = λ w l. received-row (law .dictionary) j (unpacked-rows (mapped d p) bs l) .quiet .0 in
         subst (λ (b : Bool). Brings s d (applied (unpacked (mapped d p) (take k bs)) s d) (only p b)) (sym q)
         (subst (λ (ws : List Write). Brings s d (applied ws s d) (values p ∷ [])) (sym same) (applied-brings (values p) s d rows))))
         (λ refused. none (rw (listening, enough, refused))))

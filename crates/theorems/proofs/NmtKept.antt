@@ -8,15 +8,15 @@ use Rattle.theorems.proofs.Words.{here, there, and-left, each-in, all-i
 use Rattle.theorems.proofs.Words.{count-in, entry-in, length-store, length-stored, read-same, read-apart, read-fits, within, same-or-apart}
 use Rattle.theorems.proofs.Words.{apart, found-in, isOperational, either, clash, not-true, implied, on-states}
 use Rattle.theorems.proofs.GoodValues.{inRange}
-use Rattle.theorems.proofs.Dictionary.{DictionaryOk, map-same, isPdo}
+use Rattle.theorems.proofs.Dictionary.{DictionaryOk, minimum-in, maximum-in, map-same, isPdo, isLimit}
 use Rattle.theorems.proofs.Settled.{mode-in, control-in, drive-may, whole-range, status-in, display-in}
 use Rattle.theorems.proofs.Lawful.{Lawful, Waits, drive-lawful, pairwise-map, count-at, sound-lawful, node-lawful}
 use Rattle.theorems.proofs.DriveKept.{parts, enters-sound, next-cause, emptied-same, enters-store, emptied-taken}
 use Rattle.theorems.proofs.Writes.{spared, in-cons, filtered, filter-in, defaults-within, idle as unworking, idle-held, store-lawful}
 use Rattle.rules_dictionary.specs.Table.{Row, table, sizeOf, dictionaryLength, isConstant, pdos, receivePdos, eachWay, mode, controlWord, identifier}
 use Rattle.rules_dictionary.specs.Table.{isReset, statusWord, modeDisplay, mapCount, mapEntry, mapSlots, open-table, whole, errorCode, errorRegister}
-use Rattle.rules_dictionary.specs.Table.{position, velocity, heartbeatTime}
-use Rattle.rules_dictionary.specs.Legal.{isCyclic, entryVerdict, countVerdict, mapWords, identifiers, badIdentifier, open-legal}
+use Rattle.rules_dictionary.specs.Table.{position, velocity, heartbeatTime, minimumPosition, maximumPosition}
+use Rattle.rules_dictionary.specs.Legal.{isCyclic, inOrder, entryVerdict, countVerdict, mapWords, identifiers, badIdentifier, open-legal}
 use Rattle.rules_dictionary.specs.{Numbers.all, Numbers.filter, Numbers.areBytes, TheNode.lastNode, TheNode.isNodeId, Values.Write, Values.read}
 use Rattle.rules_dictionary.specs.{Values.store, Values.stored, Values.defaultOf, Values.toDefaults, Aborts.isGood, Aborts.open-aborts}
 use Rattle.rules_dictionary.proofs.Defaults.{defaults-in-range}
@@ -127,7 +127,8 @@ Stays n rs d x =
 -- rows of the table to their defaults, the PDOs' among them: a sound dictionary
 module _ (n : ℕ) (rs : List Row) (d : List ℕ) (legal : isNodeId n ≡ true) (long : length d ≡ dictionaryLength)
     (rows : (r : Row) → In r rs → In r table)
-    (pdo : PdoRows rs) (pick : (x : Row) → In x table → In x rs ⊎ Stays n rs d x) where
+    (pdo : PdoRows rs) (pick : (x : Row) → In x table → In x rs ⊎ Stays n rs d x)
+    (order : inOrder (read (stored (toDefaults n rs) d) minimumPosition) (read (stored (toDefaults n rs) d) maximumPosition) ≡ true) where
   abbrev d1 : List ℕ
   d1 = stored (toDefaults n rs) d
 
@@ -161,6 +162,7 @@ module _ (n : ℕ) (rs : List Row) (d : List ℕ) (legal : isNodeId n ≡ true) 
             ∙ all-in (λ p. isGood (countVerdict (map (λ k. defaultOf n (mapEntry p k)) mapSlots) (defaultOf n (mapCount p)))) i (maps-test .1);
         named = λ p i. ap₂ (λ (ws : List ℕ) (w : ℕ). badIdentifier ws p w) names (now (identifier p) (identifier-in i) (pdo p 1 i here .0))
             ∙ not-true _ (all-in (nameLegal n) i (on-nodes (λ n. all (nameLegal n) pdos) names-test n legal));
+        ordered = order;
       }
 
 -- ---- power-up: every row
@@ -172,7 +174,9 @@ fresh-lawful n d legal long =
     (record {
       id = legal;
       long = length-stored (toDefaults n table) d ∙ long;
-      dictionary = defaults-ok n table d legal long (λ r i. i) (λ p k i j. (identifier-in i, count-in i, entry-in i j)) (λ x i. inl i);
+      dictionary = defaults-ok n table d legal long (λ r i. i) (λ p k i j. (identifier-in i, count-in i, entry-in i j)) (λ x i. inl i)
+          (ap₂ inOrder (default-read n legal minimum-in table d (λ r i. i) long (inl minimum-in))
+          (default-read n legal maximum-in table d (λ r i. i) long (inl maximum-in)));
       mode = default-read n legal mode-in table d (λ r i. i) long (inl mode-in);
       drive = refl;
       heartbeat = refl;
@@ -210,7 +214,8 @@ reset-lawful s d law =
       long = length-stored (toDefaults n resetRows) d ∙ law .long;
       dictionary = defaults-ok n resetRows d (law .id) (law .long) (λ r i. filtered isReset table i .0) reset-pdos
           (λ x i. elim
-          (either (isReset x)) [ inl h ↦ inl (filter-in isReset i h) | inr h ↦ inr (unreset-read n d x i h, ok .listed x i, ok .ranged x i) ]);
+          (either (isReset x)) [ inl h ↦ inl (filter-in isReset i h) | inr h ↦ inr (unreset-read n d x i h, ok .listed x i, ok .ranged x i) ])
+          (ap₂ inOrder (unreset-read n d minimumPosition minimum-in refl) (unreset-read n d maximumPosition maximum-in refl) ∙ ok .ordered);
       mode = unreset-read n d mode mode-in refl ∙ disabled .mode;
       drive = rw (unreset-read n d controlWord control-in refl) (disabled .drive);
       heartbeat = refl;
@@ -229,7 +234,7 @@ pub record PlainRow (x : Row) : Type 0 where
 pub plain-lawful : (s : State) (d : List ℕ) (x : Row) (v : ℕ) → Lawful s d → PlainRow x → v < 256 ^ sizeOf x → Lawful s (store x v d)
 plain-lawful s d x v law r f =
     store-lawful s d x v law (r .inside) (r .quiet)
-    (drive-may (s .node .id) d x v (r .quiet) (r .variable) f (whole-range x v (r .free .0) (r .free .1) f))
+    (drive-may (s .node .id) d x v (r .quiet) (ap isLimit (r .free .1)) (r .variable) f (whole-range x v (r .free .0) (r .free .1) f))
     (r .unread .0) (r .unread .1) (r .unread .2)
 
 pub status-row : PlainRow statusWord

@@ -9,8 +9,9 @@ use Rattle.theorems.proofs.Words.{part-bytes, read-fits, value-bytes, w
 use Rattle.theorems.proofs.Writes.{in-cons}
 use Rattle.theorems.proofs.Lawful.{sound-lawful, finally, transmitter-in}
 use Rattle.theorems.proofs.Runs.{Holds, run-holds, step-holds, standing, Decides, decides}
-use Rattle.theorems.proofs.PdoKept.{mapped-short}
-use Rattle.theorems.proofs.Dictionary.{DictionaryOk, mapped-in}
+use Rattle.theorems.proofs.Mapped.{mapped-short}
+use Rattle.rules_dictionary.proofs.Plans.{mapped-in}
+use Rattle.theorems.proofs.Dictionary.{DictionaryOk}
 use Rattle.theorems.proofs.Demands.{ready-at, says-answer, hears, one-listener, identifier-range, awake, field-length, Rests, rests}
 use Rattle.theorems.proofs.Aborted.{sdo-decided}
 use Rattle.theorems.proofs.Sent.{speaks}

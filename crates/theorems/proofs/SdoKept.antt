@@ -2,8 +2,8 @@
 -- Assumes nothing.
 use Rattle.theorems.proofs.Words.{ℕ, _^_, _<_, _≡_, refl, sym, _∙_, ap, _⊎_, inl, inr, true, false, not, _||_, Bool·not-not, List, [], _∷_}
 use Rattle.theorems.proofs.Words.{eqb-true, eqb, NmtState, PreOperational, Operational, Stopped, State, Role, Plain, ModeOfOperation}
-use Rattle.theorems.proofs.Words.{PdoIdentifier, PdoType, MappingCount, MappingEntry, Access, Constant, NodeWritten, Writable, In}
-use Rattle.theorems.proofs.Words.{isPreOperational, isOperational, clash, or-false-left, or-false-right, false-not}
+use Rattle.theorems.proofs.Words.{MinimumLimit, MaximumLimit, PdoIdentifier, PdoType, MappingCount, MappingEntry, Access, Constant}
+use Rattle.theorems.proofs.Words.{NodeWritten, Writable, In, isPreOperational, isOperational, clash, or-false-left, or-false-right, false-not}
 use Rattle.theorems.proofs.GoodValues.{good-passes, good-last, good-value, good-range}
 use Rattle.theorems.proofs.Dictionary.{MayHold, store-ok, isPdo}
 use Rattle.theorems.proofs.{Lawful.Lawful, Writes.MayApply, Writes.one-row}
@@ -46,6 +46,7 @@ module _ (t : Offer) (nmt : NmtState) (n : ℕ) (d : List ℕ) (fits : t .value 
             (mapping (MappingEntry p) e, eqb-true _ _ (simp Bool·not-not at (false-not (not (eqb (read d (mapCount p)) 0)) late)));
         count = λ p e. mapping (MappingCount p) e;
         named = λ p e. ap (λ (q : Role). otherBadValue d q v) (sym e) ∙ value .choice;
+        ordered = value .ordered;
       }
 
   pre-idle : (m : NmtState) → not (isPreOperational m) ≡ false → isOperational m ≡ false
@@ -57,6 +58,8 @@ module _ (t : Offer) (nmt : NmtState) (n : ℕ) (d : List ℕ) (fits : t .value 
   unfolding isWrongTime
   idle-or-quiet Plain e = inr refl
   idle-or-quiet ModeOfOperation e = inr refl
+  idle-or-quiet MinimumLimit e = inr refl
+  idle-or-quiet MaximumLimit e = inr refl
   idle-or-quiet (PdoIdentifier p) e = inl (pre-idle nmt (rw e at (checked .1)))
   idle-or-quiet (PdoType p) e = inl (pre-idle nmt (rw e at (checked .1)))
   idle-or-quiet (MappingCount p) e = inl (pre-idle nmt (or-false-left (not (isPreOperational nmt)) _ (rw e at (checked .1))))

@@ -3,7 +3,7 @@
 use Rattle.theorems.proofs.Words.{ℕ, _-_, _^_, _<_, _≤_, arith, _≡_, refl, _∙_, ap, inl, inr, Bool, true, false, cond, List, le-ltb, length}
 use Rattle.theorems.proofs.Words.{Mode, NoMode, ProfilePosition, ProfileVelocity, Store, Empty, Rested, Moving, Queued, Drive, State, Plain}
 use Rattle.theorems.proofs.Words.{In, apart, same-or-apart, found-in, within, read-apart, read-same, length-store, clash, whichever}
-use Rattle.theorems.proofs.{GoodValues.inRange, Dictionary.MayHold, Dictionary.isPdo}
+use Rattle.theorems.proofs.{GoodValues.inRange, Dictionary.MayHold, Dictionary.isPdo, Dictionary.isLimit, Dictionary.no-order}
 use Rattle.rules_dictionary.specs.Table.{errorRegister, heartbeatTime, Row, table, sizeOf, dictionaryLength, statusWord, modeDisplay, mode}
 use Rattle.rules_dictionary.specs.Table.{controlWord, position, positionWindow, windowTime, velocity, velocityWindow, velocityThreshold}
 use Rattle.rules_dictionary.specs.Table.{targetVelocity, isConstant, whole, size, open-table}
@@ -152,10 +152,11 @@ module _ (s : State) (d : List ℕ) (long : length d ≡ dictionaryLength) where
 
 -- ---- what a row of no PDO may hold
 
--- a row of no PDO may hold what is in its range and fits it
-pub drive-may : (n : ℕ) (d : List ℕ) (x : Row) (v : ℕ) → isPdo (x .role) ≡ false → isConstant (x .access) ≡ false → v < 256 ^ sizeOf x →
+-- a row of no PDO that is no limit may hold what is in its range and fits it
+pub drive-may : (n : ℕ) (d : List ℕ) (x : Row) (v : ℕ) → isPdo (x .role) ≡ false → isLimit (x .role) ≡ false →
+    isConstant (x .access) ≡ false → v < 256 ^ sizeOf x →
     inRange x v ≡ true → MayHold n d x v
-drive-may n d x v r c f g =
+drive-may n d x v r o c f g =
     record {
       fits = f;
       listed = λ k. clash (isConstant (x .access)) k c;
@@ -163,6 +164,7 @@ drive-may n d x v r c f g =
       entry = λ p e. clash (isPdo (x .role)) (ap isPdo e) r;
       count = λ p e. clash (isPdo (x .role)) (ap isPdo e) r;
       named = λ p e. clash (isPdo (x .role)) (ap isPdo e) r;
+      ordered = no-order d v (x .role) o;
     }
 
 -- of a type's whole range everything is in range

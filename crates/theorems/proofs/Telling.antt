@@ -59,7 +59,7 @@ abbrev pub operational : Call
 operational = nmt 0x01
 
 -- Ready in mode 1
-abbrev readied : List Call
+abbrev pub readied : List Call
 readied = started ∷ write1 0x60 0x60 0x00 0x01 ∷ control 0x06 ∷ []
 
 -- ---- SoundAlways: a frame is held for SYNC when the node is stopped
@@ -133,7 +133,7 @@ unfolding open-rules open-promises
 idle-keeps-others = refl
 
 -- receive PDO of that number, from 0, to be held for SYNC
-abbrev heldForSync : ℕ → Call
+abbrev pub heldForSync : ℕ → Call
 heldForSync p = write1 p 0x14 0x02 0x01
 
 abbrev shutdown : Call
@@ -203,7 +203,7 @@ flag b = cond b 1 0
 abbrev pointNumbers : SetPoint → List ℕ
 pointNumbers p = p .target ∷ p .velocity ∷ p .acceleration ∷ p .deceleration ∷ []
 
-abbrev storeNumbers : Store → List ℕ
+abbrev pub storeNumbers : Store → List ℕ
 storeNumbers Empty = []
 storeNumbers (Rested t) = t ∷ []
 storeNumbers (Moving p) = pointNumbers p
@@ -298,8 +298,8 @@ refused-write-stores-nothing :
 unfolding open-rules open-promises
 refused-write-stores-nothing = refl
 
--- ---- AbortSaysWhy, ThirteenCodes: each of the thirteen, from one stand: transmit PDO 1 is invalid and maps nothing, with nine bytes in its
--- entries, and a download of 6060h by segments runs, which each of them ends
+-- ---- AbortSaysWhy, FourteenCodes: each of the fourteen, from one stand: transmit PDO 1 is invalid and maps nothing, with nine bytes in its
+-- entries, 607Dh:1 is 0, and a download of 6060h by segments runs, which each of them ends
 abbrev unmapped : List Call
 unmapped =
     request (0x23 ∷ 0x00 ∷ 0x18 ∷ 0x01 ∷ 0x85 ∷ 0x01 ∷ 0x00 ∷ 0xC0 ∷ [])
@@ -307,6 +307,7 @@ unmapped =
     ∷ request (0x23 ∷ 0x00 ∷ 0x1A ∷ 0x01 ∷ 0x20 ∷ 0x00 ∷ 0x64 ∷ 0x60 ∷ [])
     ∷ request (0x23 ∷ 0x00 ∷ 0x1A ∷ 0x02 ∷ 0x20 ∷ 0x00 ∷ 0x6C ∷ 0x60 ∷ [])
     ∷ request (0x23 ∷ 0x00 ∷ 0x1A ∷ 0x03 ∷ 0x08 ∷ 0x00 ∷ 0x61 ∷ 0x60 ∷ [])
+    ∷ request (0x23 ∷ 0x7D ∷ 0x60 ∷ 0x01 ∷ 0x00 ∷ 0x00 ∷ 0x00 ∷ 0x00 ∷ [])
     ∷ request (0x20 ∷ 0x60 ∷ 0x60 ∷ 0x00 ∷ 0x00 ∷ 0x00 ∷ 0x00 ∷ 0x00 ∷ [])
     ∷ []
 
@@ -330,7 +331,7 @@ saysWhy a w =
 abbrev pub askSegment : List ℕ
 askSegment = 0x60 ∷ 0x00 ∷ 0x00 ∷ 0x00 ∷ 0x00 ∷ 0x00 ∷ 0x00 ∷ 0x00 ∷ []
 
-thirteen-told :
+fourteen-told :
     all (saysWhy (ran unmapped))
     (
     why 0x05040001 (0xE0 ∷ 0x40 ∷ 0x60 ∷ 0x00 ∷ 0x06 ∷ 0x00 ∷ 0x00 ∷ 0x00 ∷ [])
@@ -356,13 +357,15 @@ thirteen-told :
     (0x85 ∷ 0x05 ∷ 0x08 ∷ 0x80 ∷ 0x67 ∷ 0x60 ∷ 0x00 ∷ 0x31 ∷ 0x00 ∷ 0x09 ∷ 0x06 ∷ [])
     ∷ why 0x06090030 (0x2F ∷ 0x60 ∷ 0x60 ∷ 0x00 ∷ 0x07 ∷ 0x00 ∷ 0x00 ∷ 0x00 ∷ [])
     (0x85 ∷ 0x05 ∷ 0x08 ∷ 0x80 ∷ 0x60 ∷ 0x60 ∷ 0x00 ∷ 0x30 ∷ 0x00 ∷ 0x09 ∷ 0x06 ∷ [])
+    ∷ why 0x06040043 (0x23 ∷ 0x7D ∷ 0x60 ∷ 0x02 ∷ 0xFF ∷ 0xFF ∷ 0xFF ∷ 0xFF ∷ [])
+    (0x85 ∷ 0x05 ∷ 0x08 ∷ 0x80 ∷ 0x7D ∷ 0x60 ∷ 0x02 ∷ 0x43 ∷ 0x00 ∷ 0x04 ∷ 0x06 ∷ [])
     ∷ why 0x06040041 (0x23 ∷ 0x00 ∷ 0x1A ∷ 0x04 ∷ 0x10 ∷ 0x00 ∷ 0x40 ∷ 0x60 ∷ [])
     (0x85 ∷ 0x05 ∷ 0x08 ∷ 0x80 ∷ 0x00 ∷ 0x1A ∷ 0x04 ∷ 0x41 ∷ 0x00 ∷ 0x04 ∷ 0x06 ∷ [])
     ∷ why 0x06040042 (0x2F ∷ 0x00 ∷ 0x1A ∷ 0x00 ∷ 0x03 ∷ 0x00 ∷ 0x00 ∷ 0x00 ∷ [])
     (0x85 ∷ 0x05 ∷ 0x08 ∷ 0x80 ∷ 0x00 ∷ 0x1A ∷ 0x00 ∷ 0x42 ∷ 0x00 ∷ 0x04 ∷ 0x06 ∷ [])
     ∷ []) ≡ true
 unfolding open-rules open-promises
-thirteen-told = refl
+fourteen-told = refl
 
 -- where none runs, a segment's abort names zeros
 none-to-name :

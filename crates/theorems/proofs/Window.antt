@@ -294,16 +294,16 @@ run-waited r = after-waited (r .steps) (begun r) [] (r .given) (begun-holds r) (
 
 -- ---- bit 10 of the word
 
-both : (Bool → Bool) → Bool
+unfoldable pub both : (Bool → Bool) → Bool
 both f = f true && f false
 
-on-both : (f : Bool → Bool) → both f ≡ true → (b : Bool) → f b ≡ true
+pub on-both : (f : Bool → Bool) → both f ≡ true → (b : Bool) → f b ≡ true
 unfolding both
 on-both f h true = and-left (f true) (f false) h
 on-both f h false = and-right (f true) (f false) h
 
 -- the word by its state and flags, as StatusWord makes it
-abbrev wordOf : DriveState → Bool → Bool → Bool → Bool → Bool → ℕ
+abbrev pub wordOf : DriveState → Bool → Bool → Bool → Bool → Bool → ℕ
 wordOf q powered remote ack limit on =
     stateWord q + flag voltageShown powered + flag remoteShown remote
     + cond (isEnabled q) (flag ackShown ack + flag limitShown limit + flag reachedShown on) 0

@@ -21,7 +21,8 @@ pub use Rattle.drive.specs.{declared.Command.Command, declared.Drive.Drive, dec
 pub use Rattle.drive.specs.{declared.Store.Store}
 pub use Rattle.rules_dictionary.specs.declared.Access.the-variants.{Constant, NodeWritten, Writable}
 pub use Rattle.rules_dictionary.specs.declared.Mode.the-variants.{NoMode, ProfilePosition, ProfileVelocity}
-pub use Rattle.rules_dictionary.specs.declared.Role.the-variants.{Plain, ModeOfOperation, PdoIdentifier, PdoType, MappingCount, MappingEntry}
+pub use Rattle.rules_dictionary.specs.declared.Role.the-variants.{Plain, ModeOfOperation, MinimumLimit, MaximumLimit, PdoIdentifier, PdoType}
+pub use Rattle.rules_dictionary.specs.declared.Role.the-variants.{MappingCount, MappingEntry}
 pub use Rattle.rules_dictionary.specs.Members.{In, here, there}
 pub use Rattle.rules_dictionary.specs.{declared.Access.Access, declared.Mode.Mode, declared.PdoData.PdoData, declared.Plan.Plan, declared.Role.Role}
 pub use Rattle.rules_services.specs.declared.Event.the-variants.{Started, QuickStopDone, ReactionDone, SetPointReached, Tick, CauseGone, Feedback}

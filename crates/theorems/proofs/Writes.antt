@@ -6,6 +6,7 @@ use Rattle.theorems.proofs.Words.{Bool·not-not, List, [], _∷_, _++_,
 use Rattle.theorems.proofs.Words.{false-not, here, there, and-both, none-in, apart, same-or-apart, read-apart, length-store, length-stored}
 use Rattle.theorems.proofs.Words.{field-stored, all-of, in-left, isOperational, clash, either, or-either, by-test, any-false-in, same-self}
 use Rattle.theorems.proofs.Dictionary.{DictionaryOk, well-chosen, MayHold, store-ok, isPdo, held-alike, works-alike, type-alike}
+use Rattle.theorems.proofs.Mapped.{received-row}
 use Rattle.theorems.proofs.Settled.{drive-may, whole-range, mode-in, control-in, time-in, register-in}
 use Rattle.theorems.proofs.Lawful.{Lawful, Waits, pairwise-map, transmitter-in}
 use Rattle.theorems.proofs.DriveKept.{parts, control-sound, control-mode, mode-moded}
@@ -68,15 +69,17 @@ waits-idle m ks fs d d′ k h =
       held = pairwise-map (heldSound m d) (heldSound m d′) receivePdos fs (λ p i f q. idle-held m m d d′ p f (idle m d p h) q) (k .held);
     }
 
-waits-alike : (m : NmtState) (ks : List Pace) (fs : List PdoData) (d d′ : List ℕ) → Waits m ks fs d →
+waits-alike : {n : ℕ} (m : NmtState) (ks : List Pace) (fs : List PdoData) (d d′ : List ℕ) → DictionaryOk n d → Waits m ks fs d →
     ((y : Row) → In y table → isPdo (y .role) ≡ true → read d′ y ≡ read d y) → Waits m ks fs d′
-waits-alike m ks fs d d′ k alike =
+waits-alike m ks fs d d′ ok k alike =
     record {
       counts = λ t i w c.
           let type = type-alike d d′ alike (transmitter-in i) in
           rw type (k .counts t i (sym (works-alike d d′ alike m (transmitter-in i)) ∙ w) (ap isCyclic (sym type) ∙ c));
       held =
-          pairwise-map (heldSound m d) (heldSound m d′) receivePdos fs (λ p i f q. held-alike d d′ alike m (in-left transmitPdos i) f ∙ q) (k .held);
+          pairwise-map (heldSound m d) (heldSound m d′) receivePdos fs
+          (λ p i f q.
+          held-alike d d′ alike m (in-left transmitPdos i) (λ x j. (received-row ok i j .quiet .0, received-row ok i j .free)) f ∙ q) (k .held);
     }
 
 -- ---- what is acted on
@@ -103,7 +106,7 @@ store-lawful s d x v law i quiet may m c h =
       mode = read-apart x mode v d m ∙ law .mode;
       drive = rw (read-apart x controlWord v d c) (law .drive);
       heartbeat = rw (read-apart x heartbeatTime v d h) (law .heartbeat);
-      waits = waits-alike (s .node .nmt) (s .axis .paces) (s .axis .held) d (store x v d) (law .waits)
+      waits = waits-alike (s .node .nmt) (s .axis .paces) (s .axis .held) d (store x v d) (law .dictionary) (law .waits)
           (no-pdo-alike (write x v ∷ []) d (one-row (λ w. In (w .row) table) i) (one-row (λ w. isPdo (w .row .role) ≡ false) quiet));
     }
 
@@ -138,7 +141,7 @@ module _ (s : State) (d : List ℕ) (ws : List Write) (law : Lawful s d) (may : 
   waits =
       elim (may .quiet) [
         | inl h ↦ waits-idle (s .node .nmt) (s .axis .paces) (s .axis .held) d d1 (law .waits) h
-        | inr h ↦ waits-alike (s .node .nmt) (s .axis .paces) (s .axis .held) d d1 (law .waits) (no-pdo-alike ws d rows h)
+        | inr h ↦ waits-alike (s .node .nmt) (s .axis .paces) (s .axis .held) d d1 (law .dictionary) (law .waits) (no-pdo-alike ws d rows h)
       ]
 
   -- the state once the heartbeat's count and the mode were acted on
@@ -206,6 +209,6 @@ module _ (s : State) (d : List ℕ) (ws : List Write) (law : Lawful s d) (may : 
       (by-test P (wrote controlWord ws)
       (λ w. by-test P (c .reset)
       (λ r. rw (stored-append ws (write errorRegister 0 ∷ []) d) (store-lawful u d1 errorRegister 0 controlled register-in refl
-      (drive-may (u .node .id) d1 errorRegister 0 refl refl (omega arith) (whole-range errorRegister 0 refl refl (omega arith))) refl refl refl))
+      (drive-may (u .node .id) d1 errorRegister 0 refl refl refl (omega arith) (whole-range errorRegister 0 refl refl (omega arith))) refl refl refl))
       (λ r. rw append-nil controlled))
       (λ w. rw append-nil (lawful-with a v refl (and-both _ _ (and-both _ _ (a .store) (a .taken w)) (a .cause)))))

@@ -26,7 +26,7 @@ use Rattle.rules_dictionary.specs.Values.{Write, write, read, field, stored, un
 use Rattle.rules_dictionary.specs.Aborts.{Abort, bad, isGood, abortCode, Verdict, good, test, firstOf, unknownCommand, wrongToggle}
 use Rattle.rules_dictionary.specs.Aborts.{noObject as absent}
 use Rattle.rules_dictionary.specs.Aborts.{noSubindex as absentSub, noWriting, tooLong, tooShort, wrongTime, belowRange, aboveRange, badValue}
-use Rattle.rules_dictionary.specs.Aborts.{notMappable, overLength}
+use Rattle.rules_dictionary.specs.Aborts.{limitsSwapped, notMappable, overLength}
 use Rattle.rules_dictionary.specs.Legal.{isSynchronous, frameIdentifier}
 use Rattle.rules_dictionary.specs.Plans.{mapped, planFor, readyFor, plansOf, readyOf}
 use Rattle.rules_dictionary.specs.Members.{In}
@@ -44,7 +44,7 @@ use Rattle.rules_services.specs.declared.SdoCommand.the-variants.{UploadSegment
 use Rattle.rules_services.specs.declared.SdoCommand.the-variants.{ClientAbort as clientAbort, Unknown as unknown}
 use Rattle.rules_services.specs.Sdo.{commandByte, objectOf, sought, requestBase, requestLength, replyBase, uploaded, dataSize, dataPlace}
 use Rattle.rules_services.specs.Sdo.{Offer, expedited, offerVerdict, sizeToldBit, unusedBytes}
-use Rattle.rules_services.specs.Segments.{toggleOf, isLast, carried, flag, toggleBit, objectRun, nameObject, segment, isLastOf, toggleAt, nextOf}
+use Rattle.rules_services.specs.Segments.{toggleOf, isLast, carried, flag, toggleBit, objectRun, nameObject, segment, toggleAt, nextOf}
 use Rattle.rules_services.specs.Segments.{objectIn, bytesIn, nothingYet, gathered, turned, joined, tooMany, segmentSize}
 use Rattle.rules_services.specs.SdoServer.{commandOf}
 use Rattle.rules_services.specs.PdoTraffic.{listens, typeOf, mappedLength, areLegal, transmitted, noData, isHeld, syncBase, works}
@@ -212,18 +212,18 @@ AbortSaysWhy = (r : Run) (rq o : List ℕ) (c : Abort) → Heard rq o (reached r
     ≡ onlySends (says (reached r) (0x80 ∷ objectOn (commandIn rq) rq (reached r .state .transfer) ++ bytes dataSize (abortCode c)) ∷ [])
     (nothingRuns (reached r)) o
 
--- the codes as the paper and the ticket print them
+-- the codes as the paper and the tickets print them
 abbrev pub codes : List ℕ
 codes =
     0x05040001 ∷ 0x05030000 ∷ 0x06020000 ∷ 0x06090011 ∷ 0x06010002 ∷ 0x06070012 ∷ 0x06070013 ∷ 0x08000022 ∷ 0x06090032 ∷ 0x06090031 ∷ 0x06090030
-    ∷ 0x06040041 ∷ 0x06040042 ∷ []
+    ∷ 0x06040043 ∷ 0x06040041 ∷ 0x06040042 ∷ []
 
 -- each has its name, and no abort has another code
-abbrev pub ThirteenCodes : Type 0
-ThirteenCodes =
+abbrev pub FourteenCodes : Type 0
+FourteenCodes =
     (map abortCode
     (unknownCommand ∷ wrongToggle ∷ absent ∷ absentSub ∷ noWriting ∷ tooLong ∷ tooShort ∷ wrongTime ∷ belowRange ∷ aboveRange ∷ badValue
-    ∷ notMappable ∷ overLength ∷ [])
+    ∷ limitsSwapped ∷ notMappable ∷ overLength ∷ [])
     ≡ codes)
     × ((c : Abort) → any (eqb (abortCode c)) codes ≡ true)
 

@@ -1,4 +1,4 @@
--- By the room, then by index or subindex. Assumes nothing.
+-- By the room, then by the subindex. Assumes nothing.
 use borrow.Author.Tests.{ne-eqb}
 use borrow.Author.Needs.{needs}
 use Rattle.dictionary.specs.Lines.{roleIn}
@@ -8,7 +8,7 @@ use Rattle.dictionary.proofs.table.role_in.Tie as tie
 pub role-in-spec : {M : Type 1} → statement M
 unfolding roleIn
 role-in-spec =
-    tie.close (tie.spec (λ c. search needs) (λ c. search needs) (λ c. search needs) (λ c. search needs)
+    tie.close (tie.spec (λ c. search needs) (λ c. search needs) (λ c. search needs) (λ c. search needs) (λ c κs. search needs)
     (λ c. rw (c .enum-told .given .1))
     (λ c. rw (c .before .before .room .given .1, c .match2 .keys1))
     (λ c. rw (c .before .before .room .given .1, c .match2 .keys2))
@@ -17,5 +17,4 @@ role-in-spec =
     rw (c .before .before .room .given .1) (simp (ne-eqb k 1 (c .match2 .rest .0 .1), ne-eqb k 2 (c .match2 .rest .1))))
     (λ c. rw (c .before .before .room2 .given .1, c .if1 .taken))
     (λ c. rw (c .before .before .room2 .given .1) (simp (ne-eqb (c .before .before .before .before .args .subindex) 0 (c .if1 .left))))
-    (λ c. rw (c .before .enum-told2 .given .1, c .if2 .taken))
-    (λ c. rw (c .before .enum-told2 .given .1) (simp (ne-eqb (c .before .before .before .args .index) 0x6060 (c .if2 .left)))))
+    (λ c. rw (c .before .enum-told2 .given .1) (c .drive-role .ensures)))

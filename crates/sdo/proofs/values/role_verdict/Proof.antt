@@ -5,8 +5,8 @@ use mathlib.Core.List.{List}
 use borrow.Author.Needs.{needs}
 use Rattle.rules_dictionary.specs.declared.Role.{Role}
 use Rattle.rules_dictionary.specs.Aborts.{firstOf}
-use Rattle.rules_dictionary.specs.Legal.{otherBadValue, mappingVerdict}
-use Rattle.sdo.specs.Verdicts.{verdictCode, badIf, roleVerdict}
+use Rattle.rules_dictionary.specs.Legal.{otherBadValue, swapsLimits, mappingVerdict}
+use Rattle.sdo.specs.Verdicts.{verdictCode, badIf, limitsVerdict, roleVerdict}
 use Rattle.sdo.proofs.values.role_verdict.Statement.{statement}
 use Rattle.sdo.proofs.values.role_verdict.Tie as tie
 
@@ -14,15 +14,21 @@ by : (d : List ℕ) (v : ℕ) {o k : Role} {r : ℕ} → o ≡ k → r ≡ verdi
 by d v e h = rw e h
 
 pub role-verdict-spec : {M : Type 1} → statement M
-unfolding roleVerdict otherBadValue mappingVerdict firstOf badIf
+unfolding roleVerdict otherBadValue swapsLimits mappingVerdict firstOf badIf limitsVerdict
 role-verdict-spec =
-    tie.close (tie.spec (λ c. search needs) (λ c. search needs) (λ c κs. search needs) (λ c κs. search needs) (λ c. search needs) (λ c. search needs)
+    tie.close (tie.spec (λ c. search needs) (λ c. search needs) (λ c κs. search needs) (λ c κs. search needs)
+    (λ c. search needs) (λ c κs. search needs) (λ c κs. search needs) (λ c. search needs) (λ c κs. search needs) (λ c κs. search needs)
+    (λ c. search needs) (λ c. search needs)
     (λ c κs. (search needs, rw (c .before .role .given .1) at (c .before .before .before .before .pre .1))) (λ c κs. search needs)
     (λ c. search needs) (λ c κs. search needs) (λ c κs. search needs) (λ c. search needs) (λ c. search needs)
     (λ c κs. (search needs, rw (c .before .role3 .given .1) at (c .before .before .before .before .pre .1))) (λ c. search needs) (λ c. search needs)
     (λ c κs. search needs) (λ c. let a = c .before .before .before .args in by (a .d .now) (a .v) (c .enum-told .given .1) refl)
     (λ c. let k = c .before .before in let a = k .before .before .before .args in
     by (a .d .now) (a .v) (k .enum-told2 .given .1) (rw (← c .before .is-mode .ensures) (c .bad-if .ensures)))
+    (λ c. let k = c .before .before in let a = k .before .before .before .args in
+    by (a .d .now) (a .v) (k .enum-told3 .given .1) (rw (← c .before .maximum-position .ensures) (c .limits-verdict .ensures)))
+    (λ c. let k = c .before .before in let a = k .before .before .before .args in
+    by (a .d .now) (a .v) (k .enum-told4 .given .1) (rw (← c .before .minimum-position .ensures) (c .limits-verdict2 .ensures)))
     (λ c. let k = c .before .before .before in let a = k .before .before .before .args in
     by (a .d .now) (a .v) (k .role .given .1) (rw (← c .before .bad-identifier .ensures) (c .bad-if2 .ensures)))
     (λ c. let k = c .before .before .before in let a = k .before .before .before .args in
