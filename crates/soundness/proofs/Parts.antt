@@ -4,14 +4,14 @@ use Prim.Native.Nat.{ℕ, _<_}
 use mathlib.Core.Path.{_≡_, refl, sym, _∙_, ap}
 use mathlib.Core.Bool.{Bool, true, not, _&&_, and-assoc, and-comm, and-false}
 use mathlib.Core.List.{List, [], _∷_, map}
-use borrow.Author.Tests.{eqb-true, not-true}
+use borrow.Author.Tests.{not-true}
 use lib.ListN.{length, getD}
 use Rattle.drive.specs.declared.Drive.{Drive}
 use Rattle.state.specs.declared.Node.{Node}
 use Rattle.state.specs.declared.State.{State}
 use Rattle.rules_dictionary.specs.Numbers.{all, areBytes}
 use Rattle.rules_dictionary.specs.TheNode.{isNodeId}
-use Rattle.rules_dictionary.specs.Table.{table, isConstant, identifier, pdos, transmitPdos, dictionaryLength}
+use Rattle.rules_dictionary.specs.Table.{table, identifier, pdos, transmitPdos, dictionaryLength}
 use Rattle.rules_dictionary.specs.Values.{write, read, unpacked}
 use Rattle.rules_dictionary.specs.Aborts.{isGood}
 use Rattle.rules_dictionary.specs.Legal.{entryVerdict, mapWords, identifiers, badIdentifier}
@@ -23,8 +23,8 @@ use Rattle.rules.specs.Outcome.{sameBy, samePlan, sameData, statusOf}
 use Rattle.rules.specs.Sound.{pairwise, constantsAsListed, valuesLegal, dictionarySound}
 use Rattle.rules.specs.Sound.{statusAsMade, modeAsMade, plansFresh, readyFresh, driveSound, heartbeatSound, waitingSound, transferSound, staySound}
 use Rattle.rules.specs.Sound.{sound}
-use Rattle.theorems.proofs.Booleans.{false-not, implied}
-use Rattle.theorems.proofs.Dictionary.{of-values, words-legal, word-legal, listed, from-test, to-test}
+use Rattle.theorems.proofs.Booleans.{false-not}
+use Rattle.theorems.proofs.Dictionary.{of-values, words-legal, word-legal, constant-row, from-test, to-test}
 use Rattle.form.specs.Form.{transferPlace, stateLength, stateOf, isForm}
 use Rattle.form.specs.Own.{headOwn, transferOwn, plansOwn, isOwn}
 use Rattle.form.proofs.OneForm.{is-own}
@@ -42,15 +42,15 @@ use Rattle.soundness.proofs.RowTests.{ranged, rows-tested}
 -- ---- the dictionary: what each row may hold, in parts
 
 -- the clauses of a dictionary by themselves
-abbrev apart-clauses : ℕ → List ℕ → Bool
-apart-clauses n d =
+abbrev clausesApart : ℕ → List ℕ → Bool
+clausesApart n d =
     (constantsAsListed n d && all ranged (unpacked table d)) && (limitsInOrder d && (all (mappingLegal d) pdos && identifiersLegal d))
 
-dictionary-parts : (n : ℕ) (d : List ℕ) → dictionarySound n d ≡ apart-clauses n d
-unfolding dictionarySound constantsAsListed mappingLegal identifiersLegal ranged listed
+dictionary-parts : (n : ℕ) (d : List ℕ) → dictionarySound n d ≡ clausesApart n d
+unfolding dictionarySound mappingLegal identifiersLegal ranged
 dictionary-parts n d = both-ways _ _ to from
   where
-    to : dictionarySound n d ≡ true → apart-clauses n d ≡ true
+    to : dictionarySound n d ≡ true → clausesApart n d ≡ true
     to h =
         let ok = from-test n d h in
         and-both _ _
@@ -60,7 +60,7 @@ dictionary-parts n d = both-ways _ _ to from
         (and-both _ _ (all-of (mappingLegal d) pdos (λ p i. and-both _ _ (words-legal ok i) (ok .counts p i)))
         (all-of (λ p. not (badIdentifier (identifiers d) p (read d (identifier p)))) pdos (λ p i. false-not _ (ok .named p i)))))
 
-    from : apart-clauses n d ≡ true → dictionarySound n d ≡ true
+    from : clausesApart n d ≡ true → dictionarySound n d ≡ true
     from h =
         let rows = and-left (constantsAsListed n d && all ranged (unpacked table d)) _ h in
         let rest = and-right (constantsAsListed n d && all ranged (unpacked table d)) _ h in
@@ -68,8 +68,7 @@ dictionary-parts n d = both-ways _ _ to from
         let maps : (p : ℕ) → In p pdos → mappingLegal d p ≡ true =
         λ p i. all-in (mappingLegal d) i (and-left (all (mappingLegal d) pdos) (identifiersLegal d) pdo) in
         to-test n d (record {
-          listed = λ x i k. eqb-true _ _ (implied (isConstant (x .access)) _
-              (all-in (λ x. listed n (write x (read d x))) i (sym (of-values (listed n) d) ∙ and-left (constantsAsListed n d) _ rows)) k);
+          listed = λ x i k. constant-row n d (and-left (constantsAsListed n d) _ rows) i k;
           ranged = λ x i. all-in (λ x. ranged (write x (read d x))) i
               (sym (of-values ranged d) ∙ and-right (constantsAsListed n d) _ rows);
           words = λ p k i j. word-legal d i j (and-left _ _ (maps p i));

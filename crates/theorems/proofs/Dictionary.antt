@@ -155,7 +155,7 @@ pub pdo-of : {x : Row} {p : ℕ} → In x table → ofPdo (x .role) ≡ ltb p 8 
 unfolding table
 pdo-of {x} {p} i e = pdo-in p (ltb-true p 8 (sym e ∙ all-in (λ x. ofPdo (x .role)) i refl))
 
--- the row of such a role stands where that row does
+-- a row that has the role of a limit, of an identifier, of a count or of an entry is the row of that name: it stands nowhere else
 abbrev isAtHome : Row → Role → Bool
 isAtHome x Plain = true
 isAtHome x ModeOfOperation = true
@@ -198,19 +198,25 @@ any-in k (x ∷ xs) h =
 unfoldable pub listed : ℕ → Write → Bool
 listed n w = not (isConstant (w .row .access)) || eqb (w .value) (defaultOf n (w .row))
 
+-- .. and so it is with each of them
+pub constant-row : (n : ℕ) (d : List ℕ) → constantsAsListed n d ≡ true → {x : Row} → In x table → isConstant (x .access) ≡ true →
+    read d x ≡ defaultOf n x
+unfolding constantsAsListed listed
+constant-row n d h {x} i k =
+    eqb-true _ _ (implied (isConstant (x .access)) _ (all-in (λ x. listed n (write x (read d x))) i (sym (of-values (listed n) d) ∙ h)) k)
+
 -- what is asked of every value
-unfoldable pub held : List ℕ → Write → Bool
-held d w = mayHold d (w .row) (w .value)
+unfoldable rightful : List ℕ → Write → Bool
+rightful d w = mayHold d (w .row) (w .value)
 
 pub from-test : (n : ℕ) (d : List ℕ) → dictionarySound n d ≡ true → DictionaryOk n d
-unfolding dictionarySound constantsAsListed valuesLegal areLegal listed held otherBadValue swapsLimits mappingVerdict
+unfolding dictionarySound valuesLegal areLegal rightful otherBadValue swapsLimits mappingVerdict
 from-test n d h =
     let value : (x : Row) → In x table → GoodValue d x (read d x) = λ x i.
     good-value d x (read d x) (is-good _ (all-in (λ x. mayHold d x (read d x)) i
-    (sym (of-values (held d) d) ∙ and-right (constantsAsListed n d) (valuesLegal d) h))) in
+    (sym (of-values (rightful d) d) ∙ and-right (constantsAsListed n d) (valuesLegal d) h))) in
     record {
-      listed = λ x i k. eqb-true _ _ (implied (isConstant (x .access)) _
-          (all-in (λ x. listed n (write x (read d x))) i (sym (of-values (listed n) d) ∙ and-left (constantsAsListed n d) (valuesLegal d) h)) k);
+      listed = λ x i k. constant-row n d (and-left (constantsAsListed n d) (valuesLegal d) h) i k;
       ranged = λ x i. good-range d x (read d x) (value x i);
       words = λ p k i j. ap isGood (value (mapEntry p k) (entry-in i j) .mapping);
       counts = λ p i. ap isGood (value (mapCount p) (count-in i) .mapping);
@@ -273,12 +279,12 @@ module _ {n : ℕ} {d : List ℕ} (ok : DictionaryOk n d) where
       record { notBelow = low; notAbove = not-above ok i; choice = r .0; ordered = r .1; mapping = r .2 }
 
 pub to-test : (n : ℕ) (d : List ℕ) → DictionaryOk n d → dictionarySound n d ≡ true
-unfolding dictionarySound constantsAsListed valuesLegal areLegal listed held
+unfolding dictionarySound constantsAsListed valuesLegal areLegal listed rightful
 to-test n d ok =
     rw (
       of-values (listed n) d,
       all-of (λ x. listed n (write x (read d x))) table (λ x i. implies (isConstant (x .access)) _ (λ k. eq-eqb _ _ (ok .listed x i k))),
-      of-values (held d) d,
+      of-values (rightful d) d,
       all-of (λ x. mayHold d x (read d x)) table (λ x i. ap isGood (value-good d x (read d x) (good-row ok i))),
     )
 
