@@ -147,19 +147,34 @@ offerVerdict nmt d t =
 unfoldable pub abort : Abort → List ℕ → State → Effect
 abort a o s = sends (reply aborted o s (bytes dataSize (abortCode a))) (becomes s)
 
--- what is offered is taken, with that reply before all else, or aborted
-unfoldable pub judged : Verdict → List Frame → List ℕ → Offer → State → List ℕ → Effect
-judged good said o t s d = sends said (applied (write (t .row) (t .value) ∷ []) s d)
-judged (bad a) said o t s d = abort a o s
+-- ---- a download, by whatever it comes: it is taken, and this is its effect, or aborted
 
--- "no object 06020000h; no subindex 06090011h; download to c .. 06010002h": a download, by what it offers a row and its reply where it is taken
+pub data Judgement : Type 0 where
+  takes : Effect → Judgement
+  aborts : Abort → Judgement
+
+-- what is offered is stored and acted on
+unfoldable pub judged : Verdict → Offer → State → List ℕ → Judgement
+judged good t s d = takes (applied (write (t .row) (t .value) ∷ []) s d)
+judged (bad a) t s d = aborts a
+
+-- "no object 06020000h; no subindex 06090011h; download to c .. 06010002h": by what it offers a row
+unfoldable pub download : (Row → Offer) → Found → State → List ℕ → Judgement
+download offer (found x) s d = judged (offerVerdict (s .node .nmt) d (offer x)) (offer x) s d
+download offer theName s d = aborts noWriting
+download offer missing s d = aborts noObject
+download offer missingSubindex s d = aborts noSubindex
+
+-- ---- a download by SDO, with its reply before all else where it is taken
+
+unfoldable pub withReply : List Frame → List ℕ → State → Judgement → Effect
+withReply said o s (takes e) = sends said e
+withReply said o s (aborts a) = abort a o s
+
 unfoldable pub downloads : List Frame → List ℕ → (Row → Offer) → Found → State → List ℕ → Effect
-downloads said o offer (found x) s d = judged (offerVerdict (s .node .nmt) d (offer x)) said o (offer x) s d
-downloads said o offer theName s d = abort noWriting o s
-downloads said o offer missing s d = abort noObject o s
-downloads said o offer missingSubindex s d = abort noSubindex o s
+downloads said o offer f s d = withReply said o s (download offer f s d)
 
 -- opens every definition of this module, where a proof computes
 unfoldable pub open-sdo : Unit {0}
-unfolding toldSize askedValue reply isWrongTime offerVerdict abort judged downloads
+unfolding toldSize askedValue reply isWrongTime offerVerdict abort judged download withReply downloads
 open-sdo = tt

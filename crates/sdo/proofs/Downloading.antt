@@ -87,8 +87,8 @@ good-writable false ts v h = cc
 -- another is an abort, and nothing is left to do
 turned-down : (v : Verdict) (fs : State → List Frame) (t : sdo.Offer) (o bs d : List ℕ) {out bs′ out′ : List ℕ} {r : Done} → (verdictCode v ≡ 0 → ⊥) →
     Speaks (said (replyBytes sdo.aborted o (verdictCode v)) NoTransfer) bs out r bs′ out′ →
-    LeavesIn (λ s d. sdo.judged v (fs s) o t (withoutTransfer s) d) (λ s d. not (isGood v)) bs d out r bs′ d out′
-unfolding sdo.judged sdo.abort sdo.reply
+    LeavesIn (λ s d. sdo.withReply (fs s) o (withoutTransfer s) (sdo.judged v t (withoutTransfer s) d)) (λ s d. not (isGood v)) bs d out r bs′ d out′
+unfolding sdo.judged sdo.withReply sdo.abort sdo.reply
 turned-down good fs t o bs d n h = absurd (n refl)
 turned-down (bad a) fs t o bs d n h = h d
 
@@ -109,7 +109,7 @@ module _ (content o bs d : List ℕ) (b : Brought) {e : Entry} (st : Stands (sdo
   pub download-refused : {out bs′ out′ : List ℕ} {r : Done} → (code ≡ 0 → ⊥) →
       Speaks (said (replyBytes sdo.aborted o code) NoTransfer) bs out r bs′ out′ →
       LeavesIn (downloadOf content o b) (downloadRests o (offering b)) bs d out r bs′ d out′
-  unfolding sdo.downloads isWritten
+  unfolding sdo.downloads sdo.download isWritten
   download-refused n h =
       rw (st .finds, verdict-is)
       (turned-down verdict (λ s. saying content (s .node .id)) (offering b (st .row)) o bs d (λ z. n (is ∙ z)) (rw is at h))
@@ -124,7 +124,7 @@ module _ (content o bs d : List ℕ) (b : Brought) {e : Entry} (st : Stands (sdo
 
     pub download-applied : {out bs′ d′ out′ : List ℕ} {r : Done} → Applies content e (t .value) bs d out r bs′ d′ out′ →
         LeavesIn (downloadOf content o b) (downloadRests o (offering b)) bs d out r bs′ d′ out′
-    unfolding sdo.downloads sdo.judged isWritten
+    unfolding sdo.downloads sdo.download sdo.withReply sdo.judged isWritten
     download-applied h =
         let v = ap (λ (u : Offer). u .value) offered ∙ ap (λ (y : Entry). value (take (y .size) (b .bytes))) (st .is-entry) in
         rw (st .finds, verdict-is, fine, ← v) (h _ _ st)

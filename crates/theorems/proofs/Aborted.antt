@@ -20,7 +20,8 @@ use Rattle.rules_services.specs.Effects.{Effect, becomes, sends, Frame, withTra
 use Rattle.rules_services.specs.PdoTraffic.{syncBase}
 use Rattle.rules_services.specs.Nmt.{nmtIdentifier}
 use Rattle.rules_services.specs.Written.{applied}
-use Rattle.rules_services.specs.Sdo.{objectOf, sought, Offer, expedited, offerVerdict, abort, judged, downloads, reply, requestBase, requestLength}
+use Rattle.rules_services.specs.Sdo.{objectOf, sought, Offer, expedited, offerVerdict, abort, judged, download, withReply, downloads, reply}
+use Rattle.rules_services.specs.Sdo.{requestBase, requestLength}
 use Rattle.rules_services.specs.Sdo.{dataSize}
 use Rattle.rules_services.specs.Segments.{objectRun, toggleOf, toggleAt, isLast, carried, unfit, nameAsked, segment, nextOf, segmentAsked, gathered}
 use Rattle.rules_services.specs.Segments.{joined, concluded, continued, segmentSent, turned, nothingYet, downloadBegun, acknowledged, objectIn}
@@ -106,10 +107,10 @@ module _ (a : Stand) (h : Rests a) (rq o : List ℕ) where
   downloads-meet : (fs : List Frame) (object : List ℕ) (offer : Row → Offer) (P : Outcome → Type 0) →
       ((ws : List Write) → P (answers (sends fs (applied ws (withoutTransfer s) d)))) → (f : Found) →
       Meets object P (objectVerdict true offer (s .node .nmt) d f) (downloads fs object offer f (withoutTransfer s) d)
-  unfolding objectVerdict downloads judged
+  unfolding objectVerdict downloads download withReply judged
   downloads-meet fs object offer P taken (found x) = judged-meets (offerVerdict (s .node .nmt) d (offer x))
     where
-      judged-meets : (v : Verdict) → Meets object P v (judged v fs object (offer x) (withoutTransfer s) d)
+      judged-meets : (v : Verdict) → Meets object P v (withReply fs object (withoutTransfer s) (judged v (offer x) (withoutTransfer s) d))
       judged-meets good = taken (write (offer x .row) (offer x .value) ∷ [])
       judged-meets (bad c) = refl
   downloads-meet fs object offer P taken theName = refl

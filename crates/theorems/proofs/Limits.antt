@@ -36,7 +36,8 @@ use Rattle.drive.specs.SetPoints.{setPointRule, modeWritten, controlWritten, ne
 use Rattle.drive.specs.StatusWord.{ackShown, ackInMode, reachedInMode, enabledBits, status}
 use Rattle.rules_services.specs.Effects.{Frame, Effect, becomes, andThen, withHeld, withoutTransfer}
 use Rattle.rules_services.specs.Written.{wrote, countRestarted, modeActed, faultReset, controlActed, applied}
-use Rattle.rules_services.specs.Sdo.{objectOf, sought, Offer, expedited, offerVerdict, judged, downloads, requestBase, requestLength}
+use Rattle.rules_services.specs.Sdo.{objectOf, sought, Offer, expedited, offerVerdict, judged, download, withReply, downloads, requestBase}
+use Rattle.rules_services.specs.Sdo.{requestLength}
 use Rattle.rules_services.specs.Segments.{toggleOf, isLast, carried, unfit, gathered, joined, acknowledged, concluded, continued, segmentSent}
 use Rattle.rules_services.specs.Segments.{objectIn}
 use Rattle.rules_services.specs.SdoServer.{asked, sdo}
@@ -201,14 +202,14 @@ module _ (s : State) (d : List ℕ) (ws : List Write) (on : Positions (s .axis .
   -- ---- SDO
   module _ (said : List Frame) (o : List ℕ) (offer : Row → Offer) (own : (x : Row) → offer x .row ≡ x) where
     judged-takes : (x : Row) → In x table → (v : Verdict) → cond (isGood v) ((write x (offer x .value) ∷ []) ∷ []) [] ≡ ws ∷ [] →
-        Takes (judged v said o (offer x) (withoutTransfer s) d)
-    unfolding judged
+        Takes (withReply said o (withoutTransfer s) (judged v (offer x) (withoutTransfer s) d))
+    unfolding judged withReply
     judged-takes x i good h =
         rw (own x) (values-take (write x (offer x .value) ∷ []) (withoutTransfer s) refl (one-row (λ w. In (w .row) table) i) (head-eq-of-cons-eq h))
     judged-takes x i (bad a) h = absurd (nil≢cons h)
 
     downloads-take : (f : Found) → sought o ≡ f → toFound offer s d f ≡ ws ∷ [] → Takes (downloads said o offer f (withoutTransfer s) d)
-    unfolding downloads
+    unfolding downloads download withReply
     downloads-take (found x) e h = judged-takes x (found-in _ _ e) (offerVerdict (s .node .nmt) d (offer x)) h
     downloads-take theName e h = absurd (nil≢cons h)
     downloads-take noObject e h = absurd (nil≢cons h)

@@ -31,7 +31,8 @@ use Rattle.rules_services.specs.PdoTraffic.{releaseAll, sync, syncBase}
 use Rattle.rules_services.specs.Nmt.{powerUp, commanded, nmt, nmtIdentifier, nmtLength, everyNode, tick as ticked, commandOf as nmtCommandOf}
 use Rattle.rules_services.specs.Nmt.{NmtCommand, start, stop, enterPreOperational, resetNode, resetCommunication, unknown as unknownNmt}
 use Rattle.rules_services.specs.{declared.Event.the-variants.Fault, Events.happens, Events.faulted}
-use Rattle.rules_services.specs.Sdo.{objectOf, sought, Offer, expedited, offerVerdict, abort, judged, downloads, requestBase, requestLength}
+use Rattle.rules_services.specs.Sdo.{objectOf, sought, Offer, expedited, offerVerdict, abort, judged, download, withReply, downloads, requestBase}
+use Rattle.rules_services.specs.Sdo.{requestLength}
 use Rattle.rules_services.specs.Segments.{toggleOf, toggleAt, isLast, carried, unfit, nameAsked, segmentAsked, downloadBegun, gathered, joined}
 use Rattle.rules_services.specs.Segments.{acknowledged, concluded, continued, segmentSent, objectIn}
 use Rattle.rules_services.specs.SdoServer.{uploads, asked, sdo}
@@ -210,14 +211,15 @@ module _ (s : State) (d : List ℕ) (law : Lawful s d) where
   -- ---- SDO
   module _ (fs : List Frame) (o : List ℕ) (offer : Row → Offer) (own : (x : Row) → offer x .row ≡ x) where
     judged-brings : (x : Row) → In x table → (v : Verdict) →
-        Brings s d (judged v fs o (offer x) (withoutTransfer s) d) (cond (isGood v) ((write x (offer x .value) ∷ []) ∷ []) [])
-    unfolding judged abort written
+        Brings s d (withReply fs o (withoutTransfer s) (judged v (offer x) (withoutTransfer s) d))
+        (cond (isGood v) ((write x (offer x .value) ∷ []) ∷ []) [])
+    unfolding judged withReply abort written
     judged-brings x i good =
         rw (own x) (applied-brings (write x (offer x .value) ∷ []) (withoutTransfer s) d (one-row (λ w. In (w .row) table) i))
     judged-brings x i (bad a) = refl
 
     downloads-bring : (f : Found) → sought o ≡ f → Brings s d (downloads fs o offer f (withoutTransfer s) d) (toFound offer s d f)
-    unfolding downloads abort written
+    unfolding downloads download withReply abort written
     downloads-bring (found x) e = judged-brings x (found-in _ _ e) (offerVerdict (s .node .nmt) d (offer x))
     downloads-bring theName e = refl
     downloads-bring noObject e = refl

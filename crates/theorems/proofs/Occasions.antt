@@ -14,7 +14,8 @@ use Rattle.drive.specs.SetPoints.{controlWritten}
 use Rattle.state.specs.Occasions.{isTicked}
 use Rattle.rules_services.specs.Effects.{Frame, Effect, withoutTransfer}
 use Rattle.rules_services.specs.Written.{applied, wrote, countRestarted, modeActed, faultReset, controlActed}
-use Rattle.rules_services.specs.Sdo.{objectOf, sought, Offer, expedited, offerVerdict, abort, judged, downloads, requestBase, requestLength}
+use Rattle.rules_services.specs.Sdo.{objectOf, sought, Offer, expedited, offerVerdict, abort, judged, download, withReply, downloads, requestBase}
+use Rattle.rules_services.specs.Sdo.{requestLength}
 use Rattle.rules_services.specs.Segments.{unfit, nameAsked, segmentAsked, toggleOf, toggleAt, isLast, downloadBegun, concluded, continued}
 use Rattle.rules_services.specs.Segments.{segmentSent, gathered, carried, joined, acknowledged, objectIn}
 use Rattle.rules_services.specs.SdoServer.{uploads, asked, sdo}
@@ -57,13 +58,14 @@ module _ (s : State) (d : List ℕ) where
       whichever NoTick (isStopped (s .node .nmt)) refl
       (whichever NoTick (not (eqb (length bs) 0)) refl (whichever NoTick (isOperational (s .node .nmt)) refl refl))
 
-  judged-no-tick : (v : Verdict) (fs : List Frame) (o : List ℕ) (w : Offer) → NoTick (judged v fs o w (withoutTransfer s) d)
-  unfolding judged abort
+  judged-no-tick : (v : Verdict) (fs : List Frame) (o : List ℕ) (w : Offer) →
+      NoTick (withReply fs o (withoutTransfer s) (judged v w (withoutTransfer s) d))
+  unfolding judged withReply abort
   judged-no-tick good fs o w = applied-no-tick _ (withoutTransfer s) d
   judged-no-tick (bad a) fs o w = refl
 
   downloads-no-tick : (fs : List Frame) (o : List ℕ) (offer : Row → Offer) (f : Found) → NoTick (downloads fs o offer f (withoutTransfer s) d)
-  unfolding downloads abort
+  unfolding downloads download withReply abort
   downloads-no-tick fs o offer (found x) = judged-no-tick (offerVerdict (s .node .nmt) d (offer x)) fs o (offer x)
   downloads-no-tick fs o offer theName = refl
   downloads-no-tick fs o offer noObject = refl

@@ -24,7 +24,8 @@ use Rattle.rules_dictionary.specs.Aborts.{isGood}
 use Rattle.rules_dictionary.specs.DeviceName.{deviceName}
 use Rattle.rules_services.specs.Effects.{Frame, Effect, becomes, sends, withTransfer, withoutTransfer, frame}
 use Rattle.rules_services.specs.Written.{applied}
-use Rattle.rules_services.specs.Sdo.{objectOf, dataSize, Offer, reply, downloaded, aborted, offerVerdict, abort, judged, downloads, toldSize}
+use Rattle.rules_services.specs.Sdo.{objectOf, dataSize, Offer, reply, downloaded, aborted, offerVerdict, abort, judged, download, withReply}
+use Rattle.rules_services.specs.Sdo.{downloads, toldSize}
 use Rattle.rules_services.specs.Sdo.{askedValue, expedited, sought, requestLength, replyBase}
 use Rattle.rules_services.specs.Segments.{toggleOf, isLast, carried, objectRun, unfit, nothingYet, downloadBegun, gathered, turned, acknowledged}
 use Rattle.rules_services.specs.Segments.{continued, segmentSent, objectIn, joined, concluded, toggleAt, isLastOf, added, tooMany, bytesIn, flag}
@@ -131,7 +132,7 @@ module _ (a : Stand) (o : List ℕ) where
     downloads-alike : (x : Found) → ((y : Row) → Alike y) →
         SameBehindReply (objectVerdict true other (s .node .nmt) d x) (answers (downloads (f ∷ []) object one x s d))
         (answers (downloads (g ∷ []) object other x s d))
-    unfolding downloads objectVerdict judged
+    unfolding downloads download withReply objectVerdict judged
     downloads-alike (found x) alike =
         elim (alike x) [
           | inl e ↦ rw e (judged-alike (offerVerdict (s .node .nmt) d (other x)))
@@ -139,7 +140,8 @@ module _ (a : Stand) (o : List ℕ) where
         ]
       where
         judged-alike : (v : Verdict) →
-            SameBehindReply v (answers (judged v (f ∷ []) object (other x) s d)) (answers (judged v (g ∷ []) object (other x) s d))
+            SameBehindReply v (answers (withReply (f ∷ []) object s (judged v (other x) s d)))
+            (answers (withReply (g ∷ []) object s (judged v (other x) s d)))
         judged-alike good = same-behind f g (applied (write (other x .row) (other x .value) ∷ []) s d)
         judged-alike (bad c) = same-answer (bad c) (answers (abort c object s))
     downloads-alike theName alike = same-answer _ _

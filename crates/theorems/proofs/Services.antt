@@ -32,7 +32,7 @@ use Rattle.rules_services.specs.Effects.{withTransfer, withoutTransfer}
 use Rattle.rules_services.specs.Emergency.{emergency, pdoTooShort, pdoTooLong, valueRefused, badSyncLength}
 use Rattle.rules_services.specs.Written.{applied, wrote, countRestarted, modeActed, faultReset, controlActed}
 use Rattle.rules_services.specs.Sdo.{commandByte, objectOf, sought, dataPlace, dataSize, Offer, askedValue, expedited, reply, downloaded, uploaded}
-use Rattle.rules_services.specs.Sdo.{aborted, offerVerdict, abort, judged, downloads, requestBase, requestLength}
+use Rattle.rules_services.specs.Sdo.{aborted, offerVerdict, abort, judged, download, withReply, downloads, requestBase, requestLength}
 use Rattle.rules_services.specs.Segments.{nowhere, unfit, uploadBegun, nameAsked, segment, segmentAsked, toggleOf, toggleAt, toggleBit, flag, isLast}
 use Rattle.rules_services.specs.Segments.{carried, nextOf, nothingYet, downloadBegun, gathered, turned, segmentTaken, acknowledged, joined, concluded}
 use Rattle.rules_services.specs.Segments.{continued, segmentSent, objectIn, bytesIn}
@@ -171,15 +171,15 @@ module _ (K : Type 0) (s : State) (d : List ℕ) where
   module _ {fs : List Frame} {o : List ℕ} (said : Replied K s fs) (object : K → IsObject o) (offer : Row → Offer)
       (own : (x : Row) → offer x .row ≡ x) (fits : K → (x : Row) → offer x .value < 256 ^ sizeOf x) where
     judged-serves : (x : Row) → In x table → (v : Verdict) → offerVerdict (s .node .nmt) d (offer x) ≡ v →
-        Serves K s d (judged v fs o (offer x) (withoutTransfer s) d)
-    unfolding judged
+        Serves K s d (withReply fs o (withoutTransfer s) (judged v (offer x) (withoutTransfer s) d))
+    unfolding judged withReply
     judged-serves x i good e =
         applies NoTransfer (write (offer x .row) (offer x .value) ∷ []) (replied said)
         (λ k law. offer-may (offer x) s d (rw (own x) i) (rw (own x) (fits k x)) e law)
     judged-serves x i (bad a) e = aborts a object
 
     downloads-serve : (f : Found) → sought o ≡ f → Serves K s d (downloads fs o offer f (withoutTransfer s) d)
-    unfolding downloads
+    unfolding downloads download withReply
     downloads-serve (found x) e = judged-serves x (found-in _ _ e) (offerVerdict (s .node .nmt) d (offer x)) refl
     downloads-serve theName e = aborts noWriting object
     downloads-serve noObject e = aborts absent object

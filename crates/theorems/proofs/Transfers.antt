@@ -15,7 +15,8 @@ use Rattle.rules_dictionary.specs.{Numbers.areBytes, Legal.isSynchronous, Plans
 use Rattle.drive.specs.SetPoints.{controlWritten}
 use Rattle.rules_services.specs.Effects.{Frame, Effect, becomes, andThen, withHeld, withoutTransfer}
 use Rattle.rules_services.specs.Written.{applied, wrote, countRestarted, modeActed, faultReset, controlActed}
-use Rattle.rules_services.specs.Sdo.{objectOf, sought, Offer, expedited, offerVerdict, abort, judged, downloads, requestBase, requestLength}
+use Rattle.rules_services.specs.Sdo.{objectOf, sought, Offer, expedited, offerVerdict, abort, judged, download, withReply, downloads, requestBase}
+use Rattle.rules_services.specs.Sdo.{requestLength}
 use Rattle.rules_services.specs.Segments.{unfit, nameAsked, segmentAsked, toggleOf, toggleAt, isLast, carried, downloadBegun, concluded, gathered}
 use Rattle.rules_services.specs.Segments.{turned, joined, acknowledged, continued, segmentSent, objectIn}
 use Rattle.rules_services.specs.SdoServer.{uploads, asked, sdo}
@@ -95,10 +96,10 @@ module _ (s : State) (d : List ℕ) where
   -- ---- SDO
 
   downloads-end : (fs : List Frame) (o : List ℕ) (offer : Row → Offer) (f : Found) → Leaves (downloads fs o offer f (withoutTransfer s) d) NoTransfer
-  unfolding downloads judged abort
+  unfolding downloads download withReply judged abort
   downloads-end fs o offer (found x) = judged-ends (offerVerdict (s .node .nmt) d (offer x))
     where
-      judged-ends : (v : Verdict) → Leaves (judged v fs o (offer x) (withoutTransfer s) d) NoTransfer
+      judged-ends : (v : Verdict) → Leaves (withReply fs o (withoutTransfer s) (judged v (offer x) (withoutTransfer s) d)) NoTransfer
       judged-ends good = applied-leaves _ (withoutTransfer s) d
       judged-ends (bad a) = refl
   downloads-end fs o offer theName = refl

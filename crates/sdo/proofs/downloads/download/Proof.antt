@@ -1,6 +1,6 @@
 -- By what the look-up found. Assumes nothing.
 use borrow.Author.Needs.{needs}
-use Rattle.rules_services.specs.Sdo.{downloads, abort, reply}
+use Rattle.rules_services.specs.Sdo.{download, withReply, downloads, abort, reply}
 use Rattle.sdo.specs.Requests.{isWritten}
 use Rattle.sdo.proofs.Downloading.{looked-up}
 use Rattle.sdo.proofs.downloads.download.Statement.{statement}
@@ -15,7 +15,7 @@ to-entry-requires c κs =
     (s .pre, rw (x .entry .ensures) (looked-up (s .args .t2) (f .before .read2 .ensures) (f .find .ensures) (g .found .given .1)))
 
 the-name : tie.Need-returns-2
-unfolding downloads abort reply isWritten
+unfolding downloads download withReply abort reply isWritten
 the-name c =
     let k = c .before .before .before .before in
     let g = k .before .before .before in
@@ -24,7 +24,7 @@ the-name c =
     rw (looked-up (a .t2) (f .before .read2 .ensures) (f .find .ensures) (g .enum-told .given .1)) (k .abort .ensures (a .d .now))
 
 no-object : tie.Need-returns-3
-unfolding downloads abort reply isWritten
+unfolding downloads download withReply abort reply isWritten
 no-object c =
     let k = c .before .before .before .before in
     let g = k .before .before .before in
@@ -33,7 +33,7 @@ no-object c =
     rw (looked-up (a .t2) (f .before .read2 .ensures) (f .find .ensures) (g .enum-told2 .given .1)) (k .abort2 .ensures (a .d .now))
 
 no-subindex : tie.Need-returns-4
-unfolding downloads abort reply isWritten
+unfolding downloads download withReply abort reply isWritten
 no-subindex c =
     let k = c .before .before .before .before in
     let g = k .before .before .before in
