@@ -23,7 +23,7 @@ use Rattle.theorems.proofs.Dictionary.{isPdo}
 use Rattle.theorems.proofs.Booleans.{clash, whichever}
 use Rattle.theorems.proofs.Lawful.{Lawful}
 use Rattle.theorems.proofs.Settled.{register-in}
-use Rattle.theorems.proofs.Services.{Serves, Releases}
+use Rattle.theorems.proofs.Services.{Serves, OneByOne, follow-lawful}
 use Rattle.rules_dictionary.proofs.Members.{in-append, filtered}
 use Rattle.theorems.proofs.Writes.{InTable, NoPdo, MayApply, defaults-within, one-row}
 use Rattle.theorems.proofs.NmtKept.{position-row, velocity-row, code-row}
@@ -109,13 +109,16 @@ applied-applies t ws s d may =
     }
 
 -- held frames released, one after another
-releases-apply : {s : State} {d : List ℕ} {e : Effect} → Releases s d e → Applies s e
+one-by-one-apply : {K : Type 0} {s : State} {d : List ℕ} {e : Effect} → OneByOne K s d e → K → Lawful s d → Applies s e
 unfolding andThen
-releases-apply Releases.none = record { nmt = refl; paces = refl; rows = λ w i. absurd (none-in i); quiet = inr (λ w i. absurd (none-in i)) }
-releases-apply (Releases.skips rest) = let b = releases-apply rest in record { nmt = b .nmt; paces = b .paces; rows = b .rows; quiet = b .quiet }
-releases-apply {s = s} {d = d} (Releases.next h ws {e} cleared may rest) =
-    let a = applied-applies (s .transfer) ws (withHeld h s) d may in
-    let b = releases-apply rest in
+one-by-one-apply OneByOne.none k law = record { nmt = refl; paces = refl; rows = λ w i. absurd (none-in i); quiet = inr (λ w i. absurd (none-in i)) }
+one-by-one-apply (OneByOne.skips rest) k law =
+    let b = one-by-one-apply rest k law in
+    record { nmt = b .nmt; paces = b .paces; rows = b .rows; quiet = b .quiet }
+one-by-one-apply {s = s} {d = d} (OneByOne.next h ws {e} may rest) k law =
+    let m = may k law in
+    let a = applied-applies (s .transfer) ws (withHeld h s) d (m .may) in
+    let b = one-by-one-apply rest k (follow-lawful m) in
     let first = applied ws (withHeld h s) d .writes in
     let off : isOperational (s .node .nmt) ≡ false → (isOperational (s .node .nmt) ≡ false) ⊎ NoPdo (first ++ e .writes) = λ n. inl n in
     record {
@@ -152,7 +155,7 @@ regular {s = s} {d = d} (Serves.applies t ws before may) k law =
     record { rows = r .rows; paces = r .paces; idle = r .idle }
 regular {s = s} (Serves.holds bs l i on synchronous long legal) k law = unwritten s _ refl (λ on. refl)
 regular (Serves.releases r) k law =
-    let r = applies-regular (releases-apply r) in
+    let r = applies-regular (one-by-one-apply r k law) in
     record { rows = r .rows; paces = r .paces; idle = r .idle }
 regular {s = s} (Serves.starts h idle) k law = unwritten s _ refl (λ on. refl)
 regular {s = s} Serves.leaves k law = unwritten s _ refl (λ on. absurd (false≢true on))

@@ -51,7 +51,7 @@ use Rattle.rules.specs.Calls.{Call, Decision, refused, accepted, answered, answ
 use Rattle.theorems.specs.Promises.{Step, Stand, octets}
 use Rattle.theorems.proofs.Booleans.{by-test, whichever, or-either}
 use Rattle.theorems.proofs.Lawful.{clauses}
-use Rattle.theorems.proofs.Services.{Serves, Releases}
+use Rattle.theorems.proofs.Services.{Serves, OneByOne}
 use Rattle.theorems.proofs.Runs.{Holds, Decides, decides, step-holds}
 use Rattle.form.specs.Form.{half, resting}
 use Rattle.form.specs.Typed.{Many, none, more, SetPointTyped, StoreTyped, DataTyped, AnyPace, MoveTyped, PlanTyped, Typed}
@@ -229,12 +229,12 @@ applied-typed ws s d b t =
     let controlled = control-typed d1 (stored-bytes ws d b) (read d controlWord) (u .axis .drive) moded in
     whichever FitsBy (wrote controlWord ws) (whichever FitsBy (c .reset) controlled controlled) moded
 
-releases-typed : {s : State} {d : List ℕ} {e : Effect} → Releases s d e → areBytes d ≡ true → Fits (s .axis .drive) → FitsBy e
+one-by-one-typed : {K : Type 0} {s : State} {d : List ℕ} {e : Effect} → OneByOne K s d e → areBytes d ≡ true → Fits (s .axis .drive) → FitsBy e
 unfolding andThen
-releases-typed Releases.none b t = t
-releases-typed (Releases.skips rest) b t = releases-typed rest b t
-releases-typed {s = s} {d = d} (Releases.next h ws cleared may rest) b t =
-    releases-typed rest (stored-bytes (applied ws (withHeld h s) d .writes) d b) (applied-typed ws (withHeld h s) d b t)
+one-by-one-typed OneByOne.none b t = t
+one-by-one-typed (OneByOne.skips rest) b t = one-by-one-typed rest b t
+one-by-one-typed {s = s} {d = d} (OneByOne.next h ws may rest) b t =
+    one-by-one-typed rest (stored-bytes (applied ws (withHeld h s) d .writes) d b) (applied-typed ws (withHeld h s) d b t)
 
 served-typed : {K : Type 0} {s : State} {d : List ℕ} {e : Effect} → Serves K s d e → areBytes d ≡ true →
     Fits (s .axis .drive) → FitsBy e
@@ -244,7 +244,7 @@ served-typed (Serves.replies run said) b t = t
 served-typed (Serves.alarms l code) b t = t
 served-typed {s = s} {d = d} (Serves.applies run ws before may) b t = applied-typed ws (withTransfer run s) d b t
 served-typed (Serves.holds bs l i on synchronous long legal) b t = t
-served-typed (Serves.releases r) b t = releases-typed r b t
+served-typed (Serves.releases r) b t = one-by-one-typed r b t
 served-typed (Serves.starts h idle) b t = t
 served-typed Serves.leaves b t = t
 served-typed {s = s} Serves.stops b t = enters-typed _ (s .axis .drive) t

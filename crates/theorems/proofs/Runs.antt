@@ -17,7 +17,7 @@ use Rattle.theorems.proofs.NmtKept.{LawfulAfter, fresh-lawful, start-la
 use Rattle.theorems.proofs.NmtKept.{display-row, ArgumentsFit, enters-lawful, gone-lawful, fault-lawful, plain-lawful, position-row}
 use Rattle.theorems.proofs.NmtKept.{velocity-row}
 use Rattle.theorems.proofs.{Dictionary.to-test, DriveKept.reached-sound, Writes.stored-append, Writes.applied-lawful, PdoKept.held-lawful}
-use Rattle.theorems.proofs.{PdoKept.new-held, Services.Serves, Services.Releases, Services.framed-serves, Services.event-serves}
+use Rattle.theorems.proofs.{PdoKept.new-held, Services.Serves, Services.OneByOne, Services.follow-lawful, Services.framed-serves, Services.event-serves}
 use Rattle.drive.specs.SetPoints.{movedOn}
 use Rattle.rules_services.specs.{Effects.Effect, Effects.andThen, Effects.withHeld, Effects.withTransfer, Written.applied, Nmt.commanded}
 use Rattle.rules_services.specs.{Nmt.voltageDisabled, declared.Event.the-variants.Fault, Events.eventOf, Events.provided}
@@ -107,12 +107,12 @@ ended-holds s d e l b law runs =
 
 -- ---- every service leaves a lawful state
 
-releases-lawful : {s : State} {d : List ℕ} {e : Effect} → Releases s d e → Lawful s d → LawfulAfter d e
+one-by-one-lawful : {K : Type 0} {s : State} {d : List ℕ} {e : Effect} → OneByOne K s d e → K → Lawful s d → LawfulAfter d e
 unfolding andThen stored
-releases-lawful Releases.none law = law
-releases-lawful (Releases.skips rest) law = releases-lawful rest law
-releases-lawful {s = s} {d = d} (Releases.next h ws {e} cleared may rest) law =
-    rw (stored-append (applied ws (withHeld h s) d .writes) (e .writes) d) (releases-lawful rest (applied-lawful (withHeld h s) d ws cleared may))
+one-by-one-lawful OneByOne.none k law = law
+one-by-one-lawful (OneByOne.skips rest) k law = one-by-one-lawful rest k law
+one-by-one-lawful {s = s} {d = d} (OneByOne.next h ws {e} may rest) k law =
+    rw (stored-append (applied ws (withHeld h s) d .writes) (e .writes) d) (one-by-one-lawful rest k (follow-lawful (may k law)))
 
 pub lawful : {K : Type 0} {s : State} {d : List ℕ} {e : Effect} → Serves K s d e → K → areBytes d ≡ true → Lawful s d → LawfulAfter d e
 unfolding stored heartbeatSound commanded movedOn
@@ -124,7 +124,7 @@ lawful {s = s} {d = d} (Serves.applies t ws before may) k b law =
     applied-lawful (withTransfer t s) d ws (transfer-lawful t law) (record { fit = m .fit; quiet = m .quiet; ok = m .ok })
 lawful {s = s} {d = d} (Serves.holds bs l i on synchronous long legal) k b law =
     held-lawful s d _ law i (new-held (s .node .id) d bs (s .node .nmt) (law .dictionary) i on synchronous long legal)
-lawful (Serves.releases r) k b law = releases-lawful r law
+lawful (Serves.releases r) k b law = one-by-one-lawful r k law
 lawful {s = s} {d = d} (Serves.starts h idle) k b law = start-lawful s d (law .long) h idle
 lawful {s = s} {d = d} Serves.leaves k b law = left-lawful s d PreOperational law
 lawful {s = s} {d = d} Serves.stops k b law =

@@ -7,7 +7,7 @@ use Rattle.theorems.proofs.Words.{PdoData, DriveState, Drive, Command, 
 use Rattle.theorems.proofs.Words.{there, and-both, and-left, and-right, all-drop, part-bytes, all-take, store-bytes, stored-bytes}
 use Rattle.theorems.proofs.Words.{length-store, length-stored, bytes-are, read-fits, within, isStopped, all-both, either, by-match, clash}
 use Rattle.theorems.proofs.Words.{implied, not-true, by-test, whichever, on-ways, length-padded, eqb, all-in, none-in}
-use Rattle.theorems.proofs.Services.{Serves, Releases, Replied, Before, longer}
+use Rattle.theorems.proofs.Services.{Serves, OneByOne, Replied, Before, longer}
 use Rattle.theorems.proofs.Receipts.{IsObject}
 use Rattle.theorems.proofs.Lawful.{finally}
 use Rattle.theorems.proofs.DriveKept.{emptied-same, rule-same}
@@ -309,17 +309,17 @@ calm-then s t u fs gs a b =
       once = elim (a .once) [ inl q ↦ elim (b .once) [ inl r ↦ inl (ap₂ _++_ q r) | inr r ↦ inr r ] | inr q ↦ inr (b .quiet q .1) ];
     }
 
-releases-calm : {s : State} {d : List ℕ} {e : Effect} → Releases s d e → areBytes d ≡ true → length d ≡ dictionaryLength →
+one-by-one-calm : {K : Type 0} {s : State} {d : List ℕ} {e : Effect} → OneByOne K s d e → areBytes d ≡ true → length d ≡ dictionaryLength →
     Calm s (e .sent) (e .state)
 unfolding andThen
-releases-calm {s = s} Releases.none b l = calm-silent s s refl (λ h. h)
-releases-calm (Releases.skips rest) b l = releases-calm rest b l
-releases-calm {s = s} {d = d} (Releases.next h ws {e} cleared may rest) b l =
+one-by-one-calm {s = s} OneByOne.none b l = calm-silent s s refl (λ h. h)
+one-by-one-calm (OneByOne.skips rest) b l = one-by-one-calm rest b l
+one-by-one-calm {s = s} {d = d} (OneByOne.next h ws {e} may rest) b l =
     let a = applied ws (withHeld h s) d in
     let c = applied-calm ws (withHeld h s) d b l in
     calm-then s (a .state) (e .state) (a .sent) (e .sent)
     (record { alarms = c .alarms; coded = c .coded; id = c .id; quiet = c .quiet; once = c .once })
-    (releases-calm rest (stored-bytes (a .writes) d b) (length-stored (a .writes) d ∙ l))
+    (one-by-one-calm rest (stored-bytes (a .writes) d b) (length-stored (a .writes) d ∙ l))
 
 -- ---- what each service says
 
@@ -356,7 +356,7 @@ module _ {K : Type 0} {s : State} {d : List ℕ} (k : K) (b : areBytes d ≡ tru
       (c .id, behind before (applied ws (withTransfer t s) d .sent) (c .alarms) (c .coded))
   speaks (Serves.holds bs w i on synchronous long legal) = (refl, behind (Before.warned w) [] (none-on (emergencyBase + s .node .id) 1) refl)
   speaks (Serves.releases {e} r) =
-      let c = releases-calm r b l in
+      let c = one-by-one-calm r b l in
       (c .id, alone (s .node .id) (e .sent) (c .alarms))
   speaks (Serves.starts h idle) = (refl, silent (s .node .id))
   speaks Serves.leaves = (refl, silent (s .node .id))

@@ -8,7 +8,7 @@ use Rattle.theorems.proofs.Words.{length-drop, drop, drop-drop, DriveSt
 use Rattle.theorems.proofs.Words.{here, there, Happened, Started, QuickStopDone, ReactionDone, SetPointReached, Tick, CauseGone, Feedback}
 use Rattle.theorems.proofs.Words.{Voltage, within, same-or-apart, apart, same-self, length-store, read-same, read-apart, and-left, and-right}
 use Rattle.theorems.proofs.Words.{all-in, by-test, whichever, either, clash, implied, Event}
-use Rattle.theorems.proofs.Services.{Serves, Releases, applied-all}
+use Rattle.theorems.proofs.Services.{Serves, OneByOne, follow-lawful, applied-all}
 use Rattle.theorems.proofs.Runs.{Holds, Known, Decides, decides, step-holds, begun-holds, run-holds, power-up-decided}
 use Rattle.theorems.proofs.Decisions.{Decided, decided-by}
 use Rattle.theorems.proofs.Settled.{control-in, register-in}
@@ -221,16 +221,17 @@ applied-passes ws s d l fit =
     whichever Q (wrote controlWord ws) (whichever Q (c .reset) (controlled _) (controlled []))
     (onward moded (stays {n = 0}) (omega arith) (omega arith))
 
-releases-pass : {s : State} {d : List ℕ} {e : Effect} → Releases s d e → PassesBy s d e
+one-by-one-pass : {K : Type 0} {s : State} {d : List ℕ} {e : Effect} → OneByOne K s d e → K → Lawful s d → PassesBy s d e
 unfolding andThen
-releases-pass Releases.none = stays
-releases-pass (Releases.skips rest) = releases-pass rest
-releases-pass {s = s} {d = d} (Releases.next q ws {e} cleared may rest) =
+one-by-one-pass OneByOne.none k law = stays
+one-by-one-pass (OneByOne.skips rest) k law = one-by-one-pass rest k law
+one-by-one-pass {s = s} {d = d} (OneByOne.next q ws {e} may rest) k law =
     let a = applied ws (withHeld q s) d in
+    let m = may k law in
     let fitting =
-    applied-all (λ w. In (w .row) table × (w .value < 256 ^ sizeOf (w .row))) ws (withHeld q s) d (may .fit) (λ e. (register-in, omega arith)) in
-    onward (applied-passes ws (withHeld q s) d (cleared .long) (may .fit)) (releases-pass rest)
-    (omega (arith, edges-both (a .writes) (e .writes) d (cleared .long) fitting)) (omega arith)
+    applied-all (λ w. In (w .row) table × (w .value < 256 ^ sizeOf (w .row))) ws (withHeld q s) d (m .may .fit) (λ e. (register-in, omega arith)) in
+    onward (applied-passes ws (withHeld q s) d (law .long) (m .may .fit)) (one-by-one-pass rest k (follow-lawful m))
+    (omega (arith, edges-both (a .writes) (e .writes) d (law .long) fitting)) (omega arith)
 
 -- every service
 passes : {K : Type 0} {s : State} {d : List ℕ} {e : Effect} → Serves K s d e → K → Lawful s d → PassesBy s d e
@@ -240,7 +241,7 @@ passes (Serves.replies t said) k law = stays
 passes (Serves.alarms l code) k law = stays
 passes {s = s} {d = d} (Serves.applies t ws before may) k law = applied-passes ws (withTransfer t s) d (law .long) (may k law .fit)
 passes (Serves.holds bs l i on synchronous long legal) k law = stays
-passes (Serves.releases r) k law = releases-pass r
+passes (Serves.releases r) k law = one-by-one-pass r k law
 passes (Serves.starts q idle) k law = stays
 passes Serves.leaves k law = stays
 passes {s = s} Serves.stops k law = enters-passes _ (s .axis .drive)

@@ -5,7 +5,7 @@ use Rattle.theorems.proofs.Words.{ℕ, zero, suc, _+_, _<_, _≤_, arit
 use Rattle.theorems.proofs.Words.{_&&_, _||_, false≢true, List, [], _∷_, leb, ltb, eqb-true, ne-eqb, leb-true, Mode, NoMode, ProfilePosition}
 use Rattle.theorems.proofs.Words.{ProfileVelocity, DriveState, SetPoint, Store, Empty, Rested, Moving, Queued, Drive, State, and-left}
 use Rattle.theorems.proofs.Words.{and-right, by-test, whichever, either, implied, on-states, both-by-test, leb-false, or-false}
-use Rattle.theorems.proofs.Services.{Serves, Releases}
+use Rattle.theorems.proofs.Services.{Serves, OneByOne}
 use Rattle.theorems.proofs.Runs.{Holds, Decides, decides, standing, step-holds, begun-holds, power-up-decided}
 use Rattle.theorems.proofs.Decisions.{decided-by}
 use Rattle.theorems.proofs.Occasions.{TicksOnly, ticks-only}
@@ -145,11 +145,11 @@ applied-follows ws s d =
     let controlled = onward moded (control-follows d1 (read d controlWord) (t .axis .drive)) in
     whichever (FollowsAs s) (wrote controlWord ws) (whichever (FollowsAs s) (c .reset) controlled controlled) moded
 
-releases-follow : {s : State} {d : List ℕ} {e : Effect} → Releases s d e → FollowsAs s e
+one-by-one-follow : {K : Type 0} {s : State} {d : List ℕ} {e : Effect} → OneByOne K s d e → FollowsAs s e
 unfolding andThen
-releases-follow Releases.none = stays
-releases-follow (Releases.skips rest) = releases-follow rest
-releases-follow {s = s} {d = d} (Releases.next h ws cleared may rest) = onward (applied-follows ws (withHeld h s) d) (releases-follow rest)
+one-by-one-follow OneByOne.none = stays
+one-by-one-follow (OneByOne.skips rest) = one-by-one-follow rest
+one-by-one-follow {s = s} {d = d} (OneByOne.next h ws may rest) = onward (applied-follows ws (withHeld h s) d) (one-by-one-follow rest)
 
 follows : {K : Type 0} {s : State} {d : List ℕ} {e : Effect} → Serves K s d e → FollowsAs s e
 unfolding commanded powerUp freshState voltageDisabled left faulted
@@ -158,7 +158,7 @@ follows (Serves.replies t said) = stays
 follows (Serves.alarms l code) = stays
 follows {s = s} {d = d} (Serves.applies t ws before may) = applied-follows ws (withTransfer t s) d
 follows (Serves.holds bs l i on synchronous long legal) = stays
-follows (Serves.releases r) = releases-follow r
+follows (Serves.releases r) = one-by-one-follow r
 follows (Serves.starts q idle) = stays
 follows Serves.leaves = stays
 follows {s = s} Serves.stops = enters-follows _ (s .axis .drive)
