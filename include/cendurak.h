@@ -1,9 +1,9 @@
 /*
  * Cendurak: the bus side of a servo amplifier, one CANopen node (CiA 301, CiA 402).
  *
- * Three calls work on three buffers that the caller owns: the node's state, its object dictionary, and the output. Each call answers on
- * every input: whatever lies in the buffers, and whatever their lengths are, it returns, and a refused call leaves every byte of all three
- * as it was.
+ * Three calls work on three buffers that the caller owns: the node's state, its object dictionary, and the output. A fourth, the load of a
+ * file, works on the first two. Each call answers on every input: whatever lies in the buffers, and whatever their lengths are, it returns,
+ * and a refused call leaves every byte of all of them as it was.
  *
  * What a caller owes: a pointer and a length that belong together (a null pointer with length 0 is fine), and buffers that do not overlap.
  * Nothing else: no order of calls, no cleared buffers, no alignment.
@@ -75,7 +75,14 @@ enum cendurak_refusal_number {
     CENDURAK_NOT_SOUND = 4,     /* state bytes that are no state, or state and dictionary not sound */
     CENDURAK_BAD_FRAME = 5,     /* an identifier over 7FFh, or more than eight data bytes */
     CENDURAK_BAD_EVENT = 6,     /* an unknown event, a wrong argument size, a voltage flag not 0 or 1, fault code 0 */
-    CENDURAK_OUT_OF_PLACE = 7   /* an event that cannot happen now */
+    CENDURAK_OUT_OF_PLACE = 7,  /* an event that cannot happen now */
+    /* 8 is the bench program's. Of a load: */
+    CENDURAK_WRONG_STATE = 9,         /* not in Pre-operational, or the drive neither Not ready nor Switch on disabled */
+    CENDURAK_FILE_TOO_SHORT = 10,     /* a file of under four bytes */
+    CENDURAK_TOO_MANY_ENTRIES = 11,   /* a count over 512 */
+    CENDURAK_FILE_MISFIT = 12,        /* a file cut short, or with bytes left over behind its last entry */
+    CENDURAK_CONTROL_WORD_ENTRY = 13, /* an entry for 6040h, whatever its subindex */
+    CENDURAK_ENTRY_ABORTED = 14       /* an entry that SDO would abort: the answer tells which one, and the abort code */
 };
 
 /* The events, with their arguments, little-endian. */
@@ -92,7 +99,7 @@ enum cendurak_event_number {
 };
 
 /*
- * The calls. Each returns the refusal times 256 plus the number of frames that now stand in the output: take it apart with
+ * The calls. Each but the load returns the refusal times 256 plus the number of frames that now stand in the output: take it apart with
  * cendurak_refusal and cendurak_frames.
  */
 
@@ -107,6 +114,23 @@ uint32_t cendurak_frame(uint8_t *state, uint64_t state_len, uint8_t *dict, uint6
 uint32_t cendurak_event(uint8_t *state, uint64_t state_len, uint8_t *dict, uint64_t dict_len, uint8_t *out, uint64_t out_len,
                         uint32_t number, const uint8_t *args, uint64_t args_len);
 
+/*
+ * Loads a configuration: a concise DCF (CiA 302), which is a count (4), and for each entry index (2), subindex (1), size (4) and data, all
+ * little-endian. tools/dcf writes such files, reads and tries them.
+ *
+ * When: in Pre-operational, with the drive Not ready or Switch on disabled, so best right behind power-up, and again behind each boot-up that
+ * the node sends, since a reset by NMT takes the objects back to their defaults.
+ *
+ * What it does: the entries in order, each as an expedited SDO download of its bytes, which sees what those before it wrote. All of them or
+ * nothing: where one is refused, state and dictionary keep every byte. It sends no frame, and a running SDO transfer goes on. A file of no
+ * entries is accepted and changes nothing.
+ *
+ * It returns the refusal times 2^48, plus the number of the entry that failed times 2^32, plus its abort code: take it apart with
+ * cendurak_load_refusal, cendurak_load_entry and cendurak_load_abort_code. It can be 1, 4, or 9 to 14; 9 to 13 are found before any entry is
+ * tried. The file is only read.
+ */
+uint64_t cendurak_load(uint8_t *state, uint64_t state_len, uint8_t *dict, uint64_t dict_len, const uint8_t *file, uint64_t file_len);
+
 /* The refusal in an answer; 0 is none. */
 static inline uint32_t cendurak_refusal(uint32_t answer)
 {
@@ -117,6 +141,23 @@ static inline uint32_t cendurak_refusal(uint32_t answer)
 static inline uint32_t cendurak_frames(uint32_t answer)
 {
     return answer % 256u;
+}
+
+/* The refusal in the answer of a load; 0 is none. */
+static inline uint32_t cendurak_load_refusal(uint64_t answer)
+{
+    return (uint32_t)(answer >> 48);
+}
+
+/* With CENDURAK_ENTRY_ABORTED the number of the entry that failed, from 1, and its SDO abort code; with every other answer both are 0. */
+static inline uint32_t cendurak_load_entry(uint64_t answer)
+{
+    return (uint32_t)(answer >> 32) & 0xFFFFu;
+}
+
+static inline uint32_t cendurak_load_abort_code(uint64_t answer)
+{
+    return (uint32_t)answer;
 }
 
 /* Two bytes, low byte first; four bytes; and four bytes as a signed value. */

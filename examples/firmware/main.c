@@ -6,6 +6,7 @@
  */
 #include <stdio.h>
 
+#include "configuration.h"
 #include "master.h"
 #include "motor.h"
 #include "node.h"
@@ -40,13 +41,22 @@ static void log_refusal(uint32_t refusal, const char *call, uint32_t number)
     printf("%7u ms  node    refusal %u of %s %u\n", world.now, refusal, call, number);
 }
 
+static void log_load(uint32_t refusal, uint32_t entry, uint32_t abort_code)
+{
+    if (refusal == CENDURAK_ACCEPTED)
+        printf("%7u ms  node    configuration loaded\n", world.now);
+    else
+        printf("%7u ms  node    configuration refused with %u: entry %u, abort code %08X; the defaults stay\n", world.now, refusal, entry,
+               abort_code);
+}
+
 static void stop_safely(void)
 {
     printf("%7u ms  node    safe stop: output stage off at position %d, velocity %d\n", world.now, motor_position(&world.motor),
            motor_velocity(&world.motor));
 }
 
-static const struct node_hooks hooks = {.refused = log_refusal, .stop_safely = stop_safely};
+static const struct node_hooks hooks = {.refused = log_refusal, .loaded = log_load, .stop_safely = stop_safely};
 
 static void log_drive(void)
 {
@@ -167,16 +177,24 @@ static void print_counts(void)
     printf("%u checks held, %u failed\n", world.master.held, world.master.failed);
 }
 
+/* What the amplifier finds in its flash. */
+static struct node_file stored_file(bool has_swapped_limits)
+{
+    const struct node_file right = {configuration, configuration_length}, wrong = {swapped, swapped_length};
+
+    return has_swapped_limits ? wrong : right;
+}
+
 int main(int argc, char **argv)
 {
     const char *name = argc > 1 ? argv[1] : "moves";
 
     world.master.script = script_named(name);
     if (world.master.script == 0) {
-        printf("no script '%s': moves, flood, damage, stall, jam\n", name);
+        printf("no script '%s': moves, flood, damage, stall, swapped, jam\n", name);
         return 2;
     }
-    node_init(&world.node, &hooks);
+    node_init(&world.node, &hooks, stored_file(world.master.script->has_swapped_limits));
     node_power_up(&world.node, NODE_ID);
     while (master_run(&world.master, world.now) && world.now < LONGEST_RUN) {
         carry_out(world.master.trouble);

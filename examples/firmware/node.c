@@ -8,7 +8,10 @@
 
 enum { CONTROL_HALT = 0x0100 };
 
-/* ---- the three calls, and what becomes of an answer */
+/* The boot-up frame: a heartbeat with 0. No PDO can have an identifier of this service. */
+enum { HEARTBEAT = 0x700, SERVICE_BITS = 0x780 };
+
+/* ---- the calls, and what becomes of an answer */
 
 /* Hands the frames of an answer to the transmit interrupt. A full queue loses them, counted; only those of events, see take_frames. */
 static void send_frames(struct node *node, uint32_t count)
@@ -24,21 +27,50 @@ static void send_frames(struct node *node, uint32_t count)
  * A refusal is counted and logged, and has changed nothing. Only one of them ends the service: NOT_SOUND says that the buffers are no longer
  * what the node left in them (a wild pointer, a flipped bit). What the drive was told is then unknown, so the output stage goes off.
  */
-static bool take_answer(struct node *node, uint32_t answer, const char *call, uint32_t number)
+static void count_refusal(struct node *node, uint32_t refusal)
 {
-    uint32_t refusal = cendurak_refusal(answer);
-
     node->refused[refusal]++;
-    if (refusal == CENDURAK_ACCEPTED) {
-        send_frames(node, cendurak_frames(answer));
-        return true;
-    }
-    node->hooks->refused(refusal, call, number);
     if (refusal == CENDURAK_NOT_SOUND) {
         node->is_stopped = true;
         node->hooks->stop_safely();
     }
+}
+
+/* All of the file or nothing: where it is refused the node goes on with its defaults. No frame comes of it. */
+static void load_configuration(struct node *node)
+{
+    const struct node_file *file = &node->configuration;
+    uint64_t answer;
+
+    if (file->length == 0)
+        return;
+    answer = cendurak_load(node->state, sizeof node->state, node->dict, sizeof node->dict, file->bytes, file->length);
+    node->hooks->loaded(cendurak_load_refusal(answer), cendurak_load_entry(answer), cendurak_load_abort_code(answer));
+    count_refusal(node, cendurak_load_refusal(answer));
+}
+
+/* Whether the node boots up with this answer: at power-up, or because it was reset over the bus. Its objects then have their defaults. */
+static bool has_boot_up(const struct node *node, uint32_t count)
+{
+    for (uint32_t i = 0; i < count; i++)
+        if ((cendurak_identifier(node->out, i) & SERVICE_BITS) == HEARTBEAT && cendurak_data(node->out, i)[0] == 0)
+            return true;
     return false;
+}
+
+static bool take_answer(struct node *node, uint32_t answer, const char *call, uint32_t number)
+{
+    uint32_t refusal = cendurak_refusal(answer);
+
+    if (refusal != CENDURAK_ACCEPTED)
+        node->hooks->refused(refusal, call, number);
+    count_refusal(node, refusal);
+    if (refusal != CENDURAK_ACCEPTED)
+        return false;
+    send_frames(node, cendurak_frames(answer));
+    if (has_boot_up(node, cendurak_frames(answer)))
+        load_configuration(node);
+    return true;
 }
 
 static void tell(struct node *node, uint32_t event, const uint8_t *args, uint64_t length)
@@ -69,9 +101,10 @@ bool node_power_up(struct node *node, uint8_t node_id)
     return take_answer(node, answer, "power-up", node_id);
 }
 
-void node_init(struct node *node, const struct node_hooks *hooks)
+void node_init(struct node *node, const struct node_hooks *hooks, struct node_file configuration)
 {
     node->hooks = hooks;
+    node->configuration = configuration;
     node->is_stopped = true;
 }
 

@@ -1,5 +1,5 @@
 /*
- * The glue between an amplifier's firmware and the node's three calls. It is made to be lifted into a product as it stands: it needs
+ * The glue between an amplifier's firmware and the node's four calls. It is made to be lifted into a product as it stands: it needs
  * cendurak.h, frame_queue.h and nothing of the simulation.
  *
  * Contexts. The main loop owns the node's buffers and makes every call. Interrupts touch the two queues, the tick count and the trip only,
@@ -15,8 +15,8 @@
 #include "cendurak.h"
 #include "frame_queue.h"
 
-/* The refusals are 0 (none) to 7. */
-enum { NODE_REFUSALS = 8 };
+/* The refusals are 0 (none) to 14. */
+enum { NODE_REFUSALS = CENDURAK_ENTRY_ABORTED + 1 };
 
 /* Error codes and register bits that the glue itself reports (CiA 301). */
 enum {
@@ -50,10 +50,17 @@ struct axis_command {
     uint32_t velocity, acceleration, deceleration;
 };
 
-/* What a product does when a call was refused. Both run in the main loop. */
+/* What a product does when a call was refused, and when the configuration was loaded. All run in the main loop. */
 struct node_hooks {
     void (*refused)(uint32_t refusal, const char *call, uint32_t number); /* to the log: `number` is the identifier, event or node-ID */
+    void (*loaded)(uint32_t refusal, uint32_t entry, uint32_t abort_code); /* refusal 0: it is loaded; else the node keeps its defaults */
     void (*stop_safely)(void);                                            /* the output stage off, now */
+};
+
+/* A concise DCF; a length of 0 is none. */
+struct node_file {
+    const uint8_t *bytes;
+    uint64_t length;
 };
 
 struct node {
@@ -66,15 +73,16 @@ struct node {
     uint32_t refused[NODE_REFUSALS]; /* calls by refusal; [0] counts the accepted ones */
     bool is_stopped;                 /* the node's buffers are not sound: no call until the next power-up */
     const struct node_hooks *hooks;
+    struct node_file configuration; /* loaded whenever the node boots up */
 };
 
 /* ---- before the interrupts are switched on; the node is to be all zero */
 
-void node_init(struct node *node, const struct node_hooks *hooks);
+void node_init(struct node *node, const struct node_hooks *hooks, struct node_file configuration);
 
 /* ---- main loop */
 
-/* At power-up, and to come back from a safe stop. False: refused, the node-ID is not 1 to 127, and the node stays stopped. */
+/* At power-up, and to come back from a safe stop. The configuration is loaded before any frame is taken. False: refused, the node-ID is not 1 to 127, and the node stays stopped. */
 bool node_power_up(struct node *node, uint8_t node_id);
 
 /* One pass: faults first, then what changed in the last millisecond, then the received frames. */

@@ -29,7 +29,7 @@ enum { SOON = 50, A_WHILE = 4000 };
 #define END {.kind = STEP_END}
 
 /* NMT commands, and the states that a heartbeat tells. */
-enum { START = 0x01, RESET_NODE = 0x81, IN_OPERATIONAL = 0x05, IN_PRE_OPERATIONAL = 0x7F };
+enum { START = 0x01, RESET_NODE = 0x81, RESET_COMMUNICATION = 0x82, IN_OPERATIONAL = 0x05, IN_PRE_OPERATIONAL = 0x7F };
 
 /* Control words. */
 enum {
@@ -71,25 +71,43 @@ enum { NOT_COMPATIBLE = 0x06040043, VALUE_INVALID = 0x06090030, NOT_NOW = 0x0800
 
 /* ---- parts */
 
-/* Power-up, what are you, limits (first the wrong way round, which is refused) and ramps, transmit PDO 3 on SYNC, transmit PDO 4 with position and
- * velocity on SYNC; and, until the first heartbeat comes, what is your name. */
+/* What are you, and have you loaded your configuration? What is written is judged as before: limits the wrong way round, a mode, the mapping of a
+ * valid PDO are refused. And, until the first heartbeat comes, what is your name. */
 static const struct step commission[] = {
     BOOT_UP,
     READ(0x1000, 0, 0x00020192),
-    WRITE(0x1017, 0, 2, 100),
-    WRITE(0x6060, 0, 1, 1),
+    READ(0x1017, 0, 100),
+    READ(0x607D, 1, (uint32_t)-20000),
+    READ(0x607D, 2, 20000),
+    READ(0x6061, 0, 1),
+    READ(0x1803, 1, 0x40000485),
+    READ(0x1A03, 0, 2),
+    READ(0x1A03, 1, 0x60640020),
     REFUSED(0x6060, 0, 1, 7, VALUE_INVALID),
-    WRITE(0x6067, 0, 4, 5),
-    WRITE(0x6068, 0, 2, 20),
     WRITE(0x607D, 1, 4, 20000),
     REFUSED(0x607D, 2, 4, (uint32_t)-20000, NOT_COMPATIBLE),
+    WRITE(0x607D, 1, 4, (uint32_t)-20000),
+    REFUSED(0x1A03, 0, 1, 0, NOT_NOW),
+    END,
+};
+
+/* The node refused its file, and has its defaults. The master writes the settings itself: window, limits and ramps, transmit PDO 3 on SYNC, transmit
+ * PDO 4 with position and velocity on SYNC. */
+static const struct step commission_by_sdo[] = {
+    BOOT_UP,
+    READ(0x1017, 0, 0),
+    READ(0x607D, 1, 0x80000000),
+    READ(0x6061, 0, 0),
+    WRITE(0x1017, 0, 2, 100),
+    WRITE(0x6060, 0, 1, 1),
+    WRITE(0x6067, 0, 4, 5),
+    WRITE(0x6068, 0, 2, 20),
     WRITE(0x607D, 1, 4, (uint32_t)-20000),
     WRITE(0x607D, 2, 4, 20000),
     WRITE(0x6081, 0, 4, 10000),
     WRITE(0x6083, 0, 4, 50000),
     WRITE(0x6084, 0, 4, 40000),
     WRITE(0x1802, 2, 1, 1),
-    REFUSED(0x1A03, 0, 1, 0, NOT_NOW),
     WRITE(0x1803, 1, 4, 0xC0000485),
     WRITE(0x1803, 2, 1, 1),
     WRITE(0x1A03, 0, 1, 0),
@@ -97,6 +115,10 @@ static const struct step commission[] = {
     WRITE(0x1A03, 2, 4, 0x606C0020),
     WRITE(0x1A03, 0, 1, 2),
     WRITE(0x1803, 1, 4, 0x40000485),
+    END,
+};
+
+static const struct step start[] = {
     TEXT(0x1008, 0, "Cendurak servo node"),
     HEARTBEAT(IN_PRE_OPERATIONAL),
     NMT(START),
@@ -201,15 +223,20 @@ static const struct step home[] = {
     END,
 };
 
-/* The node forgets voltage and self-test in a reset; the glue tells them again. */
+/* The node forgets voltage, self-test and configuration in a reset, and in one of communication its PDOs; the glue tells them again, and loads the
+ * configuration again. */
 static const struct step reset[] = {
     CONTROL(DISABLE_VOLTAGE),
     STATUS(STATE_BITS, SWITCH_ON_DISABLED),
     SYNC_EVERY(0),
     NMT(RESET_NODE),
     BOOT_UP,
+    READ(0x607D, 2, 20000),
     WAIT(2),
     READ(0x6041, 0, 0x0250),
+    NMT(RESET_COMMUNICATION),
+    BOOT_UP,
+    READ(0x1A03, 1, 0x60640020),
     END,
 };
 
@@ -262,6 +289,11 @@ static const struct step stall[] = {
     END,
 };
 
+static const struct step one_move[] = {
+    MOVED(NEW_SET_POINT, 5000, 5000),
+    END,
+};
+
 /* The axis does not get there, and the master must say so. */
 static const struct step jam[] = {
     PLANT(TROUBLE_JAM),
@@ -271,18 +303,21 @@ static const struct step jam[] = {
 
 /* ---- scripts */
 
-static const struct step *const moves_parts[] = {commission, enable, positions, glide, velocities, quick_stop, enable, fault, enable, home, reset, 0};
-static const struct step *const flood_parts[] = {commission, enable, flood, enable, home, 0};
-static const struct step *const damage_parts[] = {commission, enable, damage, 0};
-static const struct step *const stall_parts[] = {commission, enable, stall, 0};
-static const struct step *const jam_parts[] = {commission, enable, jam, 0};
+static const struct step *const moves_parts[] = {
+    commission, start, enable, positions, glide, velocities, quick_stop, enable, fault, enable, home, reset, 0};
+static const struct step *const flood_parts[] = {commission, start, enable, flood, enable, home, 0};
+static const struct step *const damage_parts[] = {commission, start, enable, damage, 0};
+static const struct step *const stall_parts[] = {commission, start, enable, stall, 0};
+static const struct step *const swapped_parts[] = {commission_by_sdo, start, enable, one_move, 0};
+static const struct step *const jam_parts[] = {commission, start, enable, jam, 0};
 
 static const struct script scripts[] = {
-    {"moves", moves_parts},
-    {"flood", flood_parts},
-    {"damage", damage_parts},
-    {"stall", stall_parts},
-    {"jam", jam_parts},
+    {.name = "moves", .parts = moves_parts},
+    {.name = "flood", .parts = flood_parts},
+    {.name = "damage", .parts = damage_parts},
+    {.name = "stall", .parts = stall_parts},
+    {.name = "swapped", .parts = swapped_parts, .has_swapped_limits = true},
+    {.name = "jam", .parts = jam_parts},
 };
 
 const struct script *script_named(const char *name)

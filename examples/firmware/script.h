@@ -2,6 +2,7 @@
 #ifndef SCRIPT_H
 #define SCRIPT_H
 
+#include <stdbool.h>
 #include <stdint.h>
 
 enum step_kind {
@@ -54,6 +55,7 @@ struct step {
 struct script {
     const char *name;
     const struct step *const *parts;
+    bool has_swapped_limits; /* the amplifier has the file in its flash that the node refuses */
 };
 
 /* The script of that name; 0 where there is none. */

@@ -182,6 +182,26 @@ static void window_time(void)
     check(cendurak_stay(state) == 0, "no ticks inside in another mode");
 }
 
+/* ---- the answer of a load */
+
+static void load_answers(void)
+{
+    /* two entries: 6060h in one byte, 1 and 7 */
+    static const uint8_t file[] = {2, 0, 0, 0, 0x60, 0x60, 0, 1, 0, 0, 0, 1, 0x60, 0x60, 0, 1, 0, 0, 0, 7};
+    const uint64_t ones = 0xFFFFFFFFFFFFFFFF, parts = 0x1234567890ABCDEF;
+    uint64_t answer;
+
+    power_up();
+    answer = cendurak_load(state, sizeof state, dict, sizeof dict, file, sizeof file);
+    check(cendurak_load_refusal(answer) == CENDURAK_ENTRY_ABORTED && cendurak_load_entry(answer) == 2
+              && cendurak_load_abort_code(answer) == 0x06090030,
+          "a load that is refused");
+    check(cendurak_load_refusal(parts) == 0x1234 && cendurak_load_entry(parts) == 0x5678 && cendurak_load_abort_code(parts) == 0x90ABCDEF,
+          "the parts of a load's answer");
+    check(cendurak_load_refusal(ones) == 0xFFFF && cendurak_load_entry(ones) == 0xFFFF && cendurak_load_abort_code(ones) == 0xFFFFFFFF,
+          "the parts at their greatest");
+}
+
 /* ---- random calls: the accessors agree with the status word, and event 6 is in place just where a set-point waits */
 
 static uint64_t seed = 1;
@@ -237,6 +257,7 @@ int main(void)
     objects();
     set_points();
     window_time();
+    load_answers();
     random_calls();
     printf("%u passed, %u failed\n", passed, failed);
     return failed != 0;

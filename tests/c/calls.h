@@ -31,4 +31,10 @@ static inline void event(uint32_t number, const uint8_t *args, uint32_t length)
     answer = cendurak_event(state, CENDURAK_STATE_LEN, dict, CENDURAK_DICT_LEN, out, CENDURAK_OUT_LEN, number, args, length);
 }
 
+/* It sends no frame: of its answer the refusal is kept as those of the others are. */
+static inline void load(const uint8_t *file, uint32_t length)
+{
+    answer = 256 * cendurak_load_refusal(cendurak_load(state, CENDURAK_STATE_LEN, dict, CENDURAK_DICT_LEN, file, length));
+}
+
 #endif

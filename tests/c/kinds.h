@@ -160,6 +160,46 @@ static inline void last_download_segment(uint32_t i)
     frame(0x605, request, 8);
 }
 
+/* A configuration: heartbeat, window and its time, both limits, velocity, ramps, mode, target velocity; ten entries, so many times over. Two loads
+ * of it that follow each other differ in the last value. */
+enum { MOST_TENS = 10 };
+
+static inline void load_tens_of_entries(uint32_t tens, uint32_t i)
+{
+    static const uint8_t ten[] = {0x17, 0x10, 0, 2, 0, 0, 0, 0xF4, 0x01, 0x67, 0x60, 0, 4, 0, 0, 0, 50, 0, 0, 0,
+                                  0x68, 0x60, 0, 2, 0, 0, 0, 20, 0, 0x7D, 0x60, 1, 4, 0, 0, 0, 0, 0, 0, 0xFF,
+                                  0x7D, 0x60, 2, 4, 0, 0, 0, 0, 0, 0, 0x01, 0x81, 0x60, 0, 4, 0, 0, 0, 0x10, 0x27, 0, 0,
+                                  0x83, 0x60, 0, 4, 0, 0, 0, 0x50, 0xC3, 0, 0, 0x84, 0x60, 0, 4, 0, 0, 0, 0x40, 0x9C, 0, 0,
+                                  0x60, 0x60, 0, 1, 0, 0, 0, 1, 0xFF, 0x60, 0, 4, 0, 0, 0, 0, 0, 0, 0};
+    static uint8_t file[4 + MOST_TENS * sizeof ten];
+    uint32_t length = 4 + tens * (uint32_t)sizeof ten;
+
+    if (file[0] == 0) {
+        file[0] = (uint8_t)(10 * tens);
+        for (uint32_t k = 0; k < tens; k++)
+            memcpy(file + 4 + k * sizeof ten, ten, sizeof ten);
+    }
+    file[length - 4] = (uint8_t)i;
+    load(file, length);
+}
+
+/* Transmit PDO 1 mapped anew as machine builders do it: taken back, emptied, 6061h and 6041h, their number, valid again. */
+static inline void load_mapping(void)
+{
+    static const uint8_t file[] = {6, 0, 0, 0, 0x00, 0x18, 1, 4, 0, 0, 0, 0x85, 0x01, 0, 0xC0, 0x00, 0x1A, 0, 1, 0, 0, 0, 0,
+                                   0x00, 0x1A, 1, 4, 0, 0, 0, 0x08, 0x00, 0x61, 0x60, 0x00, 0x1A, 2, 4, 0, 0, 0, 0x10, 0x00, 0x41, 0x60,
+                                   0x00, 0x1A, 0, 1, 0, 0, 0, 2, 0x00, 0x18, 1, 4, 0, 0, 0, 0x85, 0x01, 0, 0x40};
+
+    load(file, sizeof file);
+}
+
+static inline void load_no_entries(void)
+{
+    static const uint8_t file[4];
+
+    load(file, sizeof file);
+}
+
 /* ---- a drive at rest in profile position, inside the window of its target or not, for which the ticks are counted */
 
 enum { WINDOW = 20, SHORT_TIME = 10, LONG_TIME = 65535, REACHED_IN_HIGH_BYTE = 0x04 };
@@ -222,6 +262,8 @@ static inline void call(const char *kind, uint32_t i)
     switch (kind[0]) {
     case 'a': power_up(5); break;
     case 'b': case 'c': frame(0x80, 0, 0); break;
+    case 'd': load_tens_of_entries(1, i); break;
+    case 'D': load_tens_of_entries(MOST_TENS, i); break;
     case 'e': case 'f': rpdo3(kind[1], i); break;
     case 'g': frame(0x405, five_bytes, 5); break;
     case 'h': sdo(0x40, 0x6041, 0, 0); break;
@@ -237,6 +279,8 @@ static inline void call(const char *kind, uint32_t i)
     case 's': last_tick(kind[1]); break;
     case 'x': sdo(0x23, 0x607D, 2, i); break;
     case 'y': sdo(0x23, 0x607D, 2, 0xFFFFFFFFu - i); break;
+    case 'z': load_no_entries(); break;
+    case 'Z': load_mapping(); break;
     }
 }
 

@@ -48,6 +48,17 @@ static void answered(uint32_t answer, uint32_t refusal, const char *name)
         check(cendurak_frames(answer) == 0 && memcmp(&lent, &before, sizeof lent) == 0, name);
 }
 
+/* Of a load, which is lent no output; a file of no entries, or none. */
+static void load(uint32_t nulls)
+{
+    static uint8_t no_entries[4];
+    uint64_t answer = cendurak_load(STATE(nulls), DICT(nulls), or_null(no_entries, nulls & DATA_IS_NULL), or_none(4, nulls & DATA_IS_NULL));
+    uint32_t refusal = refusal_of(nulls & ~(uint32_t)OUT_IS_NULL, nulls & DATA_IS_NULL ? CENDURAK_FILE_TOO_SHORT : CENDURAK_ACCEPTED);
+
+    check(cendurak_load_refusal(answer) == refusal, "load");
+    check(cendurak_load_entry(answer) == 0 && cendurak_load_abort_code(answer) == 0 && memcmp(&lent, &before, sizeof lent) == 0, "load");
+}
+
 static void fresh(void)
 {
     cendurak_power_up(STATE(0), DICT(0), OUT(0), 5);
@@ -68,6 +79,8 @@ static void calls(uint32_t nulls)
     fresh();
     answered(cendurak_event(STATE(nulls), DICT(nulls), OUT(nulls), CENDURAK_VOLTAGE, bytes, length),
              refusal_of(nulls, nulls & DATA_IS_NULL ? CENDURAK_BAD_EVENT : CENDURAK_ACCEPTED), "event");
+    fresh();
+    load(nulls);
 }
 
 int main(void)

@@ -38,18 +38,28 @@ static inline int is_record(uint32_t kind, uint32_t length)
     return kind == POWER_UP && length == 1;
 }
 
-static inline enum reading read_record(struct record *record)
+static inline enum reading read_head(struct record *record)
 {
-    uint8_t head[4];
+    uint8_t head[4] = {0};
     uint32_t got = take(head, 4);
 
-    if (got == 0)
-        return AT_END;
     record->length = head[0] + 256u * head[1];
     record->kind = head[2] + 256u * head[3];
-    if (got < 4 || !is_record(record->kind, record->length) || take(record->payload, record->length) < record->length)
+    return got == 4 ? RECORD : got == 0 ? AT_END : NO_RECORD;
+}
+
+/* What follows a head. */
+static inline enum reading read_payload(struct record *record)
+{
+    if (!is_record(record->kind, record->length) || take(record->payload, record->length) < record->length)
         return NO_RECORD;
     return RECORD;
+}
+
+static inline enum reading read_record(struct record *record)
+{
+    enum reading reading = read_head(record);
+    return reading == RECORD ? read_payload(record) : reading;
 }
 
 /* The call that a record asks for. Where nothing follows its head, a null pointer is handed in. */

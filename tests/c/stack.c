@@ -41,15 +41,17 @@ static uint32_t depth_under(uint8_t paint)
     return OWN_STACK_BYTES - unused;
 }
 
-/* The call that is made next: its function and arguments. Power-up takes seven arguments, a frame and an event nine. */
+/* The call that is made next: its function and arguments. Power-up takes seven arguments, a frame and an event nine, a load six. */
 typedef uint32_t power_up_call(uint8_t *, uint64_t, uint8_t *, uint64_t, uint8_t *, uint64_t, uint32_t);
 typedef uint32_t other_call(uint8_t *, uint64_t, uint8_t *, uint64_t, uint8_t *, uint64_t, uint32_t, const uint8_t *, uint64_t);
+typedef uint64_t load_call(uint8_t *, uint64_t, uint8_t *, uint64_t, const uint8_t *, uint64_t);
 
 static struct {
     power_up_call *power_up;
     other_call *other;
+    load_call *load;
     uint8_t *state, *dict, *out;
-    uint64_t state_len, dict_len, out_len, length;
+    uint64_t state_len, dict_len, out_len, length, loaded;
     uint32_t number, answer;
     const uint8_t *bytes;
 } next;
@@ -62,6 +64,11 @@ static void make_power_up(void)
 static void make_other(void)
 {
     next.answer = next.other(next.state, next.state_len, next.dict, next.dict_len, next.out, next.out_len, next.number, next.bytes, next.length);
+}
+
+static void make_load(void)
+{
+    next.loaded = next.load(next.state, next.state_len, next.dict, next.dict_len, next.bytes, next.length);
 }
 
 static uint32_t depth_of(void (*make)(void), uint8_t paint)
@@ -85,6 +92,12 @@ static __attribute__((noinline)) uint32_t no_other(uint8_t *s, uint64_t sn, uint
 {
     (void)s, (void)sn, (void)d, (void)dn, (void)o, (void)on, (void)b, (void)bn;
     return n;
+}
+
+static __attribute__((noinline)) uint64_t no_load(uint8_t *s, uint64_t sn, uint8_t *d, uint64_t dn, const uint8_t *b, uint64_t bn)
+{
+    (void)s, (void)sn, (void)d, (void)dn, (void)b;
+    return bn;
 }
 
 /* Goes down by its second argument, a length, and writes one byte there, the low byte of its fourth. */
@@ -161,13 +174,13 @@ static uint32_t depth_under_paints(void (*make)(void))
     return deeper;
 }
 
-/* Makes the next call with one of the two functions. */
-static uint32_t measured(void (*make)(void), power_up_call *power_up, other_call *other)
+/* Makes the next call with one of the three functions. */
+static uint32_t measured(void (*make)(void), power_up_call *power_up, other_call *other, load_call *load)
 {
     keep();
-    next.power_up = no_power_up, next.other = no_other;
+    next.power_up = no_power_up, next.other = no_other, next.load = no_load;
     uint32_t of_caller = depth_under_paints(make);
-    next.power_up = power_up, next.other = other;
+    next.power_up = power_up, next.other = other, next.load = load;
     note(depth_under_paints(make), of_caller);
     return next.answer;
 }
@@ -176,7 +189,7 @@ static uint32_t measured_power_up(uint8_t *state, uint64_t state_len, uint8_t *d
 {
     lend(state, state_len, dict, dict_len, out, out_len);
     next.number = n;
-    return measured(make_power_up, cendurak_power_up, 0);
+    return measured(make_power_up, cendurak_power_up, 0, 0);
 }
 
 static uint32_t measured_frame(uint8_t *state, uint64_t state_len, uint8_t *dict, uint64_t dict_len, uint8_t *out, uint64_t out_len,
@@ -184,7 +197,7 @@ static uint32_t measured_frame(uint8_t *state, uint64_t state_len, uint8_t *dict
 {
     lend(state, state_len, dict, dict_len, out, out_len);
     next.number = identifier, next.bytes = data, next.length = length;
-    return measured(make_other, 0, cendurak_frame);
+    return measured(make_other, 0, cendurak_frame, 0);
 }
 
 static uint32_t measured_event(uint8_t *state, uint64_t state_len, uint8_t *dict, uint64_t dict_len, uint8_t *out, uint64_t out_len,
@@ -192,7 +205,16 @@ static uint32_t measured_event(uint8_t *state, uint64_t state_len, uint8_t *dict
 {
     lend(state, state_len, dict, dict_len, out, out_len);
     next.number = number, next.bytes = args, next.length = length;
-    return measured(make_other, 0, cendurak_event);
+    return measured(make_other, 0, cendurak_event, 0);
+}
+
+/* The output that was lent last stays, though a load is lent none. */
+static uint64_t measured_load(uint8_t *state, uint64_t state_len, uint8_t *dict, uint64_t dict_len, const uint8_t *file, uint64_t length)
+{
+    lend(state, state_len, dict, dict_len, next.out, next.out_len);
+    next.bytes = file, next.length = length;
+    measured(make_load, 0, 0, cendurak_load);
+    return next.loaded;
 }
 
 /* ---- the routines of the C library that a call may use */
@@ -257,6 +279,7 @@ static void note_fill(fill_routine *fill)
 #define cendurak_power_up measured_power_up
 #define cendurak_frame measured_frame
 #define cendurak_event measured_event
+#define cendurak_load measured_load
 #include "kinds.h"
 #include "records.h"
 
@@ -266,7 +289,7 @@ static int is_measured(uint32_t depth, uint8_t written)
 {
     lend(state, depth, dict, written, out, CENDURAK_OUT_LEN);
     deepest = 0;
-    measured(make_other, 0, goes_down);
+    measured(make_other, 0, goes_down, 0);
     if (deepest != depth + RETURN_ADDRESS)
         printf("a depth of %u was measured as %u\n", depth + RETURN_ADDRESS, deepest);
     return deepest == depth + RETURN_ADDRESS;

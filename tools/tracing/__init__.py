@@ -4,7 +4,7 @@ records   bench records as bytes                 log       candump logs with eve
 events    the amplifier's events in words        bench     the bench program and its output
 eds       names, types and defaults of objects   words     numbers of CiA 301 and CiA 402 in words
 node      what a trace tells about the node      segments  transfers by segments
-decode    a frame as a row of the trace          walk      a whole trace as rows
-readable  rows as text, with colour              differ    the first difference of two traces
-commands  the command line
+dcf       concise DCF files as bytes             decode    a frame as a row of the trace
+walk      a whole trace as rows                  readable  rows as text, with colour
+differ    the first difference of two traces     commands  the command line
 """

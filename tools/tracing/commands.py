@@ -9,7 +9,7 @@ from . import bench, differ, eds, log, readable, walk
 from .decode import Decoder, Row
 from .log import Entry
 from .node import HEARTBEAT
-from .records import BadInput, Frame, decode, encode
+from .records import BadInput, Frame, Load, decode, encode
 
 SAME, DIFFERENT, BAD_INPUT = 0, 1, 2
 
@@ -39,9 +39,16 @@ def command_records(args: argparse.Namespace) -> int:
     if args.drop_own:
         need_power_up(entries, args.log)
         entries = walk.split(entries, Decoder(eds.load(args.eds)))[0]
+    load = next((entry for entry in entries if isinstance(entry.what, Load)), None)
+    if load:
+        raise BadInput(f'{args.log}, line {load.line}: a load, for which the bench program has no record; tools/trace run makes one')
     if not args.out and sys.stdout.isatty():
         raise BadInput('records are bytes and no text for a terminal: give -o FILE or redirect the output')
     return emit(encode(walk.records_of(entries)), args.out)
+
+
+def command_run(args: argparse.Namespace) -> int:
+    return emit(bench.run(walk.records_of(trace_of(args.trace, args))).encode(), args.out)
 
 
 def command_log(args: argparse.Namespace) -> int:
@@ -64,7 +71,7 @@ def whole_bus(entries: list[Entry], answers: list[bench.Answer], args: argparse.
             continue
         answer = next(coming)
         if answer.refusal:
-            bus.append(entry._replace(what=log.Note(f'refused {answer.refusal}')))
+            bus.append(entry._replace(what=walk.refusal_note(answer.refusal)))
         bus.extend(entry._replace(what=frame) for frame in answer.frames)
     return bus
 
@@ -183,6 +190,7 @@ def parser() -> argparse.ArgumentParser:
     top = argparse.ArgumentParser(prog='tools/trace', description=ABOUT)
     kinds = top.add_subparsers(metavar='COMMAND', required=True)
     add_records(kinds)
+    add_run(kinds)
     add_log(kinds)
     add_read(kinds)
     add_replay(kinds)
@@ -233,6 +241,17 @@ def add_records(kinds) -> None:
     add_eds(one)
 
 
+def add_run(kinds) -> None:
+    text = 'a trace through the node: what the bench program prints for it'
+    after = ('Where a file is loaded, the C calls are made, by the program of tests/c/loads.c: it prints what the bench program would, and\n'
+             f'under a load what it answered, and the dictionary after it.\n\n{STATUS}')
+    one = add(kinds, 'run', command_run, text, after)
+    one.add_argument('trace', metavar='TRACE', help='records, or a log')
+    one.add_argument('-o', dest='out', metavar='FILE', help='where the output goes (default: standard output)')
+    add_log_options(one)
+    add_damaged(one)
+
+
 def add_log(kinds) -> None:
     text = "records as a candump log with events; with the bench program's output, the log of the whole bus"
     after = ('Records have no time stamps: the times are those of the ticks, 1 ms each. A log may stand for RECORDS.\n'
@@ -256,7 +275,7 @@ def add_read(kinds) -> None:
     one = add(kinds, 'read', command_read, 'the readable trace', after)
     one.add_argument('trace', metavar='TRACE', help='records, or a log')
     one.add_argument('output', metavar='OUTPUT', nargs='?', help='what the bench program printed for these records')
-    one.add_argument('--run', action='store_true', help='run the bench program for the output')
+    one.add_argument('--run', action='store_true', help='run the node for the output, as tools/trace run does')
     one.add_argument('--show-ticks', action='store_true', help='show ticks')
     one.add_argument('--absolute', action='store_true', help='time stamps as in the log')
     add_log_options(one)

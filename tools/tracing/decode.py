@@ -2,11 +2,13 @@
 from dataclasses import dataclass, field
 from typing import NamedTuple, Optional, Union
 
-from . import events, node as can, segments, words
+from . import dcf, events, node as can, segments, words
+from .bench import Answer
+from .dcf import byte_count
 from .eds import Objects, Place
 from .log import Entry
 from .node import Node, Sdo
-from .records import Damage, Event, Frame, PowerUp
+from .records import BadInput, Damage, Event, Frame, Load, PowerUp
 from .segments import Segment, Transfer, segment_of, toggle_of
 
 IN, OUT, AMPLIFIER = 'in', 'out', 'amp'
@@ -68,6 +70,10 @@ class Decoder:
             row = Row(0, AMPLIFIER, 'power-up', details=[f'node-ID {what.node}'])
         elif isinstance(what, Event):
             row = Row(0, AMPLIFIER, *event_texts(what))
+        elif isinstance(what, Load):
+            row = Row(0, AMPLIFIER, 'load', details=self.load_details(what.data))
+            if accepted:
+                self.node.load(dcf.entries_in(what.data) or [])
         elif isinstance(what, Damage):
             row = Row(0, AMPLIFIER, 'bad record', details=[f'{len(what.data)} bytes: {what.data[:20].hex(" ").upper()}'], style=BAD)
         row.time, row.line = entry.time, entry.line
@@ -80,6 +86,33 @@ class Decoder:
         row = self.row_out(frame)
         row.time, row.line = entry.time, entry.line
         return row
+
+    # files
+
+    def load_details(self, content: bytes) -> list[Union[ObjectText, str]]:
+        """The entries of a file, or why it has none."""
+        try:
+            entries = dcf.decode(content, 'file')
+        except BadInput as wrong:
+            return [str(wrong)]
+        return [f'file of {dcf.entry_count(len(entries))}', *(self.object_text(entry.place, entry.data) for entry in entries)]
+
+    def refusal_row(self, entry: Entry, answer: Answer) -> Row:
+        """Why a record was refused; of a load that an entry was aborted in, which one and why."""
+        row = Row(entry.time, '', 'refused', details=[f"{answer.refusal}: {words.REFUSALS.get(answer.refusal, 'unknown')}"], style=BAD)
+        if answer.load and answer.load.entry:
+            tried = (dcf.entries_in(entry.what.data) or [])[:answer.load.entry]
+            row.details[0] += f', number {answer.load.entry}'
+            row.details += self.entry_reasons(tried, answer.load.code)
+        return row
+
+    def entry_reasons(self, tried: list[dcf.Entry], code: int) -> list[Union[ObjectText, str]]:
+        """Why the last of these entries of a file was aborted."""
+        if not tried:
+            return [words.abort(code)]
+        swapped = tried[-1].place in can.POSITION_LIMITS and code == words.NOT_COMPATIBLE
+        limits = ['minimum {} would be above maximum {}'.format(*self.node.limits_with(tried))] if swapped else []
+        return [self.remark(tried[-1].place, words.abort(code)), *limits]
 
     # frames to the node
 
@@ -174,7 +207,7 @@ class Decoder:
         if sdo.place not in can.POSITION_LIMITS or int.from_bytes(sdo.data, 'little') != words.NOT_COMPATIBLE:
             return []
         data = self.data_asked_for(sdo.place)
-        low, high = self.node.limits_with(sdo.place, data)
+        low, high = self.node.limits_with([dcf.Entry(sdo.place, data)])
         known = data and low > high
         return [f'minimum {low} would be above maximum {high}' if known else 'the minimum would be above the maximum']
 
@@ -298,14 +331,6 @@ class Decoder:
         if status & ~self.status & words.REACHED and self.node.window_time:
             row.details.append(self.remark(can.WINDOW_TIME, f'inside for {self.node.window_time} ms'))
         self.status = status
-
-
-def byte_count(count: int) -> str:
-    return f'{count} byte' if count == 1 else f'{count} bytes'
-
-
-def refusal_row(time: int, refusal: int) -> Row:
-    return Row(time, '', 'refused', details=[f"{refusal}: {words.REFUSALS.get(refusal, 'unknown')}"], style=BAD)
 
 
 def event_texts(event: Event) -> tuple:

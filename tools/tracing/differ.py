@@ -102,7 +102,7 @@ def what_differs(answers: list[Answer]) -> str:
     for number, (a, b) in enumerate(zip_longest(one.frames, other.frames), 1):
         if a != b:
             return f'frame {number}'
-    return 'the status word'
+    return 'the load' if one.load != other.load else 'the status word'
 
 
 def answer_line(answer: Answer, mode: int) -> str:

@@ -1,5 +1,6 @@
 """The objects of the node as cendurak.eds has them: names, types and default values stand there and nowhere else."""
 import configparser
+import functools
 import re
 from pathlib import Path
 from typing import NamedTuple, Optional
@@ -32,6 +33,7 @@ Place = tuple[int, int]  # index and subindex
 Objects = dict[Place, Object]
 
 
+@functools.cache
 def load(path: Path = FILE) -> Objects:
     """The objects by index and subindex."""
     parser = configparser.ConfigParser(interpolation=None, strict=False)

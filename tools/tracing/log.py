@@ -1,10 +1,11 @@
 """Candump logs with the amplifier's events among the frames, as text, both ways."""
 import re
 from dataclasses import dataclass
+from pathlib import Path
 from typing import Iterator, NamedTuple, Optional, Union
 
 from . import events
-from .records import BadInput, Damage, Event, Frame, PowerUp, Record, what_is_wrong
+from .records import MOST_LOAD, BadInput, Damage, Event, Frame, Load, PowerUp, Record, what_is_wrong
 
 NOTATION = """\
 A log is what candump writes, in its log-file form or its screen form:
@@ -24,6 +25,7 @@ What is no frame of the bus stands behind '#>', with a time stamp where one is k
   #> quick-stop-done               the axis stands after a quick stop
   #> set-point-reached             the active set-point is done
   #> tick 100                      so many ticks of 1 ms (one, if no number is given)
+  #> load feeder.dcf             a concise DCF is loaded: a file, found from the log's folder, or its bytes as digits
   #> event 12 0A0B               an event that has no name: number, argument bytes
   #> frame 8FF#0102              a frame that no bus carries: any 16-bit identifier, up to 14 bytes
   #> damage 0300                 bytes that are no record, to the end of the stream
@@ -36,6 +38,7 @@ TICK = Event(events.TICK, b'')
 MOST_TICKS = 1_000_000  # in one line
 LONGEST_GAP = 3600 * MICROSECONDS  # between two time stamps that make ticks
 MOST_DATA, MOST_RECORD_DATA = 8, 14  # bytes of a frame on the bus, and in a record
+NO_BYTES = 'nothing'  # as the content of a file
 
 STAMP = r'\s*(?:\((?P<time>[^)]*)\)\s+)?'
 LOG_FORM = re.compile(STAMP + r'(?P<bus>\S+)\s+(?P<identifier>[0-9A-Fa-f]+)#(?P<data>\S*)(?:\s+[RT])?\s*$')
@@ -73,7 +76,7 @@ class Options(NamedTuple):
 
 def parse(text: str, file: str, options: Options = Options()) -> list[Entry]:
     """The entries of a log; a bad line is an error with its number."""
-    reader = Reader(options)
+    reader = Reader(options, Path(file).parent)
     for number, line in enumerate(text.split('\n'), 1):
         try:
             reader.take(number, line.rstrip('\r'))
@@ -92,8 +95,9 @@ def with_start(entries: list[Entry]) -> list[Entry]:
 class Reader:
     """A log as far as it was read. What has no time stamp has the time of what stands before it; a tick lasts its millisecond."""
 
-    def __init__(self, options: Options):
+    def __init__(self, options: Options, folder: Path):
         self.options = options
+        self.folder = folder  # where the files are that the log names
         self.entries: list[Entry] = []
         self.bus = options.bus
         self.clock = 0
@@ -138,6 +142,8 @@ class Reader:
         shape = DIRECTIVE.match(line)
         stamp = stamp_of(shape['time'])
         word, *values = shape['words'].split() or ['']
+        if word == 'load':
+            return self.add(number, Load(content_of(' '.join(values), self.folder)), stamp)
         if word != 'tick':
             return self.add(number, directive(word, values), stamp)
         if len(values) > 1 or not all(value.isdecimal() and 1 <= int(value) <= MOST_TICKS for value in values):
@@ -211,6 +217,22 @@ def data_of(text: str, most: int) -> bytes:
     return bytes.fromhex(text)
 
 
+def content_of(text: str, folder: Path) -> bytes:
+    """The content of a file that is loaded: its bytes stand there, or its name."""
+    if not text:
+        raise ValueError(f"'load' takes a file, its bytes as digits, or '{NO_BYTES}'")
+    if text == NO_BYTES or re.fullmatch(r'(?:[0-9A-Fa-f]{2})+', text):
+        content = b'' if text == NO_BYTES else bytes.fromhex(text)
+    else:
+        try:
+            content = (folder / text).read_bytes()
+        except OSError as wrong:
+            raise ValueError(f"'{text}' cannot be read: {wrong.strerror}") from None
+    if len(content) > MOST_LOAD:
+        raise ValueError(f'a file of {len(content)} bytes, where at most {MOST_LOAD} can be loaded here')
+    return content
+
+
 def directive(word: str, values: list[str]) -> Record:
     """What stands behind '#>'."""
     if word in events.NUMBERS:
@@ -229,7 +251,7 @@ def directive(word: str, values: list[str]) -> Record:
         return Damage(data)
     if word in ('power-up', 'event', 'frame', 'damage'):
         raise ValueError(f"'#> {' '.join([word] + values)}' is not as 'tools/trace records --help' has it")
-    raise ValueError(f"'{word}' is no event; there are {', '.join(events.NUMBERS)}, power-up, event, frame, damage")
+    raise ValueError(f"'{word}' is no event; there are {', '.join(events.NUMBERS)}, power-up, load, event, frame, damage")
 
 
 def of_records(records: list[Record]) -> list[Entry]:
@@ -300,4 +322,6 @@ def line_of(entry: Entry, bus: str) -> str:
         return f'#> {stamp} {events.to_words(what)}'
     if isinstance(what, PowerUp):
         return f'#> {stamp} power-up {what.node}'
+    if isinstance(what, Load):
+        return f'#> {stamp} load {what.data.hex().upper() or NO_BYTES}'
     return f'#> {stamp} damage {what.data.hex().upper()}'

@@ -5,6 +5,7 @@ This follows a trace as far as it shows; it decides nothing. What the node does 
 from typing import Iterator, NamedTuple, Optional
 
 from . import segments, words
+from .dcf import Entry
 from .eds import Objects, Place
 from .records import Frame
 from .segments import Transfer, segment_of
@@ -129,6 +130,11 @@ class Node:
         else:
             self.take_pdo(RECEIVE, frame)
 
+    def load(self, entries: list[Entry]) -> None:
+        """A file that was loaded. A transfer that runs goes on."""
+        for entry in entries:
+            self.store(entry.place, entry.data)
+
     def take_command(self, command: int) -> None:
         """An NMT command."""
         if self.number is None:
@@ -224,8 +230,8 @@ class Node:
         waits = self.mode == words.POSITION_MODE and not self.values.get(CONTROL_WORD, 0) & words.HALT
         return self.values.get(WINDOW_TIME, 0) if waits else 0
 
-    def limits_with(self, place: Place, data: bytes) -> tuple[int, int]:
-        """Minimum and maximum of the position, as they would be with one of them written."""
-        held = {limit: self.values.get(limit, 0).to_bytes(4, 'little') for limit in POSITION_LIMITS} | {place: data}
+    def limits_with(self, writes: list[Entry]) -> tuple[int, int]:
+        """Minimum and maximum of the position, as they would be with these written."""
+        held = {limit: self.values.get(limit, 0).to_bytes(4, 'little') for limit in POSITION_LIMITS} | {write.place: write.data for write in writes}
         low, high = (int.from_bytes(held[limit], 'little', signed=True) for limit in POSITION_LIMITS)
         return low, high

@@ -4,6 +4,7 @@ from dataclasses import dataclass
 from typing import Union
 
 FRAME, EVENT, POWER_UP = 1, 2, 3
+LOAD, MOST_LOAD = 4, 0xFFFF  # what the C program of tests/c/loads.c has besides, and the bytes of its longest file
 HEAD = struct.Struct('<HH')
 PAYLOADS = {FRAME: range(2, 17), EVENT: range(1, 17), POWER_UP: range(1, 2)}  # the payload lengths of each kind
 
@@ -30,12 +31,18 @@ class PowerUp:
 
 
 @dataclass(frozen=True)
+class Load:
+    """The load of a file. The bench program has no record for it."""
+    data: bytes
+
+
+@dataclass(frozen=True)
 class Damage:
     """The bytes from the first bad record to the end of the stream: the bench program answers them once, with refusal 8."""
     data: bytes
 
 
-Record = Union[Frame, Event, PowerUp, Damage]
+Record = Union[Frame, Event, PowerUp, Load, Damage]
 
 
 def encode(records: list[Record]) -> bytes:
@@ -49,6 +56,8 @@ def encode_one(record: Record) -> bytes:
         kind, payload = FRAME, struct.pack('<H', record.identifier) + record.data
     elif isinstance(record, Event):
         kind, payload = EVENT, bytes([record.number]) + record.arguments
+    elif isinstance(record, Load):
+        kind, payload = LOAD, record.data
     else:
         kind, payload = POWER_UP, bytes([record.node])
     return HEAD.pack(len(payload), kind) + payload

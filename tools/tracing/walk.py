@@ -1,8 +1,9 @@
 """A whole trace, from its start to its end, as rows."""
+import re
 from typing import Iterator, NamedTuple, Optional, Union
 
 from .bench import Answer
-from .decode import Decoder, Row, refusal_row
+from .decode import Decoder, Row
 from .log import TICK, Entry, Heading, Note
 from .records import BadInput, Frame, PowerUp, Record
 
@@ -51,7 +52,7 @@ def rows_with_answers(entries: list[Entry], answers: list[Answer], decoder: Deco
         if show_ticks or step.entry.what != TICK or step.answer.refusal:
             lines.append(step.given)
         if step.answer.refusal:
-            lines.append(refusal_row(step.entry.time, step.answer.refusal))
+            lines.append(decoder.refusal_row(step.entry, step.answer))
         lines.extend(step.sent)
         if step.answer.status != status and all(row.shows_status != step.answer.status for row in step.sent):
             lines.append(decoder.status_row(step.entry.time, step.answer.status))
@@ -62,14 +63,25 @@ def rows_with_answers(entries: list[Entry], answers: list[Answer], decoder: Deco
 def rows_as_recorded(entries: list[Entry], decoder: Decoder, show_ticks: bool) -> list[Line]:
     """The readable trace of a log alone: frames on the node's own identifiers are those it sent."""
     lines: list[Line] = []
-    for entry in entries:
+    for place, entry in enumerate(entries):
         if isinstance(entry.what, (Heading, Note)):
             lines.append(entry.what)
         elif is_own(entry, decoder):
             lines.append(decoder.put_out(entry.what, entry))
         elif show_ticks or entry.what != TICK:
-            lines.append(decoder.put_in(entry))
+            lines.append(decoder.put_in(entry, not is_refused(entries, place)))
     return lines
+
+
+def refusal_note(refusal: int) -> Note:
+    """What stands in a log of the whole bus behind a record that was refused."""
+    return Note(f'refused {refusal}')
+
+
+def is_refused(entries: list[Entry], place: int) -> bool:
+    """Whether the log has such a note there."""
+    behind = entries[place + 1].what if place + 1 < len(entries) else None
+    return isinstance(behind, Note) and re.fullmatch(r'refused [0-9]+', behind.text) is not None
 
 
 def is_own(entry: Entry, decoder: Decoder) -> bool:
@@ -81,13 +93,13 @@ def split(entries: list[Entry], decoder: Decoder) -> tuple[list[Entry], list[Row
     """A recorded log as what the node was given, and the rows of what it sent."""
     given: list[Entry] = []
     sent: list[Row] = []
-    for entry in entries:
+    for place, entry in enumerate(entries):
         if is_own(entry, decoder):
             sent.append(decoder.put_out(entry.what, entry))
             continue
         given.append(entry)
         if not isinstance(entry.what, (Heading, Note)):
-            decoder.put_in(entry)
+            decoder.put_in(entry, not is_refused(entries, place))
     return given, sent
 
 

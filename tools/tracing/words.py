@@ -9,6 +9,12 @@ REFUSALS = {
     6: 'no such event, or wrong arguments',
     7: 'event out of place',
     8: 'bad record',
+    9: 'not in Pre-operational, or the drive not at rest',
+    10: 'file under 4 bytes',
+    11: 'over 512 entries',
+    12: 'file cut short, or bytes left over',
+    13: 'an entry for the control word',
+    14: 'an entry is aborted',
 }
 
 NOT_COMPATIBLE = 0x06040043

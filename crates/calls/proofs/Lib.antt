@@ -9,6 +9,7 @@ pub mod Concluding
 pub mod Anew
 pub mod Answered
 pub mod Refusals
+pub mod Loading
 pub mod Serving
 pub mod Telling
 pub mod Traces

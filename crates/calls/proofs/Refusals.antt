@@ -3,7 +3,7 @@
 use Prim.Native.Nat.{ℕ, _<_, _≤_}
 use mathlib.Core.Path.{_≡_, refl, sym, _∙_, ap}
 use mathlib.Core.Bool.{Bool, true, false, cond, _&&_, and-false, false≢true, true≢false}
-use mathlib.Core.List.{List}
+use mathlib.Core.List.{List, []}
 use borrow.Author.Tests.{eq-eqb, ne-eqb, eqb-true, leb-true, le-leb, lt-leb}
 use lib.Dec.{eqb, leb}
 use lib.ListN.{length}
@@ -21,14 +21,14 @@ use Rattle.rules_services.specs.Events.{eventOf, isInPlace, happens}
 use Rattle.rules.specs.Outcome.{mostData}
 use Rattle.rules.specs.Sound.{sound}
 use Rattle.rules.specs.Calls.{Call, powerUpCall, frameCall, eventCall, Decision, refuses, does, framed, eventDecision, decision, decided, refused}
-use Rattle.rules.specs.Calls.{answered, answer, outputLength, lastFrameIdentifier}
+use Rattle.rules.specs.Calls.{answered, answer, outputLength, outputFor, lastFrameIdentifier, loadCall}
 use Rattle.theorems.proofs.Runs.{passed}
 use Rattle.theorems.proofs.Booleans.{clash}
 use Rattle.form.specs.Form.{stateLength, stateOf, form, isForm}
 use Rattle.form.specs.Typed.{Typed}
 use Rattle.form.proofs.Rows.{length-form}
 use Rattle.form.proofs.OneForm.{stateOf-form, isForm-form}
-use Rattle.calls.specs.Opening.{refusedFor, notRefused, lending, thenBy, opening, holdsSound, openingOf}
+use Rattle.calls.specs.Opening.{refusedFor, notRefused, lending, thenBy, opening, holdsSound, openingOf, loadableOf}
 use Rattle.calls.specs.Answers.{outcome, refusedAnswer}
 use Rattle.calls.specs.Ending.{Stands}
 
@@ -95,13 +95,19 @@ module _ (d o : List ℕ) where
         go false false e f k = absurd (true≢false k)
         go false true e f k = (e, f)
 
--- ---- of every call: what is lent
+-- ---- of every call that is lent output: what is lent
 
-module _ (c : Call) (s : State) (d o : List ℕ) where
+module _ (c : Call) (s : State) (d o : List ℕ) (asks : outputFor c ≡ outputLength) where
   -- a refusal by what is lent
   pub not-lent : lending d o .refused ≡ true → outcome (refusedAnswer (lending d o .why) s) d o ≡ answer c s d o
   unfolding lending answer decided answered refused
-  not-lent h = go (eqb (length d) dictionaryLength) (leb outputLength (length o)) h
+  not-lent h =
+      let asked : ℕ → Decision = λ n.
+      elim (eqb (length d) dictionaryLength) [
+        | true ↦ elim (leb n (length o)) [ true ↦ decision c s d | false ↦ refuses OutputLength ]
+        | false ↦ refuses DictionaryLength
+      ] in
+      go (eqb (length d) dictionaryLength) (leb outputLength (length o)) h ∙ ap (λ (n : ℕ). answered (asked n) s d o) (sym asks)
     where
       go : (a b : Bool) → cond a (cond b notRefused (refusedFor OutputLength)) (refusedFor DictionaryLength) .refused ≡ true →
           outcome (refusedAnswer (cond a (cond b notRefused (refusedFor OutputLength)) (refusedFor DictionaryLength) .why) s) d o
@@ -118,7 +124,7 @@ module _ (c : Call) (s : State) (d o : List ℕ) where
         let l = lengths d o h in
         ap (λ (y : Decision). answered y s d o)
         (passed (eqb (length d) dictionaryLength) _ (refuses DictionaryLength) (eq-eqb (length d) dictionaryLength (l .0))
-        ∙ passed (leb outputLength (length o)) (decision c s d) (refuses OutputLength) (le-leb outputLength (length o) (l .1)) ∙ e)
+        ∙ passed (leb (outputFor c) (length o)) (decision c s d) (refuses OutputLength) (rw asks (le-leb outputLength (length o) (l .1))) ∙ e)
 
     pub decides-not : (why : Refusal) → decision c s d ≡ refuses why → outcome (refusedAnswer why s) d o ≡ answer c s d o
     unfolding answered refused
@@ -126,15 +132,16 @@ module _ (c : Call) (s : State) (d o : List ℕ) where
 
 -- ---- and then by the test of the call
 
-module _ (c : Call) (s : State) (d o : List ℕ) {passes : Bool} {why : Refusal} (fails-by : passes ≡ false → decision c s d ≡ refuses why) where
+module _ (c : Call) (s : State) (d o : List ℕ) (asks : outputFor c ≡ outputLength) {passes : Bool} {why : Refusal}
+    (fails-by : passes ≡ false → decision c s d ≡ refuses why) where
   pub not-opened : thenBy passes why d o .refused ≡ true → outcome (refusedAnswer (thenBy passes why d o .why) s) d o ≡ answer c s d o
   unfolding thenBy
   not-opened h = go (lending d o .refused) passes refl refl h
     where
       go : (a b : Bool) → lending d o .refused ≡ a → passes ≡ b → cond a (lending d o) (cond b notRefused (refusedFor why)) .refused ≡ true →
           outcome (refusedAnswer (cond a (lending d o) (cond b notRefused (refusedFor why)) .why) s) d o ≡ answer c s d o
-      go true b e f k = not-lent c s d o e
-      go false false e f k = decides-not c s d o e why (fails-by f)
+      go true b e f k = not-lent c s d o asks e
+      go false false e f k = decides-not c s d o asks e why (fails-by f)
       go false true e f k = absurd (false≢true k)
 
 -- what stands is lent well
@@ -161,6 +168,52 @@ opened-in bs d o h =
       eqb-true (length bs) stateLength (and-left (eqb (length bs) stateLength) _ (p .1)),
       (and-left (isForm bs) _ q, record { long = l .0; room = l .1; sound = and-right (isForm bs) _ q }),
     )
+
+-- ---- a load, which is lent no output
+
+module _ (bs d : List ℕ) where
+  pub load-other-length : (length d ≡ dictionaryLength → ⊥) → refusedFor DictionaryLength ≡ loadableOf bs d
+  unfolding loadableOf
+  load-other-length n = rw (ne-eqb (length d) dictionaryLength n)
+
+  pub load-opens-by : length d ≡ dictionaryLength → (b : Bool) → holdsSound bs d ≡ b → cond b notRefused (refusedFor NotSound) ≡ loadableOf bs d
+  unfolding loadableOf
+  load-opens-by l b e = rw (eq-eqb (length d) dictionaryLength l, e)
+
+  -- bytes that pass: they hold a state, and it is sound
+  pub loadable-in : loadableOf bs d .refused ≡ false →
+      (length bs ≡ stateLength) × ((isForm bs ≡ true) × ((length d ≡ dictionaryLength) × (sound (stateOf bs) d ≡ true)))
+  unfolding loadableOf
+  loadable-in h = go (eqb (length d) dictionaryLength) (holdsSound bs d) refl refl h
+    where
+      go : (a b : Bool) → eqb (length d) dictionaryLength ≡ a → holdsSound bs d ≡ b →
+          cond a (cond b notRefused (refusedFor NotSound)) (refusedFor DictionaryLength) .refused ≡ false →
+          (length bs ≡ stateLength) × ((isForm bs ≡ true) × ((length d ≡ dictionaryLength) × (sound (stateOf bs) d ≡ true)))
+      go false b e k r = absurd (true≢false r)
+      go true false e k r = absurd (true≢false r)
+      go true true e k r =
+          let q = and-right (eqb (length bs) stateLength) _ k in (
+            eqb-true (length bs) stateLength (and-left (eqb (length bs) stateLength) _ k),
+            (and-left (isForm bs) _ q, (eqb-true _ _ e, and-right (isForm bs) _ q)),
+          )
+
+-- what the rules answer then, whatever the file
+module _ (f : List ℕ) (s : State) (d : List ℕ) where
+  pub load-no-length : eqb (length d) dictionaryLength ≡ false → answer (loadCall f) s d [] ≡ refused DictionaryLength s d []
+  unfolding answer decided answered
+  load-no-length e = ap (λ (x : Decision). answered x s d []) (fails (eqb (length d) dictionaryLength) _ (refuses DictionaryLength) e)
+
+  pub load-unsound : eqb (length d) dictionaryLength ≡ true → sound s d ≡ false → answer (loadCall f) s d [] ≡ refused NotSound s d []
+  unfolding answer decided decision answered
+  load-unsound e h =
+      ap (λ (x : Decision). answered x s d [])
+      (passed (eqb (length d) dictionaryLength) _ (refuses DictionaryLength) e ∙ fails (sound s d) _ (refuses NotSound) h)
+
+-- a state as its bytes
+pub load-opens-form : (s : State) (d : List ℕ) → Typed s → loadableOf (form s) d
+    ≡ cond (eqb (length d) dictionaryLength) (cond (sound s d) notRefused (refusedFor NotSound)) (refusedFor DictionaryLength)
+unfolding loadableOf
+load-opens-form s d t = rw (eq-eqb (length (form s)) stateLength (length-form s t), isForm-form s t, stateOf-form s t)
 
 -- ---- power-up: the node-ID
 

@@ -157,6 +157,7 @@ regular {s = s} (Serves.holds bs l i on synchronous long legal) k law = unwritte
 regular (Serves.releases r) k law =
     let r = applies-regular (one-by-one-apply r k law) in
     record { rows = r .rows; paces = r .paces; idle = r .idle }
+regular (Serves.loads r) k law = applies-regular (one-by-one-apply r k law)
 regular {s = s} (Serves.starts h idle) k law = unwritten s _ refl (λ on. refl)
 regular {s = s} Serves.leaves k law = unwritten s _ refl (λ on. absurd (false≢true on))
 regular {s = s} Serves.stops k law = unwritten s _ refl (λ on. absurd (false≢true on))

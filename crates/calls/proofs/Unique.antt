@@ -12,10 +12,13 @@ use denote.Triple.Clauses.{AtExit}
 use Rattle.state.specs.declared.State.{State}
 use Rattle.state.specs.declared.Refusal.{Refusal}
 use Rattle.state.specs.declared.Answer.{Answer}
-use Rattle.rules.specs.Calls.{Outcome}
+use Rattle.rules.specs.Calls.{Outcome, LoadOutcome}
 use Rattle.form.specs.Form.{stateOf}
 use Rattle.calls.specs.declared.Given.{Given}
+use Rattle.calls.specs.declared.LoadGiven.{LoadGiven}
+use Rattle.calls.specs.declared.LoadAnswer.{LoadAnswer}
 use Rattle.calls.specs.Answers.{outcome, Answers}
+use Rattle.calls.specs.Loads.{loadOutcome}
 use Rattle.calls.proofs.power_up as power-up
 use Rattle.calls.proofs.power_up.Kinds as power-up-kinds
 use Rattle.calls.proofs.power_up.Reads as power-up-reads
@@ -34,6 +37,12 @@ use Rattle.calls.proofs.frame_in.Reads as frame-in-reads
 use Rattle.calls.proofs.event_in as event-in
 use Rattle.calls.proofs.event_in.Kinds as event-in-kinds
 use Rattle.calls.proofs.event_in.Reads as event-in-reads
+use Rattle.calls.proofs.load as load
+use Rattle.calls.proofs.load.Kinds as load-kinds
+use Rattle.calls.proofs.load.Reads as load-reads
+use Rattle.calls.proofs.load_in as load-in
+use Rattle.calls.proofs.load_in.Kinds as load-in-kinds
+use Rattle.calls.proofs.load_in.Reads as load-in-reads
 
 as-answer : {x y : Refusal} {k m : ℕ} {s t : State} → x ≡ y → k ≡ m → s ≡ t →
     _≡_ {A = Answer} (record { refusal = x; frames = k; state = s }) (record { refusal = y; frames = m; state = t })
@@ -97,3 +106,34 @@ module _ (κs : Lfts 4) (a : ArgsD event-in.signature κs) where
       event-in-reads.Post κs a r x → event-in-reads.Post κs a r′ x′ →
       SameIn r (now (x .0)) (now (x .1 .0)) (now (x .1 .1 .0)) r′ (now (x′ .0)) (now (x′ .1 .0)) (now (x′ .1 .1 .0))
   event-in-unique r r′ x x′ p q = same-in _ p q
+
+-- ---- a load: its answer and the dictionary's bytes, and in its bytes the state too
+
+as-load-answer : {x y : Refusal} {n m k c : ℕ} {s t : State} → x ≡ y → n ≡ m → k ≡ c → s ≡ t →
+    _≡_ {A = LoadAnswer} (record { refusal = x; entry = n; code = k; state = s }) (record { refusal = y; entry = m; code = c; state = t })
+as-load-answer e f g h = rw (e, f, g, h)
+
+same-load : (r r′ : LoadAnswer) (d d′ : List ℕ) → loadOutcome r d ≡ loadOutcome r′ d′ → (r ≡ r′) × (d ≡ d′)
+same-load r r′ d d′ e = (
+  as-load-answer (ap (λ (x : LoadOutcome). x .refusal) e) (ap (λ (x : LoadOutcome). x .named .entry) e) (ap (λ (x : LoadOutcome). x .named .code) e)
+      (ap (λ (x : LoadOutcome). x .state) e),
+  ap (λ (x : LoadOutcome). x .dictionary) e,
+)
+
+module _ (κs : Lfts 2) (a : ArgsD load.signature κs) where
+  pub load-unique : (r r′ : ResD load.signature κs) (x x′ : AtExit (endedOf 2 load-kinds.ps load-kinds.r) κs) →
+      load-reads.Post κs a r x → load-reads.Post κs a r′ x′ → (r ≡ r′) × (now (x .1 .0) ≡ now (x′ .1 .0))
+  load-unique r r′ x x′ p q = same-load r r′ (now (x .1 .0)) (now (x′ .1 .0)) (p ∙ sym q)
+
+as-load-given : {x y : Refusal} {n m k c : ℕ} → x ≡ y → n ≡ m → k ≡ c →
+    _≡_ {A = LoadGiven} (record { refusal = x; entry = n; code = k }) (record { refusal = y; entry = m; code = c })
+as-load-given e f g = rw (e, f, g)
+
+module _ (κs : Lfts 3) (a : ArgsD load-in.signature κs) where
+  pub load-in-unique : (r r′ : ResD load-in.signature κs) (x x′ : AtExit (endedOf 3 load-in-kinds.ps load-in-kinds.r) κs) →
+      load-in-reads.Post κs a r x → load-in-reads.Post κs a r′ x′ →
+      (r ≡ r′) × ((now (x .0) ≡ now (x′ .0)) × (now (x .1 .0) ≡ now (x′ .1 .0)))
+  load-in-unique r r′ x x′ p q = (
+    as-load-given (p .refusal ∙ sym (q .refusal)) (p .entry ∙ sym (q .entry)) (p .code ∙ sym (q .code)),
+    (p .state .bytes ∙ sym (q .state .bytes), p .dictionary ∙ sym (q .dictionary)),
+  )

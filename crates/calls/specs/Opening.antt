@@ -1,4 +1,5 @@
--- Document 01, 'Calls and refusals': the refusals that come first, 1 and 2 of every call, 3 of power-up, 4 of a frame and an event.
+-- Document 01, 'Calls and refusals': the refusals that come first, 1 of every call, 2 of every call that is lent output,
+-- 3 of power-up, 4 of all others.
 -- Assumes nothing.
 use Prim.Native.Nat.{ℕ}
 use mathlib.Core.List.{List}
@@ -44,3 +45,8 @@ holdsSound bs d = eqb (length bs) stateLength && (isForm bs && sound (stateOf bs
 
 abbrev pub openingOf : List ℕ → List ℕ → List ℕ → Opening
 openingOf bs d o = thenBy (holdsSound bs d) NotSound d o
+
+-- a load, which is lent no output: by the dictionary's length, and then by the state
+unfoldable pub loadableOf : List ℕ → List ℕ → Opening
+loadableOf bs d =
+    cond (eqb (length d) dictionaryLength) (cond (holdsSound bs d) notRefused (refusedFor NotSound)) (refusedFor DictionaryLength)

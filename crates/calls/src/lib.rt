@@ -1,8 +1,9 @@
-// The three public calls: power-up, one frame, one event. Each takes the state and hands it back by value; dictionary and output are
-// lent. None asks anything of its caller, and each promise is one equation with the rules' answer (`Calls.answer`): it determines the
-// refusal, the number of frames, the state and every byte of what is lent. proofs/Unique.antt says so.
-// Each stands upon the same call on a state that stays in its bytes (`power_up_in`, `frame_in`, `event_in`), which `powering` and `opened` test
-// first: there each service reads what it needs of the state and puts what it changes, and nothing else is copied.
+// The four public calls: power-up, one frame, one event, the load of a file. Each takes the state and hands it back by value; dictionary and
+// output are lent, of a load the dictionary alone. None asks anything of its caller, and each promise is one equation with the rules' answer
+// (`Calls.answer`, `Calls.loadAnswer`): it determines the refusal, the number of frames or what a load names, the state and every byte of what is
+// lent. proofs/Unique.antt says so.
+// Each stands upon the same call on a state that stays in its bytes (`power_up_in`, `frame_in`, `event_in`, `load_in`), which `powering`, `opened`
+// and `loadable` test first: there each service reads what it needs of the state and puts what it changes, and nothing else is copied.
 
 mod opens; // the refusals that need no more than what is lent
 mod served; // a frame, by its identifier
@@ -23,9 +24,11 @@ use mapping::renew_all;
 use nmt::fresh_drive;
 use nmt::fresh_node;
 use nmt::start;
+pub use opens::loadable;
 pub use opens::opened;
 pub use opens::powering;
 use output::MOST_DATA;
+use output::OUTPUT_LENGTH;
 use rules_dictionary::PdoData;
 use rules_services::Told;
 use served::serve_frame;
@@ -43,10 +46,11 @@ ghost use Rattle.state.specs.declared.State.{State};
 ghost use Rattle.state.specs.NmtStates.{isOperational};
 ghost use Rattle.rules_dictionary.specs.Plans.{pdoData};
 ghost use Rattle.rules.specs.Outcome.{mostData};
-ghost use Rattle.rules.specs.Calls.{powerUpCall, frameCall, eventCall, answer};
+ghost use Rattle.rules.specs.Calls.{powerUpCall, frameCall, eventCall, answer, loadAnswer};
 ghost use Rattle.form.specs.Form.{stateLength, stateOf};
 ghost use Rattle.calls.specs.Opening.{powering};
 ghost use Rattle.calls.specs.Answers.{outcome, refusedAnswer, refusedGiven, acceptedGiven, Answers};
+ghost use Rattle.calls.specs.Loads.{isAccepted, loadOutcome, LoadStarts, LoadAnswers};
 ghost use Rattle.calls.specs.Frames.{Starts};
 
 // The greatest identifier of a frame.
@@ -62,6 +66,21 @@ pub struct Opening {
 pub struct Given {
     pub refusal: Refusal,
     pub frames: u8,
+}
+
+// What a load answers beside the lent bytes: with the refusal of an entry which one it is, from 1, and its abort code; else zeros.
+pub struct LoadGiven {
+    pub refusal: Refusal,
+    pub entry: u16,
+    pub code: u32,
+}
+
+// The same, with the state by value.
+pub struct LoadAnswer {
+    pub refusal: Refusal,
+    pub entry: u16,
+    pub code: u32,
+    pub state: State,
 }
 
 // A refused call: no frames, and every byte stays.
@@ -190,6 +209,50 @@ pub fn event_in(
     }
 }
 
+// Whether nothing refuses a call.
+fn is_accepted(refusal: Refusal) -> bool
+    ensures { λ r. ⌜ r ≡ isAccepted refusal ⌝ }
+{
+    match refusal {
+        Refusal::Accepted => true,
+        Refusal::DictionaryLength => false,
+        Refusal::OutputLength => false,
+        Refusal::NodeId => false,
+        Refusal::NotSound => false,
+        Refusal::BadFrame => false,
+        Refusal::BadEvent => false,
+        Refusal::OutOfPlace => false,
+        Refusal::WrongState => false,
+        Refusal::FileTooShort => false,
+        Refusal::TooManyEntries => false,
+        Refusal::FileMisfit => false,
+        Refusal::ControlWordEntry => false,
+        Refusal::EntryAborted => false,
+    }
+}
+
+// The load of a file. No frame is sent, so that the output which the call's end asks for is none of the caller's.
+pub fn load_in(state: &mut [u8], d: &mut [u8], file: &[u8]) -> LoadGiven
+    requires { ⌜ LoadStarts (now state) (now d) ⌝ }
+    ensures { λ r. ⌜ LoadAnswers (loadAnswer (now (file .entry)) (stateOf (now (state .entry))) (now (d .entry)))
+        r (now (state .exit)) (now (d .exit)) ⌝ }
+{
+    let loading = load::load(file, state, d);
+    let refusal = loading.refusal;
+    let given = LoadGiven {
+        refusal: refusal,
+        entry: loading.entry,
+        code: loading.code,
+    };
+    if !is_accepted(refusal) {
+        return given;
+    }
+    let done = loading.done;
+    let mut output = [0u8; OUTPUT_LENGTH];
+    finish(done, false, state, d, &mut output);
+    given
+}
+
 // A refused call, by value: no frames, and the state that was given.
 fn refuse(why: Refusal, s: State) -> Answer
     ensures { λ r. ⌜ r ≡ refusedAnswer why s ⌝ }
@@ -256,4 +319,44 @@ pub fn event(s: State, d: &mut [u8], output: &mut [u8], number: u32, arguments: 
     }
     let given = event_in(&mut state, d, output, number, arguments);
     with_state(given, &state)
+}
+
+// A load that its file has no part in refusing.
+fn load_refused(why: Refusal, s: State) -> LoadAnswer
+    ensures { λ r. ⌜ r ≡ record { refusal = why; entry = 0; code = 0; state = s } ⌝ }
+{
+    LoadAnswer {
+        refusal: why,
+        entry: 0,
+        code: 0,
+        state: s,
+    }
+}
+
+// What a load gave, with the state that the bytes hold.
+fn load_with_state(given: LoadGiven, state: &[u8]) -> LoadAnswer
+    requires { ⌜ length (now state) ≡ stateLength ⌝ }
+    ensures { λ r. ⌜ r ≡ record { refusal = given .refusal; entry = given .entry; code = given .code; state = stateOf (now (state .entry)) } ⌝ }
+{
+    let refusal = given.refusal;
+    LoadAnswer {
+        refusal: refusal,
+        entry: given.entry,
+        code: given.code,
+        state: state_of(state),
+    }
+}
+
+// The load of a file.
+pub fn load(s: State, d: &mut [u8], file: &[u8]) -> LoadAnswer
+    ensures { λ r. ⌜ loadOutcome r (now (d .exit)) ≡ loadAnswer (now (file .entry)) s (now (d .entry)) ⌝ }
+{
+    let mut state = form_of(s);
+    let opening = loadable(&state, d);
+    if opening.refused {
+        let why = opening.why;
+        return load_refused(why, s);
+    }
+    let given = load_in(&mut state, d, file);
+    load_with_state(given, &state)
 }

@@ -1,6 +1,6 @@
-// The refusals that come first: the lengths of what is lent, then of power-up the node-ID, of a frame or an event soundness.
+// The refusals that come first: the lengths of what is lent, then of power-up the node-ID, of every other call soundness.
 ghost use mathlib.Core.Path.{_≡_};
-ghost use Rattle.calls.specs.Opening.{refusedFor, lending, powering, openingOf};
+ghost use Rattle.calls.specs.Opening.{refusedFor, lending, powering, openingOf, loadableOf};
 use crate::Opening;
 use dictionary::places::DICTIONARY_LENGTH;
 use form::layout::STATE_LENGTH;
@@ -63,6 +63,26 @@ pub fn opened(state: &[u8], d: &[u8], output: &[u8]) -> Opening
     }
     if is_sound(state, d) {
         return lengths;
+    }
+    refused(Refusal::NotSound)
+}
+
+// Of a load, which is lent no output: the dictionary's length, and then the same.
+pub fn loadable(state: &[u8], d: &[u8]) -> Opening
+    ensures { λ r. ⌜ r ≡ loadableOf (now (state .entry)) (now (d .entry)) ⌝ }
+{
+    let length = d.len();
+    if length != DICTIONARY_LENGTH {
+        return refused(Refusal::DictionaryLength);
+    }
+    if state.len() != STATE_LENGTH {
+        return refused(Refusal::NotSound);
+    }
+    if is_sound(state, d) {
+        return Opening {
+            refused: false,
+            why: Refusal::Accepted,
+        };
     }
     refused(Refusal::NotSound)
 }

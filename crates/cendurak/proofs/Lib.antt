@@ -1,5 +1,6 @@
 pub mod Ways
 pub mod Unique
 pub mod Typed
+pub mod Named
 pub mod Traces
 pub mod Runs

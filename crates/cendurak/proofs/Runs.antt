@@ -1,43 +1,59 @@
 -- The calls of a firmware are a run of the rules: the statements of Traces.antt, proved. A state of a run is what the types allow (Typed.antt), so
 -- that its form is read back as that state, and the C call of the form is the rules' call of the state.
 -- Assumes nothing.
-use Prim.Native.Nat.{ℕ}
+use Prim.Native.Nat.{ℕ, _≤_}
 use native.Mathlib.Omega.{arith}
 use mathlib.Core.Path.{_≡_, refl, sym, _∙_, ap}
 use mathlib.Core.Bool.{true}
 use mathlib.Core.List.{List, [], _∷_}
 use borrow.Author.Tests.{eq-eqb}
-use denote.Ref.{RefT}
+use denote.Ref.{RefT, now}
 use Rattle.state.specs.declared.State.{State}
 use Rattle.state.specs.declared.Refusal.{Refusal}
 use Rattle.state.specs.declared.Refusal.the-variants.{Accepted, DictionaryLength, OutputLength, NodeId, NotSound, BadFrame, BadEvent, OutOfPlace}
+use Rattle.state.specs.declared.Refusal.the-variants.{WrongState, FileTooShort, TooManyEntries, FileMisfit, ControlWordEntry, EntryAborted}
 use Rattle.rules_services.specs.Nmt.{bootUp, powerUp, freshState}
 use Rattle.rules_services.specs.PdoTraffic.{works}
-use Rattle.rules.specs.Outcome.{ended, paceFor, transmissions, sentInto}
+use Rattle.rules.specs.Outcome.{ended, paceFor, transmissions, sentInto, mostFrames}
 use Rattle.rules.specs.Sound.{sound}
-use Rattle.rules.specs.Calls.{Call, powerUpCall, frameCall, eventCall, Outcome, does as performs, accepted, answered, answer, refusalNumber}
+use Rattle.rules.specs.Calls.{Call, powerUpCall, frameCall, eventCall, loadCall, Outcome, does as performs, accepted, answered, answer, loadAnswer}
+use Rattle.rules.specs.Calls.{refusalNumber}
 use Rattle.theorems.specs.Promises.{Step, Stand, does, after, allOctets, reached}
 use Rattle.theorems.specs.Promises as Promises
 use Rattle.theorems.proofs.Runs.{run-holds, never-unsound}
 use Rattle.theorems.proofs.Sent.{at-most-six-in-order}
+use Rattle.theorems.proofs.Loaded.{load-sends-nothing}
+use Rattle.calls.proofs.Traces.{any-output}
 use Rattle.form.specs.Form.{stateLength, stateOf, form, isForm}
 use Rattle.form.proofs.Rows.{length-form}
 use Rattle.form.proofs.OneForm.{stateOf-form, isForm-form}
 use Rattle.calls.proofs.Refusals.{well-lent, decides, a-node}
-use Rattle.cendurak.specs.Boundary.{Left, status, stateAfter, isGiven, leftBy, lentAnswer, left}
-use Rattle.cendurak.specs.Traces.{Buffers, MayPowerUp, Hold}
+use Rattle.cendurak.specs.Boundary.{Left, status, stateAfter, isGiven, leftBy, lentAnswer, left, LoadLeft, loadStatus, leftByLoad, lentLoad}
+use Rattle.cendurak.specs.Boundary.{loadLeft}
+use Rattle.cendurak.specs.Traces.{Buffers, MayPowerUp, Hold, ReturnsOf, refusalIn}
 use Rattle.cendurak.proofs.Ways.{as-given, a-form}
+use Rattle.cendurak.proofs.Named.{named-fits}
 use Rattle.cendurak.proofs.Typed.{Kept, kept-typed, fresh-typed, step-kept}
-use Rattle.cendurak.proofs.Traces.{Called, powers, frames, events, Trace, ends, goes, RunInC, runOf}
+use Rattle.cendurak.proofs.Traces.{Called, powers, frames, events, loads, Trace, ends, goes, RunInC, runOf}
 use Rattle.cendurak.proofs.Traces.{TracesAreRunsInC, AnswersInC, PowersUpInC, SoundInC, NeverUnsoundInC}
 
 -- ---- one call
 
-by-contract : {k : Step} {b b′ : Buffers} {number : ℕ} {out : List ℕ} → Called k b number out b′ →
-    left number (b′ .state) (b′ .dictionary) out ≡ lentAnswer (k .call) (b .state) (b .dictionary) (k .output)
+-- what its contract says of what is left
+abbrev Lent : Call → Buffers → List ℕ → ℕ → List ℕ → Buffers → Type 0
+Lent (powerUpCall n) b o number out b′ =
+    left number (b′ .state) (b′ .dictionary) out ≡ lentAnswer (powerUpCall n) (b .state) (b .dictionary) o
+Lent (frameCall i xs) b o number out b′ =
+    left number (b′ .state) (b′ .dictionary) out ≡ lentAnswer (frameCall i xs) (b .state) (b .dictionary) o
+Lent (eventCall i xs) b o number out b′ =
+    left number (b′ .state) (b′ .dictionary) out ≡ lentAnswer (eventCall i xs) (b .state) (b .dictionary) o
+Lent (loadCall f) b o number out b′ = (loadLeft number (b′ .state) (b′ .dictionary) ≡ lentLoad f (b .state) (b .dictionary)) × (out ≡ o)
+
+by-contract : {k : Step} {b b′ : Buffers} {number : ℕ} {out : List ℕ} → Called k b number out b′ → Lent (k .call) b (k .output) number out b′
 by-contract (Called.powers κs state dict out n number state′ dict′ out′ post) = post
 by-contract (Called.frames κs state dict out identifier bytes number state′ dict′ out′ post) = post
 by-contract (Called.events κs state dict out event-number arguments number state′ dict′ out′ post) = post
+by-contract (Called.loads κs state dict file out number state′ dict′ post) = (post, refl)
 
 -- the outcome, with the state in its form
 abbrev leftAs : Outcome → Left
@@ -51,16 +67,36 @@ lent-as c bs d o given stays =
     let x = answer c (stateOf bs) d o in
     rw (given, lentAnswer) (ap (λ (xs : List ℕ). left (status (x .refusal) (x .frames)) xs (x .dictionary) (x .output)) (sym stays))
 
--- what is left, part by part
-record Told (x : Outcome) (number : ℕ) (out : List ℕ) (b : Buffers) : Type 0 where
-  status : number ≡ status (x .refusal) (x .frames)
-  output : out ≡ x .output
-  hold : Hold b (record { state = x .state; dictionary = x .dictionary })
+-- .. and of a load
+load-lent-as : (f bs d : List ℕ) → isGiven (loadCall f) bs ≡ true → form (stateOf bs) ≡ bs →
+    let x = loadAnswer f (stateOf bs) d in lentLoad f bs d ≡ loadLeft (loadStatus (x .refusal) (x .named)) (form (x .state)) (x .dictionary)
+unfolding lentLoad leftByLoad loadAnswer
+load-lent-as f bs d given own =
+    let x = loadAnswer f (stateOf bs) d in
+    rw (given, lentLoad)
+    (ap (λ (xs : List ℕ). loadLeft (loadStatus (x .refusal) (x .named)) xs (x .dictionary)) (sym (as-given (loadCall f) bs d [] own)))
 
-parts : (x : Outcome) (number : ℕ) (out : List ℕ) (b : Buffers) → left number (b .state) (b .dictionary) out ≡ leftAs x → Told x number out b
-parts x number out b e =
+-- the number that a call returns, by the call
+abbrev Numbered : Call → Stand → Outcome → ℕ → Type 0
+Numbered (powerUpCall n) a u number = number ≡ status (u .refusal) (u .frames)
+Numbered (frameCall i xs) a u number = number ≡ status (u .refusal) (u .frames)
+Numbered (eventCall i xs) a u number = number ≡ status (u .refusal) (u .frames)
+Numbered (loadCall f) a u number =
+    let x = loadAnswer f (a .state) (a .dictionary) in number ≡ loadStatus (x .refusal) (x .named)
+
+-- what is left, part by part
+record Told (k : Step) (a : Stand) (number : ℕ) (out : List ℕ) (b : Buffers) : Type 0 where
+  numbered : Numbered (k .call) a (does k a) number
+  output : out ≡ does k a .output
+  hold : Hold b (Promises.left k a)
+
+-- of a call that is lent output, from what is left as one
+as-told : {k : Step} {a : Stand} {number : ℕ} {out : List ℕ} {b : Buffers} →
+    Numbered (k .call) a (does k a) number ≡ (number ≡ status (does k a .refusal) (does k a .frames)) →
+    left number (b .state) (b .dictionary) out ≡ leftAs (does k a) → Told k a number out b
+as-told is e =
     record {
-      status = ap (λ (y : Left). y .status) e;
+      numbered = coe 1 0 (i. is i) (ap (λ (y : Left). y .status) e);
       output = ap (λ (y : Left). y .output) e;
       hold = record { state = ap (λ (y : Left). y .state) e; dictionary = ap (λ (y : Left). y .dictionary) e };
     }
@@ -71,16 +107,51 @@ module _ (a : Stand) (kept : Kept a) where
   is-given c =
       let long = length-form (a .state) (kept-typed a kept) in
       let own = a-form (form (a .state)) long (isForm-form (a .state) (kept-typed a kept)) in
-      elim c [ powerUpCall n ↦ eq-eqb _ stateLength long | frameCall i xs ↦ own | eventCall i xs ↦ own ]
+      elim c [ powerUpCall n ↦ eq-eqb _ stateLength long | frameCall i xs ↦ own | eventCall i xs ↦ own | loadCall f ↦ own ]
 
-  told : {k : Step} {b b′ : Buffers} {number : ℕ} {out : List ℕ} → Hold b a → Called k b number out b′ → Told (does k a) number out b′
-  told {k} {b} {b′} {number} {out} h call =
+  -- by the call's own contract
+  lent-left : (c : Call) (o : List ℕ) {b b′ : Buffers} {number : ℕ} {out : List ℕ} → Hold b a →
+      left number (b′ .state) (b′ .dictionary) out ≡ lentAnswer c (b .state) (b .dictionary) o →
+      left number (b′ .state) (b′ .dictionary) out ≡ leftAs (answer c (a .state) (a .dictionary) o)
+  lent-left c o h post =
       let s = a .state in
       let d = a .dictionary in
       let back = stateOf-form s (kept-typed a kept) in
-      let answered = lent-as (k .call) (form s) d (k .output) (is-given (k .call)) (as-given (k .call) (form s) d (k .output) (ap form back)) in
-      parts (does k a) number out b′
-      (by-contract call ∙ rw (h .state, h .dictionary) answered ∙ ap (λ (t : State). leftAs (answer (k .call) t d (k .output))) back)
+      let answered = lent-as c (form s) d o (is-given c) (as-given c (form s) d o (ap form back)) in
+      post ∙ rw (h .state, h .dictionary) answered ∙ ap (λ (t : State). leftAs (answer c t d o)) back
+
+  load-left : (f : List ℕ) {b b′ : Buffers} {number : ℕ} → Hold b a →
+      loadLeft number (b′ .state) (b′ .dictionary) ≡ lentLoad f (b .state) (b .dictionary) →
+      let x = loadAnswer f (a .state) (a .dictionary) in
+      loadLeft number (b′ .state) (b′ .dictionary) ≡ loadLeft (loadStatus (x .refusal) (x .named)) (form (x .state)) (x .dictionary)
+  load-left f h post =
+      let s = a .state in
+      let d = a .dictionary in
+      let back = stateOf-form s (kept-typed a kept) in
+      let answered = load-lent-as f (form s) d (is-given (loadCall f)) (ap form back) in
+      post ∙ rw (h .state, h .dictionary) answered
+      ∙ ap (λ (t : State). let x = loadAnswer f t d in loadLeft (loadStatus (x .refusal) (x .named)) (form (x .state)) (x .dictionary)) back
+
+  told-by : (c : Call) (o : List ℕ) {b b′ : Buffers} {number : ℕ} {out : List ℕ} → Hold b a → Lent c b o number out b′ →
+      Told (record { call = c; output = o }) a number out b′
+  unfolding loadAnswer
+  told-by (powerUpCall n) o h post = as-told refl (lent-left (powerUpCall n) o h post)
+  told-by (frameCall i xs) o h post = as-told refl (lent-left (frameCall i xs) o h post)
+  told-by (eventCall i xs) o h post = as-told refl (lent-left (eventCall i xs) o h post)
+  told-by (loadCall f) o h post =
+      let e = load-left f h (post .0) in
+      let stays = any-output f (a .state) (a .dictionary) o in
+      record {
+        numbered = ap (λ (y : LoadLeft). y .status) e;
+        output = post .1 ∙ sym (load-sends-nothing f o a .1);
+        hold = record {
+          state = ap (λ (y : LoadLeft). y .state) e ∙ ap (λ (y : Stand). form (y .state)) stays;
+          dictionary = ap (λ (y : LoadLeft). y .dictionary) e ∙ ap (λ (y : Stand). y .dictionary) stays;
+        };
+      }
+
+  told : {k : Step} {b b′ : Buffers} {number : ℕ} {out : List ℕ} → Hold b a → Called k b number out b′ → Told k a number out b′
+  told {k} h call = told-by (k .call) (k .output) h (by-contract call)
 
 -- ---- the power-up
 
@@ -96,13 +167,12 @@ module _ (n : ℕ) (b : Buffers) (o : List ℕ) (may : MayPowerUp n b o) where
   accepts =
       let s = found .state in
       let d = found .dictionary in
-      decides (powerUpCall n) s d o (rw (← (well-lent d o (may .long) (may .room)))) (performs (powerUp n)) (a-node n s d (may .node))
+      decides (powerUpCall n) s d o refl (rw (← (well-lent d o (may .long) (may .room)))) (performs (powerUp n)) (a-node n s d (may .node))
 
-  powered-told : {b′ : Buffers} {number : ℕ} {out : List ℕ} → Called up b number out b′ → Told (does up found) number out b′
+  powered-told : {b′ : Buffers} {number : ℕ} {out : List ℕ} → Called up b number out b′ → Told up found number out b′
   unfolding accepted
-  powered-told {b′} {number} {out} call =
-      parts (does up found) number out b′
-      (by-contract call ∙ lent-as (powerUpCall n) (b .state) (b .dictionary) o (eq-eqb _ stateLength (may .whole)) (rw accepts))
+  powered-told call =
+      as-told refl (by-contract call ∙ lent-as (powerUpCall n) (b .state) (b .dictionary) o (eq-eqb _ stateLength (may .whole)) (rw accepts))
 
   -- a node that is Pre-operational sends no PDO
   boots : (status (does up found .refusal) (does up found .frames) ≡ status Accepted 1) × (does up found .output ≡ sentInto o (bootUp n))
@@ -157,23 +227,27 @@ pub powers-up-in-c : PowersUpInC
 powers-up-in-c c =
     let t = powered-told (c .node) (c .found) (c .output) (c .may) (c .powered) in
     let e = boots (c .node) (c .found) (c .output) (c .may) in
-    (t .status ∙ e .0, t .output ∙ e .1)
+    (t .numbered ∙ e .0, t .output ∙ e .1)
+
+-- the number, taken apart
+returns-of : (c : Call) (a : Stand) (u : Outcome) (number : ℕ) (out : List ℕ) → Numbered c a u number → u .frames ≤ mostFrames → out ≡ u .output →
+    ReturnsOf c a u number out
+returns-of (powerUpCall n) a u number out is few e =
+    record { status = is; refusal = omega (arith, is, few); frames = omega (arith, is, few); output = e }
+returns-of (frameCall i xs) a u number out is few e =
+    record { status = is; refusal = omega (arith, is, few); frames = omega (arith, is, few); output = e }
+returns-of (eventCall i xs) a u number out is few e =
+    record { status = is; refusal = omega (arith, is, few); frames = omega (arith, is, few); output = e }
+returns-of (loadCall f) a u number out is few e =
+    let fits = named-fits f (a .state) (a .dictionary) in
+    (record { status = is; refusal = omega (arith, is, fits); entry = omega (arith, is, fits); code = omega (arith, is, fits) }, e)
 
 pub answers-in-c : AnswersInC
 answers-in-c c k number out b o call =
     let a = reached (runOf c) in
     let t = told a (stands c .kept) (stands c .hold) call in
     let six = at-most-six-in-order (runOf c) k o in
-    let few = six .most in
-    let counted = six .counted in (
-      record {
-        status = t .status;
-        refusal = omega (arith, t .status, few, counted);
-        frames = omega (arith, t .status, few, counted);
-        output = t .output;
-      },
-      t .hold,
-    )
+    (returns-of (k .call) a (does k a) number out (t .numbered) (omega (arith, six .most, six .counted)) (t .output), t .hold)
 
 held-sound : {b : Buffers} {a : Stand} → Stands b a → (isForm (b .state) ≡ true) × (sound (stateOf (b .state)) (b .dictionary) ≡ true)
 held-sound {a = a} h =
@@ -195,10 +269,24 @@ unsound NotSound e = refl
 unsound BadFrame e = absurd (omega arith)
 unsound BadEvent e = absurd (omega arith)
 unsound OutOfPlace e = absurd (omega arith)
+unsound WrongState e = absurd (omega arith)
+unsound FileTooShort e = absurd (omega arith)
+unsound TooManyEntries e = absurd (omega arith)
+unsound FileMisfit e = absurd (omega arith)
+unsound ControlWordEntry e = absurd (omega arith)
+unsound EntryAborted e = absurd (omega arith)
 
 pub never-unsound-in-c : NeverUnsoundInC
-never-unsound-in-c c k number out b o call e =
-    never-unsound (runOf c) k (unsound _ (sym (answers-in-c c k number out b o call .0 .refusal) ∙ e))
+unfolding loadAnswer
+never-unsound-in-c c k number out b o call e = sure (k .call) (k .output) (answers-in-c c k number out b o call .0) e
+  where
+    sure : (x : Call) (output : List ℕ) →
+        ReturnsOf x (reached (runOf c)) (does (record { call = x; output = output }) (reached (runOf c))) number out →
+        refusalIn x number ≡ refusalNumber NotSound → ⊥
+    sure (powerUpCall n) output r e = never-unsound (runOf c) (record { call = powerUpCall n; output = output }) (unsound _ (sym (r .refusal) ∙ e))
+    sure (frameCall i xs) output r e = never-unsound (runOf c) (record { call = frameCall i xs; output = output }) (unsound _ (sym (r .refusal) ∙ e))
+    sure (eventCall i xs) output r e = never-unsound (runOf c) (record { call = eventCall i xs; output = output }) (unsound _ (sym (r .refusal) ∙ e))
+    sure (loadCall f) output r e = never-unsound (runOf c) (record { call = loadCall f; output = [] }) (unsound _ (sym (r .0 .refusal) ∙ e))
 
 -- ---- none of them is true for want of a case: each contract allows an answer to every call, so that any calls make a run
 
@@ -207,7 +295,11 @@ lent bs = record { ptr = (0, 0); name = 0; now = bs }
 
 module _ (b : Buffers) (o : List ℕ) where
   abbrev answerTo : Call → Left
-  answerTo c = lentAnswer c (b .state) (b .dictionary) o
+  answerTo (powerUpCall n) = lentAnswer (powerUpCall n) (b .state) (b .dictionary) o
+  answerTo (frameCall i xs) = lentAnswer (frameCall i xs) (b .state) (b .dictionary) o
+  answerTo (eventCall i xs) = lentAnswer (eventCall i xs) (b .state) (b .dictionary) o
+  answerTo (loadCall f) =
+      let x = lentLoad f (b .state) (b .dictionary) in left (x .status) (x .state) (x .dictionary) o
 
   allowed : (c : Call) →
       Called (record { call = c; output = o }) b (answerTo c .status) (answerTo c .output)
@@ -225,6 +317,10 @@ module _ (b : Buffers) (o : List ℕ) where
       let c = eventCall i xs in
       events ([], ([], ([], ([], tt)))) (lent (b .state)) (lent (b .dictionary)) (lent o) i (lent xs) (answerTo c .status) (lent (answerTo c .state))
       (lent (answerTo c .dictionary)) (lent (answerTo c .output)) refl
+  allowed (loadCall f) =
+      let c = loadCall f in
+      loads ([], ([], ([], tt))) (lent (b .state)) (lent (b .dictionary)) (lent f) o (answerTo c .status) (lent (answerTo c .state))
+      (lent (answerTo c .dictionary)) refl
 
 some-trace : (ks : List Step) (b : Buffers) → (c : Buffers) × Trace b ks c
 some-trace [] b = (b, ends)

@@ -1,12 +1,12 @@
 -- THE NODE IN A FIRMWARE. Its C calls work on two buffers that it keeps, the state's and the dictionary's, and on an output. It calls
--- cendurak_power_up with a node-ID 1 to 127 and buffers of the right lengths, whatever lies in them. From then on it may call the three functions
+-- cendurak_power_up with a node-ID 1 to 127 and buffers of the right lengths, whatever lies in them. From then on it may call the four functions
 -- in any order and with any arguments, good or bad, and with any output, as long as it leaves the two buffers as the calls left them. Then these
 -- calls are a run of the rules: the buffers always hold that run's state and dictionary, and each call returns and sends what the rules say of it
 -- there. So every promise of `theorems` (specs/Promises.antt), which is made of all runs, is kept.
 -- What a call may return and leave is said by its contract as Rattle reads it (`Reads`), and not by a copy.
 -- Here stand the statements alone; their proofs stand in Runs.antt.
 -- Assumes nothing.
-use Prim.Native.Nat.{ℕ, _/_}
+use Prim.Native.Nat.{ℕ}
 use mathlib.Core.Path.{_≡_}
 use mathlib.Core.Bool.{true}
 use mathlib.Core.List.{List, [], _∷_}
@@ -16,14 +16,15 @@ use Rattle.state.specs.declared.Refusal.the-variants.{Accepted, NotSound}
 use Rattle.rules_services.specs.Nmt.{bootUp}
 use Rattle.rules.specs.Outcome.{sentInto}
 use Rattle.rules.specs.Sound.{sound}
-use Rattle.rules.specs.Calls.{powerUpCall, frameCall, eventCall, refusalNumber}
+use Rattle.rules.specs.Calls.{powerUpCall, frameCall, eventCall, loadCall, refusalNumber}
 use Rattle.theorems.specs.Promises.{Step, does, left, octets, allOctets, Run, reached}
 use Rattle.form.specs.Form.{stateOf, isForm}
 use Rattle.cendurak.specs.Boundary.{status}
-use Rattle.cendurak.specs.Traces.{Buffers, MayPowerUp, Hold, Returns}
+use Rattle.cendurak.specs.Traces.{Buffers, MayPowerUp, Hold, ReturnsOf, refusalIn}
 use Rattle.cendurak.proofs.cendurak_power_up.Reads as power-up
 use Rattle.cendurak.proofs.cendurak_frame.Reads as frame
 use Rattle.cendurak.proofs.cendurak_event.Reads as event
+use Rattle.cendurak.proofs.cendurak_load.Reads as load
 
 -- ---- what a firmware does
 
@@ -44,6 +45,10 @@ pub data Called : Step → Buffers → ℕ → List ℕ → Buffers → Type 0 w
       event.Post κs (state, (dict, (out, (event-number, (arguments, tt))))) number (state′, (dict′, (out′, (event-number, (arguments, tt))))) →
       Called (record { call = eventCall event-number (now arguments); output = now out }) (record { state = now state; dictionary = now dict })
       number (now out′) (record { state = now state′; dictionary = now dict′ })
+  loads : (κs : Lfts 3) (state dict file : RefT (List ℕ)) (out : List ℕ) (number : ℕ) (state′ dict′ : RefT (List ℕ)) →
+      load.Post κs (state, (dict, (file, tt))) number (state′, (dict′, (file, tt))) →
+      Called (record { call = loadCall (now file); output = out }) (record { state = now state; dictionary = now dict })
+      number out (record { state = now state′; dictionary = now dict′ })
 
 -- calls one after another, refused ones included: each on the two buffers as the one before left them, with any output
 pub data Trace : Buffers → List Step → Buffers → Type 0 where
@@ -91,7 +96,7 @@ TracesAreRunsInC = (c : RunInC) → Hold (c .buffers) (reached (runOf c))
 -- and a call on them returns what the rules answer there, and leaves what they leave
 abbrev pub AnswersInC : Type 0
 AnswersInC = (c : RunInC) (k : Step) (number : ℕ) (out : List ℕ) (b : Buffers) → octets (k .call) ≡ true → Called k (c .buffers) number out b →
-    Returns (does k (reached (runOf c))) number out × Hold b (left k (reached (runOf c)))
+    ReturnsOf (k .call) (reached (runOf c)) (does k (reached (runOf c))) number out × Hold b (left k (reached (runOf c)))
 
 -- the power-up itself was accepted and sent the boot-up, and nothing else
 abbrev pub PowersUpInC : Type 0
@@ -104,4 +109,4 @@ SoundInC = (c : RunInC) → (isForm (c .buffers .state) ≡ true) × (sound (sta
 -- and no call returns refusal 4
 abbrev pub NeverUnsoundInC : Type 0
 NeverUnsoundInC = (c : RunInC) (k : Step) (number : ℕ) (out : List ℕ) (b : Buffers) → octets (k .call) ≡ true →
-    Called k (c .buffers) number out b → number / 256 ≡ refusalNumber NotSound → ⊥
+    Called k (c .buffers) number out b → refusalIn (k .call) number ≡ refusalNumber NotSound → ⊥

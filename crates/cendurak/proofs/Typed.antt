@@ -245,6 +245,7 @@ served-typed (Serves.alarms l code) b t = t
 served-typed {s = s} {d = d} (Serves.applies run ws before may) b t = applied-typed ws (withTransfer run s) d b t
 served-typed (Serves.holds bs l i on synchronous long legal) b t = t
 served-typed (Serves.releases r) b t = one-by-one-typed r b t
+served-typed (Serves.loads r) b t = one-by-one-typed r b t
 served-typed (Serves.starts h idle) b t = t
 served-typed Serves.leaves b t = t
 served-typed {s = s} Serves.stops b t = enters-typed _ (s .axis .drive) t

@@ -1,4 +1,4 @@
--- Each C call's promise determines everything: any two answers that it allows, with every byte of the three buffers, are the same. It is
+-- Each C call's promise determines everything: any two answers that it allows, with every byte of the buffers, are the same. It is
 -- stated of the contract as Rattle reads it (`Reads`), and not of a copy.
 -- Assumes nothing.
 use Prim.Native.Nat.{ℕ}
@@ -9,7 +9,7 @@ use borrow.Fn.Kinds.{endedOf}
 use contract.Lifetimes.{Lfts}
 use denote.Ref.{now}
 use denote.Triple.Clauses.{AtExit}
-use Rattle.cendurak.specs.Boundary.{Left, left}
+use Rattle.cendurak.specs.Boundary.{Left, left, LoadLeft, loadLeft}
 use Rattle.cendurak.proofs.cendurak_power_up as power-up
 use Rattle.cendurak.proofs.cendurak_power_up.Kinds as power-up-kinds
 use Rattle.cendurak.proofs.cendurak_power_up.Reads as power-up-reads
@@ -19,6 +19,9 @@ use Rattle.cendurak.proofs.cendurak_frame.Reads as frame-reads
 use Rattle.cendurak.proofs.cendurak_event as event
 use Rattle.cendurak.proofs.cendurak_event.Kinds as event-kinds
 use Rattle.cendurak.proofs.cendurak_event.Reads as event-reads
+use Rattle.cendurak.proofs.cendurak_load as load
+use Rattle.cendurak.proofs.cendurak_load.Kinds as load-kinds
+use Rattle.cendurak.proofs.cendurak_load.Reads as load-reads
 
 -- the number and all lent bytes are the same
 abbrev pub Same : ℕ → List ℕ → List ℕ → List ℕ → ℕ → List ℕ → List ℕ → List ℕ → Type 0
@@ -48,3 +51,15 @@ module _ (κs : Lfts 4) (a : ArgsD event.signature κs) where
       Same r (now (x .0)) (now (x .1 .0)) (now (x .1 .1 .0)) r′ (now (x′ .0)) (now (x′ .1 .0)) (now (x′ .1 .1 .0))
   event-unique r r′ x x′ p q =
       same r r′ (now (x .0)) (now (x .1 .0)) (now (x .1 .1 .0)) (now (x′ .0)) (now (x′ .1 .0)) (now (x′ .1 .1 .0)) (p ∙ sym q)
+
+-- a load, by its number and the two buffers
+abbrev pub SameLoad : ℕ → List ℕ → List ℕ → ℕ → List ℕ → List ℕ → Type 0
+SameLoad r s d r′ s′ d′ = (r ≡ r′) × ((s ≡ s′) × (d ≡ d′))
+
+same-load : (r r′ : ℕ) (s d s′ d′ : List ℕ) → loadLeft r s d ≡ loadLeft r′ s′ d′ → SameLoad r s d r′ s′ d′
+same-load r r′ s d s′ d′ e = (ap (λ (x : LoadLeft). x .status) e, (ap (λ (x : LoadLeft). x .state) e, ap (λ (x : LoadLeft). x .dictionary) e))
+
+module _ (κs : Lfts 3) (a : ArgsD load.signature κs) where
+  pub load-unique : (r r′ : ResD load.signature κs) (x x′ : AtExit (endedOf 3 load-kinds.ps load-kinds.r) κs) →
+      load-reads.Post κs a r x → load-reads.Post κs a r′ x′ → SameLoad r (now (x .0)) (now (x .1 .0)) r′ (now (x′ .0)) (now (x′ .1 .0))
+  load-unique r r′ x x′ p q = same-load r r′ (now (x .0)) (now (x .1 .0)) (now (x′ .0)) (now (x′ .1 .0)) (p ∙ sym q)

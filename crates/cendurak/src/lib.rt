@@ -1,12 +1,17 @@
-// The node for C: three exported calls on numbers and lent bytes. The state is lent as bytes of one length (crate form); each call
-// returns the refusal times 256 plus the number of frames. None asks anything of its caller; include/cendurak.h declares them.
+// The node for C: four exported calls on numbers and lent bytes. The state is lent as bytes of one length (crate form); each call
+// returns the refusal times 256 plus the number of frames, a load the refusal, the entry that failed and its abort code. None asks anything of its
+// caller; include/cendurak.h declares them.
 
 mod answering; // the answer as a number
 
+use answering::load_refused;
+use answering::load_told;
 use answering::refused;
 use answering::told;
 use calls::event_in;
 use calls::frame_in;
+use calls::load_in;
+use calls::loadable;
 use calls::opened;
 use calls::power_up_in;
 use calls::powering;
@@ -14,7 +19,7 @@ use form::layout::STATE_LENGTH;
 use state::Refusal;
 ghost use mathlib.Core.Path.{_≡_};
 ghost use Rattle.rules.specs.Calls.{powerUpCall, frameCall, eventCall};
-ghost use Rattle.cendurak.specs.Boundary.{left, lentAnswer};
+ghost use Rattle.cendurak.specs.Boundary.{left, lentAnswer, loadLeft, lentLoad};
 
 // Power-up as node n. The state's bytes may hold anything: they are written, and not read.
 #[no_mangle]
@@ -79,4 +84,19 @@ pub extern "C" fn cendurak_event(
     }
     let given = event_in(state, dict, out, number, arguments);
     told(given)
+}
+
+// The load of a file, which sends nothing: no output is lent.
+#[no_mangle]
+pub extern "C" fn cendurak_load(state: &mut [u8], dict: &mut [u8], file: &[u8]) -> u64
+    ensures { λ r. ⌜ loadLeft r (now (state .exit)) (now (dict .exit))
+        ≡ lentLoad (now (file .entry)) (now (state .entry)) (now (dict .entry)) ⌝ }
+{
+    let opening = loadable(state, dict);
+    if opening.refused {
+        let why = opening.why;
+        return load_refused(why);
+    }
+    let given = load_in(state, dict, file);
+    load_told(given)
 }

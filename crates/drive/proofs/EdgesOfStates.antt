@@ -18,7 +18,8 @@ use Rattle.drive.specs.declared.Drive.{Drive}
 use Rattle.drive.specs.declared.Controlled.{Controlled}
 use Rattle.rules_dictionary.specs.Table.{controlWord}
 use Rattle.rules_dictionary.specs.Values.{write}
-use Rattle.drive.specs.DriveStates.{isNotReady, isEnabled, isQuickStop, isReaction, isFault, isFaulty, command, next, resets, stateWord}
+use Rattle.drive.specs.DriveStates.{isNotReady, isEnabled, isQuickStop, isReaction, isFault, isFaulty, isAtRest, command, next, resets}
+use Rattle.drive.specs.DriveStates.{stateWord}
 use Rattle.drive.specs.SetPoints.{enters, controlWritten, withCause}
 use Rattle.drive.specs.StatusWord.{status}
 use Rattle.drive.proofs.Every.{states, commands}
@@ -123,7 +124,8 @@ fault-reset-written = (refl, refl, refl, refl)
 tests-of-states : (map isNotReady states ≡ true ∷ replicate 7 false) × (map isEnabled states ≡ replicate 4 false ++ true ∷ replicate 3 false)
     × (map isQuickStop states ≡ replicate 5 false ++ true ∷ replicate 2 false) × (map isReaction states ≡ replicate 6 false ++ true ∷ false ∷ [])
     × (map isFault states ≡ replicate 7 false ++ true ∷ []) × (map isFaulty states ≡ replicate 6 false ++ true ∷ true ∷ [])
-tests-of-states = (refl, refl, refl, refl, refl, refl)
+    × (map isAtRest states ≡ true ∷ true ∷ replicate 6 false)
+tests-of-states = (refl, refl, refl, refl, refl, refl, refl)
 
 -- event 3 in Operation enabled: "goes to Fault reaction active", with "cause present"; the store empties and both marks clear
 fault-empties : withCause true (enters FaultReactionActive (drive (Queued (point 1) (other 2)) true true))

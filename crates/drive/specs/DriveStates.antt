@@ -65,6 +65,17 @@ isFault Fault = true
 abbrev pub isFaulty : DriveState → Bool
 isFaulty s = isReaction s || isFault s
 
+-- ticket 6, "with the drive Not ready or Switch on disabled"
+abbrev pub isAtRest : DriveState → Bool
+isAtRest NotReady = true
+isAtRest SwitchOnDisabled = true
+isAtRest ReadyToSwitchOn = false
+isAtRest SwitchedOn = false
+isAtRest OperationEnabled = false
+isAtRest QuickStopActive = false
+isAtRest FaultReactionActive = false
+isAtRest Fault = false
+
 -- ---- the bits of 6040h
 
 abbrev pub switchOnBit : ℕ

@@ -5,6 +5,7 @@ ghost use Prim.Native.Nat.{_/_, _%_, _<_};
 ghost use mathlib.Core.Bool.{_&&_, not};
 ghost use lib.Dec.{eqb};
 ghost use Rattle.drive.specs.DriveStates.{asked, command, next, resets, fromDisabled, fromPowered, fromQuickStop, fromFault, isNotReady};
+ghost use Rattle.drive.specs.DriveStates.{isAtRest};
 ghost use Rattle.drive.specs.DriveStates.{isEnabled, isQuickStop, isReaction, isFaulty, isFaultReset, stateWord};
 use crate::Command;
 use crate::DriveState;
@@ -178,6 +179,22 @@ pub fn is_not_ready(s: DriveState) -> bool
     match s {
         DriveState::NotReady => true,
         DriveState::SwitchOnDisabled => false,
+        DriveState::ReadyToSwitchOn => false,
+        DriveState::SwitchedOn => false,
+        DriveState::OperationEnabled => false,
+        DriveState::QuickStopActive => false,
+        DriveState::FaultReactionActive => false,
+        DriveState::Fault => false,
+    }
+}
+
+// Is the drive in Not ready or Switch on disabled, where a configuration may be loaded.
+pub fn is_at_rest(s: DriveState) -> bool
+    ensures { λ r. ⌜ r ≡ isAtRest s ⌝ }
+{
+    match s {
+        DriveState::NotReady => true,
+        DriveState::SwitchOnDisabled => true,
         DriveState::ReadyToSwitchOn => false,
         DriveState::SwitchedOn => false,
         DriveState::OperationEnabled => false,

@@ -15,6 +15,7 @@ use Rattle.state.specs.declared.Transfer.the-variants.{Uploading, Downloading}
 use Rattle.state.specs.declared.State.{State}
 use Rattle.state.specs.declared.Refusal.{Refusal}
 use Rattle.state.specs.declared.Refusal.the-variants.{Accepted, DictionaryLength, OutputLength, NodeId, NotSound, BadFrame, BadEvent, OutOfPlace}
+use Rattle.state.specs.declared.Refusal.the-variants.{WrongState, FileTooShort, TooManyEntries, FileMisfit, ControlWordEntry, EntryAborted}
 use Rattle.rules_services.specs.Effects.{frame, becomes, withNmt, withTransfer}
 use Rattle.rules.specs.Outcome.{encoded, sentInto, sameMove, samePlan, sameData}
 use Rattle.rules.specs.Calls.{Call, powerUpCall, frameCall, eventCall, framed, answer, refusalNumber}
@@ -24,8 +25,9 @@ use Rattle.rules.proofs.Edges.{state, dictionary, open-edges}
 
 -- ---- the numbers
 
-numbers : map refusalNumber (Accepted ∷ DictionaryLength ∷ OutputLength ∷ NodeId ∷ NotSound ∷ BadFrame ∷ BadEvent ∷ OutOfPlace ∷ [])
-    ≡ 0 ∷ 1 ∷ 2 ∷ 3 ∷ 4 ∷ 5 ∷ 6 ∷ 7 ∷ []
+numbers : map refusalNumber (Accepted ∷ DictionaryLength ∷ OutputLength ∷ NodeId ∷ NotSound ∷ BadFrame ∷ BadEvent ∷ OutOfPlace
+    ∷ WrongState ∷ FileTooShort ∷ TooManyEntries ∷ FileMisfit ∷ ControlWordEntry ∷ EntryAborted ∷ [])
+    ≡ 0 ∷ 1 ∷ 2 ∷ 3 ∷ 4 ∷ 5 ∷ 6 ∷ 7 ∷ 9 ∷ 10 ∷ 11 ∷ 12 ∷ 13 ∷ 14 ∷ []
 numbers = refl
 
 -- the refusal of a call before power-up, with so many bytes of dictionary and output

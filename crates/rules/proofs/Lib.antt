@@ -5,6 +5,7 @@ pub mod EdgesOfSound
 pub mod EdgesOfWaiting
 pub mod EdgesOfCalls
 pub mod EdgesOfWindow
+pub mod EdgesOfLoad
 pub mod PowerUp
 pub mod AtEnd
 pub mod Encoded

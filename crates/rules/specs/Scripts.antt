@@ -24,6 +24,8 @@ use Rattle.rules_services.specs.SdoServer.{open-sdo-server}
 use Rattle.rules_services.specs.PdoTraffic.{open-pdo-traffic}
 use Rattle.rules_services.specs.Nmt.{freshState, open-nmt}
 use Rattle.rules_services.specs.Events.{open-events}
+use Rattle.files.specs.ConciseDcf.{open-concise-dcf}
+use Rattle.rules_services.specs.Load.{open-load}
 use Rattle.rules.specs.Outcome.{sentInto, sameBy, open-outcome}
 use Rattle.rules.specs.Sound.{open-sound}
 use Rattle.rules.specs.Calls.{Call, Outcome, answer, refusalNumber, outputLength, open-calls}
@@ -76,6 +78,6 @@ fromNothing ls = givenBy answer ls
 -- opens every definition of the rules, where a proof computes
 unfoldable pub open-rules : Unit {0}
 unfolding open-numbers open-table open-values open-aborts open-legal open-plans open-drive-states open-set-points open-status-word
-    open-effects open-emergency open-written open-sdo open-segments open-sdo-server open-pdo-traffic open-nmt open-events
+    open-effects open-emergency open-written open-sdo open-segments open-sdo-server open-pdo-traffic open-nmt open-events open-concise-dcf open-load
     open-outcome open-sound open-calls matches runs nothing givenBy fromNothing
 open-rules = tt

@@ -8,4 +8,5 @@ pub mod EdgesOfTransfers
 pub mod EdgesOfPdos
 pub mod EdgesOfNmt
 pub mod EdgesOfEvents
+pub mod EdgesOfLoad
 pub mod Tempting

@@ -25,6 +25,7 @@ use Rattle.rules_services.specs.SdoServer.{open-sdo-server}
 use Rattle.rules_services.specs.PdoTraffic.{open-pdo-traffic}
 use Rattle.rules_services.specs.Nmt.{freshState, open-nmt}
 use Rattle.rules_services.specs.Events.{open-events}
+use Rattle.rules_services.specs.Load.{open-load}
 
 unfoldable pub fresh : List ℕ
 fresh = packedDefaults 5 table
@@ -56,5 +57,5 @@ after d e x = read (stored (e .writes) d) x
 unfoldable pub open-edges : Unit {0}
 unfolding fresh node preOperational operational stopped after packedDefaults open-numbers open-table open-values open-aborts open-legal open-plans
     open-drive-states open-set-points open-status-word open-effects open-emergency open-written open-sdo open-segments
-    open-sdo-server open-pdo-traffic open-nmt open-events
+    open-sdo-server open-pdo-traffic open-nmt open-events open-load
 open-edges = tt

@@ -7,3 +7,4 @@ pub mod SdoServer
 pub mod PdoTraffic
 pub mod Nmt
 pub mod Events
+pub mod Load

@@ -73,13 +73,13 @@ expedited-offers rq = λ i x. offered-at rq x i
 -- ---- the verdict
 
 -- over an entry it is the one over its row
-offer-of-row : (b : Brought) (nmt : NmtState) (d : List ℕ) (x : Row) →
+pub offer-of-row : (b : Brought) (nmt : NmtState) (d : List ℕ) (x : Row) →
     offerVerdictOf nmt d (entryOf x) (offeredBy b (entryOf x .size)) ≡ sdo.offerVerdict nmt d (offering b x)
 unfolding offerVerdictOf sdo.offerVerdict valueVerdictOf roleVerdict valueVerdict firstOf
 offer-of-row b nmt d x = refl
 
 -- a good one is of a writable entry
-good-writable : (b : Bool) (ts : List Test) (v : Verdict) → firstOf (test (not b) noWriting ∷ ts) v ≡ good → b ≡ true
+pub good-writable : (b : Bool) (ts : List Test) (v : Verdict) → firstOf (test (not b) noWriting ∷ ts) v ≡ good → b ≡ true
 unfolding firstOf
 good-writable true ts v h = refl
 good-writable false ts v h = cc
@@ -132,15 +132,15 @@ module _ (content o bs d : List ℕ) (b : Brought) {e : Entry} (st : Stands (sdo
 -- ---- a value stored and acted on
 
 -- a test by place is the test by index and subindex
-isAt : Row → Row → Bool
+unfoldable pub isAt : Row → Row → Bool
 isAt y x = Bool·beq (wrote y (write x 0 ∷ [])) (eqb (placeOf x) (placeOf y))
 
-wrote-at : (y : Row) → all (isAt y) table ≡ true → {x : Row} → In x table → (v : ℕ) → wrote y (write x v ∷ []) ≡ eqb (placeOf x) (placeOf y)
+pub wrote-at : (y : Row) → all (isAt y) table ≡ true → {x : Row} → In x table → (v : ℕ) → wrote y (write x v ∷ []) ≡ eqb (placeOf x) (placeOf y)
 unfolding isAt
 wrote-at y test i v = same-test _ _ (all-in (isAt y) i test)
 
 -- a writable row is not mapped to transmit
-unsent : {x : Row} → In x table → isWritable (x .access) ≡ true → suits transmit (x .mappable) ≡ false
+pub unsent : {x : Row} → In x table → isWritable (x .access) ≡ true → suits transmit (x .mappable) ≡ false
 unfolding open-table
 unsent {x} i h =
     go (isWritable (x .access)) (suits transmit (x .mappable)) h

@@ -39,7 +39,7 @@ use output::FRAME_LENGTH;
 use rules_dictionary::Role;
 
 // Whether an entry is of a PDO's mapping.
-fn is_mapping(role: Role) -> bool
+pub fn is_mapping(role: Role) -> bool
     ensures { λ r. ⌜ r ≡ isMapping role ⌝ }
 {
     match role {

@@ -1,6 +1,6 @@
 // Document 01, 'SDO', and ticket 1: the server, expedited and by segments.
 
-mod aborts; // the abort codes
+pub mod aborts; // the abort codes
 mod identifiers; // what the identifier of a PDO may be
 mod mappings; // what the mapping of a PDO may be
 mod values; // what value an entry may hold
@@ -14,17 +14,20 @@ mod name_segments; // the device name, read by segments
 mod receipts; // a download by segments
 mod server; // requests by command
 
+pub use downloads::is_mapping;
+pub use offers::offer_verdict;
+pub use offers::offered;
 pub use server::serve;
 
 // What a download brings, whatever the object: how many bytes, where it tells that, and the first four of them.
-struct Brought {
-    told: bool,
-    count: u8,
-    bytes: [u8; 4],
+pub struct Brought {
+    pub told: bool,
+    pub count: u8,
+    pub bytes: [u8; 4],
 }
 
 // What it offers an entry: how many bytes, and the value of as many as the entry has.
-struct Offer {
-    size: u8,
-    value: u32,
+pub struct Offer {
+    pub size: u8,
+    pub value: u32,
 }

@@ -145,6 +145,12 @@ pub enum Refusal {
     BadFrame,
     BadEvent,
     OutOfPlace,
+    WrongState,
+    FileTooShort,
+    TooManyEntries,
+    FileMisfit,
+    ControlWordEntry,
+    EntryAborted,
 }
 
 // What a call answers, beside the lent bytes.

@@ -107,7 +107,7 @@ module _ (a : Stand) (h : Rests a) where
   drive-rests = unticked Plain (a .dictionary) (a .state .axis .drive) refl (clauses (a .state) (a .dictionary) (h .at .sound) .stay)
 
   -- no ready frame changed: nothing is sent, and what is kept of each transmit PDO stays
-  paces-rest : (t : Transfer) →
+  pub paces-rest : (t : Transfer) →
       let d = a .dictionary in
       let paces = paceFor (a .state) (withTransfer t (a .state)) Plain d (readyOf d) in
       (transmissions d (readyOf d) paces transmitters ≡ []) × (map (λ t. paces t .kept) transmitters ≡ a .state .axis .paces)

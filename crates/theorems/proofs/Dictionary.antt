@@ -463,7 +463,7 @@ module _ (d d′ : List ℕ) (alike : (y : Row) → In y table → isPdo (y .rol
   pub type-alike : {p : ℕ} → In p pdos → typeOf d′ p ≡ typeOf d p
   type-alike {p} i = alike (transmissionType p) (type-in i) refl
 
-  other-alike : (v : ℕ) (r : Role) → otherBadValue d′ r v ≡ otherBadValue d r v
+  pub other-alike : (v : ℕ) (r : Role) → otherBadValue d′ r v ≡ otherBadValue d r v
   unfolding otherBadValue
   other-alike v Plain = refl
   other-alike v ModeOfOperation = refl
@@ -474,7 +474,7 @@ module _ (d d′ : List ℕ) (alike : (y : Row) → In y table → isPdo (y .rol
   other-alike v (MappingCount p) = refl
   other-alike v (MappingEntry p) = refl
 
-  mapping-alike : {x : Row} → In x table → (v : ℕ) (r : Role) → x .role ≡ r → mappingVerdict d′ r v ≡ mappingVerdict d r v
+  pub mapping-alike : {x : Row} → In x table → (v : ℕ) (r : Role) → x .role ≡ r → mappingVerdict d′ r v ≡ mappingVerdict d r v
   unfolding mappingVerdict
   mapping-alike i v Plain e = refl
   mapping-alike i v ModeOfOperation e = refl

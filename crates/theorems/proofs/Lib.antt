@@ -10,6 +10,7 @@ pub mod Writes
 pub mod NmtKept
 pub mod SdoKept
 pub mod PdoKept
+pub mod Entries
 pub mod Receipts
 pub mod Services
 pub mod Decisions
@@ -30,7 +31,11 @@ pub mod Occasions
 pub mod Ticks
 pub mod Window
 pub mod Limits
+pub mod Alike
+pub mod Loads
+pub mod Loaded
 pub mod Telling
 pub mod TellingOfSegments
 pub mod TellingOfWindow
 pub mod TellingOfLimits
+pub mod TellingOfLoad

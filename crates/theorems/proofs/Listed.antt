@@ -8,7 +8,7 @@ use Rattle.theorems.proofs.Words.{DriveState, Command, Drive, State, In
 use Rattle.theorems.proofs.Words.{SetPointReached, Tick, CauseGone, Feedback, Voltage, SdoCommand, Download, Upload, ClientAbort, Unknown}
 use Rattle.theorems.proofs.Words.{isStopped, isOperational, isPreOperational, on-ways, all-in, and-left, and-right, found-in, in-left, either}
 use Rattle.theorems.proofs.Words.{by-test, by-match, both-by-test, both-by-match, whichever, same-test, clash, not-true, Transfer, NoTransfer}
-use Rattle.theorems.proofs.Words.{Uploading, Downloading, DownloadBySegments, DownloadSegment, UploadSegment}
+use Rattle.theorems.proofs.Words.{Uploading, Downloading, DownloadBySegments, DownloadSegment, UploadSegment, or-false-left, or-false-right}
 use Rattle.theorems.proofs.Dictionary.{DictionaryOk, isPdo, mapped-alike}
 use Rattle.theorems.proofs.Writes.{InTable, one-row, not-wrote, no-pdo-alike}
 use Rattle.theorems.proofs.Mapped.{QuietRow, received-row}
@@ -16,6 +16,9 @@ use Rattle.theorems.proofs.PdoKept.{unpacked-rows, unpacked-same}
 use Rattle.theorems.proofs.{Settled.control-in, Settled.register-in, DriveKept.emptied-same, DriveKept.rule-same, Lawful.Lawful}
 use Rattle.theorems.proofs.{Lawful.sound-lawful, Services.applied-all, Demands.one-listener, Sent.control-state, Sent.found-by}
 use Rattle.theorems.proofs.Decisions.{Decided, isGiven}
+use Rattle.theorems.proofs.Entries.{Entries, entry-applied}
+use Rattle.files.specs.ConciseDcf.{Entry}
+use Rattle.rules_services.specs.Load.{isForControlWord, namesControlWord}
 use Rattle.rules_dictionary.specs.Table.{Row, table, receivePdos, transmitPdos, pdos, errorRegister, controlWord, heartbeatTime, isReset, Found}
 use Rattle.rules_dictionary.specs.Table.{found, noObject, noSubindex, theName}
 use Rattle.rules_dictionary.specs.Values.{Write, write, read, stored, unpacked, toDefaults}
@@ -38,7 +41,7 @@ use Rattle.rules_services.specs.Segments.{acknowledged, concluded, continued, s
 use Rattle.rules_services.specs.SdoServer.{uploads, asked, sdo}
 use Rattle.rules.specs.Calls.{Call, Decision, refuses, does as performs, framed}
 use Rattle.theorems.specs.Promises.{rowsOf, andSettled, toFound, bySdo, appliesAtOnce, byPdo, heldFor, bySync, applies, isClearable, asksReset}
-use Rattle.theorems.specs.Promises.{written, byCommand, byNmt, byFrame, byEvent, byTold, mayChange, bySegment, commandIn}
+use Rattle.theorems.specs.Promises.{written, byCommand, byNmt, byFrame, byEvent, byTold, mayChange, bySegment, commandIn, byEntries}
 
 -- ---- a fault reset
 
@@ -374,6 +377,14 @@ event-rows (Fault code register) s d = refl
 event-rows (Feedback at speed) s d = refl
 event-rows (Voltage b) s d = refl
 
+-- a load: its entries' rows
+entries-rows : {s : State} {d : List ℕ} {es : List Entry} {e : Effect} → Entries s d es e → namesControlWord es ≡ false → RowsAre e (byEntries es)
+unfolding andThen
+entries-rows Entries.none h = refl
+entries-rows {s = s} {d = d} (Entries.next x r {es} {e} q v rest) h =
+    rw (q, ap (λ (a : Effect). a .writes) (entry-applied x s d q (or-false-left (isForControlWord x) _ h)))
+    (ap (λ (ys : List Row). r ∷ ys) (entries-rows rest (or-false-right (isForControlWord x) _ h)))
+
 -- ---- the calls
 
 -- a refusal, or an effect whose rows are those of the list
@@ -388,3 +399,4 @@ lists (Decided.refusing r given why) = given
 lists (Decided.powering n legal l) = rw legal (ap andSettled (sym (defaults-rows n table)))
 lists {s} {d} (Decided.framing i bs l h) = ap andSettled (sym (framed-rows i bs s d (sound-lawful s d l h)))
 lists {s} {d} (Decided.happening k xs e q placed l h) = ap byTold q ∙ ap andSettled (sym (event-rows e s d))
+lists (Decided.loading f e served none taken l h) = ap andSettled (sym (entries-rows taken none))

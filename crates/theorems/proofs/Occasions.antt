@@ -6,6 +6,9 @@ use Rattle.theorems.proofs.Words.{DownloadSegment, Upload, UploadSegmen
 use Rattle.theorems.proofs.Words.{SetPointReached, Tick, CauseGone, Feedback, Voltage, isStopped, isOperational, isPreOperational, by-match}
 use Rattle.theorems.proofs.Words.{whichever, clash, Happened, _∙_}
 use Rattle.theorems.proofs.Decisions.{Decided}
+use Rattle.theorems.proofs.Entries.{Entries, entryWrite}
+use Rattle.rules_services.specs.Effects.{andThen}
+use Rattle.files.specs.ConciseDcf.{Entry}
 use Rattle.rules_dictionary.specs.Table.{Row, Found, found, theName, noObject, noSubindex, controlWord, receivePdos}
 use Rattle.rules_dictionary.specs.Values.{Write, read, stored, unpacked}
 use Rattle.rules_dictionary.specs.Aborts.{Verdict, good, bad}
@@ -137,6 +140,11 @@ module _ (s : State) (d : List ℕ) where
   event-ticks (Feedback at speed) h = h
   event-ticks (Voltage b) h = h
 
+pub entries-no-tick : {s : State} {d : List ℕ} {es : List Entry} {e : Effect} → Entries s d es e → NoTick e
+unfolding andThen
+entries-no-tick Entries.none = refl
+entries-no-tick {s = s} {d = d} (Entries.next x r q v rest) = applied-no-tick (entryWrite x r ∷ []) s d
+
 -- THE LAW
 abbrev pub TicksOnly : Call → Decision → Type 0
 TicksOnly c (refuses r) = Unit
@@ -148,3 +156,4 @@ ticks-only (Decided.refusing r given why) = tt
 ticks-only (Decided.powering n legal l) = λ h. h
 ticks-only {s} {d} (Decided.framing i bs l h) = λ k. clash (isTicked (framed i bs s d .occasion)) k (framed-no-tick s d i bs)
 ticks-only {s} {d} (Decided.happening k xs e q placed l h) = λ t. ap isTick q ∙ event-ticks s d e t
+ticks-only (Decided.loading f e served none taken l h) = λ t. clash (isTicked (e .occasion)) t (entries-no-tick taken)

@@ -8,7 +8,7 @@ use Rattle.theorems.proofs.Words.{PreOperational, here, there, isStoppe
 use Rattle.theorems.proofs.Words.{eq-eqb, le-leb, ltb-true, eqb, leb, length, getD, drop, Stopped, NoTransfer, State, Refusal, Accepted}
 use Rattle.theorems.proofs.Words.{NotSound, Event, Started, QuickStopDone, ReactionDone, SetPointReached, Tick, CauseGone, Feedback, Voltage}
 use Rattle.theorems.proofs.Words.{Told, Happened, Bad, and-left, and-right, stored-bytes, store-bytes, length-stored, all-drop, clash}
-use Rattle.theorems.proofs.Words.{or-either, not-true, value-take}
+use Rattle.theorems.proofs.Words.{or-either, not-true, value-take, none-in, part-bytes}
 use Rattle.theorems.proofs.Settled.{settled-length, status-fits, mode-fits, settled-status, settled-display, settled-motion, status-same}
 use Rattle.theorems.proofs.Settled.{inside-same}
 use Rattle.theorems.proofs.Lawful.{Lawful, finally, sound-lawful, drive-lawful, node-lawful, at-end-lawful, paced-sound, same-refl, plan-refl}
@@ -16,8 +16,13 @@ use Rattle.theorems.proofs.Lawful.{data-refl, clauses, transfer-lawful,
 use Rattle.theorems.proofs.NmtKept.{LawfulAfter, fresh-lawful, start-lawful, left-lawful, disabled-lawful, reset-lawful, status-row}
 use Rattle.theorems.proofs.NmtKept.{display-row, ArgumentsFit, enters-lawful, gone-lawful, fault-lawful, plain-lawful, position-row}
 use Rattle.theorems.proofs.NmtKept.{velocity-row}
-use Rattle.theorems.proofs.{Dictionary.to-test, DriveKept.reached-sound, Writes.stored-append, Writes.applied-lawful, PdoKept.held-lawful}
-use Rattle.theorems.proofs.{PdoKept.new-held, Services.Serves, Services.OneByOne, Services.follow-lawful, Services.framed-serves, Services.event-serves}
+use Rattle.theorems.proofs.{Dictionary.to-test, DriveKept.reached-sound, Writes.stored-append, Writes.applied-lawful, Writes.in-cons}
+use Rattle.theorems.proofs.{PdoKept.held-lawful}
+use Rattle.theorems.proofs.{PdoKept.new-held, Services.Serves, Services.OneByOne, Services.follow-lawful, Services.framed-serves}
+use Rattle.theorems.proofs.{Services.event-serves}
+use Rattle.theorems.proofs.{Services.entries-serve}
+use Rattle.files.specs.ConciseDcf.{Entry, Reading, misfit, whole, inFront, reading, entriesOf, entriesIn, entryAt, entrySize, sizeAt, headSize}
+use Rattle.files.specs.ConciseDcf.{isThere, countIn, countSize, indexSize, subindexSize}
 use Rattle.drive.specs.SetPoints.{movedOn}
 use Rattle.rules_services.specs.{Effects.Effect, Effects.andThen, Effects.withHeld, Effects.withTransfer, Written.applied, Nmt.commanded}
 use Rattle.rules_services.specs.{Nmt.voltageDisabled, declared.Event.the-variants.Fault, Events.eventOf, Events.provided}
@@ -125,6 +130,7 @@ lawful {s = s} {d = d} (Serves.applies t ws before may) k b law =
 lawful {s = s} {d = d} (Serves.holds bs l i on synchronous long legal) k b law =
     held-lawful s d _ law i (new-held (s .node .id) d bs (s .node .nmt) (law .dictionary) i on synchronous long legal)
 lawful (Serves.releases r) k b law = one-by-one-lawful r k law
+lawful (Serves.loads r) k b law = one-by-one-lawful r k law
 lawful {s = s} {d = d} (Serves.starts h idle) k b law = start-lawful s d (law .long) h idle
 lawful {s = s} {d = d} Serves.leaves k b law = left-lawful s d PreOperational law
 lawful {s = s} {d = d} Serves.stops k b law =
@@ -178,6 +184,37 @@ arguments-fit k xs h =
     (whichever ToldFits (eqb k 8) (told bare CauseGone tt)
     (whichever ToldFits (eqb k 9) (told (eqb (length xs) 1 && leb (getD xs 0 0) 1) (Voltage (eqb (getD xs 0 0) 1)) tt) tt))))))))
 
+-- ---- the bytes of a file's entries
+
+pub record OfBytes (x : Entry) : Type 0 where
+  pub index : x .index < 256 ^ indexSize
+  pub subindex : x .subindex < 256
+  pub content : areBytes (x .content) ≡ true
+
+front-octets : (bs : List ℕ) → areBytes bs ≡ true → OfBytes (entryAt bs)
+front-octets bs h =
+    record {
+      index = value-take indexSize bs h;
+      subindex = value-take subindexSize (drop indexSize bs) (all-drop indexSize bs h);
+      content = part-bytes headSize (sizeAt bs) bs h;
+    }
+
+reading-octets : (n : ℕ) (bs : List ℕ) → areBytes bs ≡ true → (x : Entry) → In x (entriesOf (reading n bs)) → OfBytes x
+unfolding reading
+reading-octets zero [] h x i = absurd (none-in i)
+reading-octets zero (b ∷ bs) h x i = absurd (none-in i)
+reading-octets (suc n) bs h x i =
+    whichever (λ (r : Reading). In x (entriesOf r) → OfBytes x) (isThere bs)
+    (in-front (reading n (drop (entrySize bs) bs)) (reading-octets n (drop (entrySize bs) bs) (all-drop (entrySize bs) bs h) x))
+    (λ j. absurd (none-in j)) i
+  where
+    in-front : (r : Reading) → (In x (entriesOf r) → OfBytes x) → In x (entriesOf (inFront (entryAt bs) r)) → OfBytes x
+    in-front misfit k j = absurd (none-in j)
+    in-front (whole es) k j = elim (in-cons j) [ inl e ↦ subst OfBytes (sym e) (front-octets bs h) | inr l ↦ k l ]
+
+pub entries-octets : (f : List ℕ) → areBytes f ≡ true → (x : Entry) → In x (entriesIn f) → OfBytes x
+entries-octets f h = reading-octets (countIn f) (drop countSize f) (all-drop countSize f h)
+
 -- ---- what a call decides on: a refusal, power-up, or a service of a sound state
 
 -- what is known of the call's data, and of the bytes that came before it
@@ -198,6 +235,8 @@ decides-by {s} {d} (Decided.framing i bs l h) =
 decides-by {s} {d} (Decided.happening k xs e q placed l h) =
     serves (sound-lawful s d l h)
     (event-serves (Known (eventCall k xs) s) s d e (λ b. placed) (λ b. subst ToldFits q (arguments-fit k xs (b .0))))
+decides-by {s} {d} (Decided.loading f e served none taken l h) =
+    serves (sound-lawful s d l h) (Serves.loads (entries-serve taken (λ k x i. entries-octets f (k .0) x i .content)))
 
 pub decides : (s : State) (d : List ℕ) (c : Call) (o : List ℕ) → Decides s d c (decided c s d o)
 decides s d c o = decides-by (decided-by s d c o)

@@ -83,7 +83,8 @@ nothing-before-the-last r rq o before =
 abbrev refusalOf : Row → ℕ → Abort
 refusalOf x n = cond (not (isWritable (x .access))) noWriting (cond (ltb (sizeOf x) n) tooLong tooShort)
 
-wrong-size : (nmt : NmtState) (d : List ℕ) (t : Offer) → (t .size ≡ sizeOf (t .row) → ⊥) → offerVerdict nmt d t ≡ bad (refusalOf (t .row) (t .size))
+pub wrong-size : (nmt : NmtState) (d : List ℕ) (t : Offer) → (t .size ≡ sizeOf (t .row) → ⊥) →
+    offerVerdict nmt d t ≡ bad (refusalOf (t .row) (t .size))
 unfolding offerVerdict firstOf
 wrong-size nmt d t other =
     elim (either (not (isWritable (t .row .access)))) [

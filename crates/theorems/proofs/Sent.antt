@@ -53,7 +53,7 @@ laid-out (f ∷ fs) o =
 abbrev pub ofBytes : Frame → Bool
 ofBytes f = areBytes (f .content) && leb (length (f .content)) mostData
 
-all-append : {A : Type 0} (f : A → Bool) (xs ys : List A) → all f xs ≡ true → all f ys ≡ true → all f (xs ++ ys) ≡ true
+pub all-append : {A : Type 0} (f : A → Bool) (xs ys : List A) → all f xs ≡ true → all f ys ≡ true → all f (xs ++ ys) ≡ true
 all-append f xs ys h k = rw (all-both f xs ys, h, k)
 
 pub padded-bytes : (k : ℕ) (xs : List ℕ) → areBytes xs ≡ true → areBytes (padded 0 k xs) ≡ true
@@ -356,6 +356,9 @@ module _ {K : Type 0} {s : State} {d : List ℕ} (k : K) (b : areBytes d ≡ tru
       (c .id, behind before (applied ws (withTransfer t s) d .sent) (c .alarms) (c .coded))
   speaks (Serves.holds bs w i on synchronous long legal) = (refl, behind (Before.warned w) [] (none-on (emergencyBase + s .node .id) 1) refl)
   speaks (Serves.releases {e} r) =
+      let c = one-by-one-calm r b l in
+      (c .id, alone (s .node .id) (e .sent) (c .alarms))
+  speaks (Serves.loads {e} r) =
       let c = one-by-one-calm r b l in
       (c .id, alone (s .node .id) (e .sent) (c .alarms))
   speaks (Serves.starts h idle) = (refl, silent (s .node .id))

@@ -242,6 +242,7 @@ passes (Serves.alarms l code) k law = stays
 passes {s = s} {d = d} (Serves.applies t ws before may) k law = applied-passes ws (withTransfer t s) d (law .long) (may k law .fit)
 passes (Serves.holds bs l i on synchronous long legal) k law = stays
 passes (Serves.releases r) k law = one-by-one-pass r k law
+passes (Serves.loads r) k law = one-by-one-pass r k law
 passes (Serves.starts q idle) k law = stays
 passes Serves.leaves k law = stays
 passes {s = s} Serves.stops k law = enters-passes _ (s .axis .drive)
@@ -298,6 +299,7 @@ module _ (s : State) (d o : List ℕ) where
   six-passes (Decided.powering n legal l) six = absurd (false≢true six)
   six-passes (Decided.framing i bs l h) six = absurd (false≢true six)
   six-passes (Decided.happening k xs e q placed l h) six = rw six (event-passes e (rw q at six) placed)
+  six-passes (Decided.loading f e served none taken l h) six = absurd (false≢true six)
 
 step-passes : (k : Step) (a : Stand) → octets (k .call) ≡ true → Holds a →
     PassesAs (cond (isAccepted (decidedAt k a) && tellsReached (k .call)) 1 0) (a .state) (a .dictionary) (k .output) (decidedAt k a)

@@ -19,7 +19,7 @@ use Rattle.rules_services.specs.PdoTraffic.{listens, mappedLength, noData, work
 use Rattle.rules_services.specs.Nmt.{stateByte}
 use Rattle.rules_services.specs.Segments.{objectIn, bytesIn}
 use Rattle.rules.specs.Outcome.{statusOf, sameBy, samePlan, sameData, encoded, frameSize, sentInto}
-use Rattle.rules.specs.Calls.{Call, powerUpCall, frameCall, eventCall, Outcome, refusalNumber, answer}
+use Rattle.rules.specs.Calls.{Call, powerUpCall, frameCall, eventCall, loadCall, Outcome, refusalNumber, answer}
 use Rattle.rules.specs.Sound.{sound}
 use Rattle.rules.specs.Scripts.{blank, nothing, zeros, open-rules, Answers, givenBy}
 use Rattle.rules.specs.Examples.{request, nmt, reply, example4, open-examples}
@@ -81,7 +81,7 @@ unfolding open-rules open-promises
 bytes-of-boot-up = refl
 
 -- ---- NothingStale: 6041h after the drive has started
-abbrev isFresh : Stand → Bool
+abbrev pub isFresh : Stand → Bool
 isFresh a =
     eqb (read (a .dictionary) statusWord) (statusOf (a .state) (a .dictionary)) && sameBy samePlan (a .state .axis .plans) (plansOf (a .dictionary))
 
@@ -581,11 +581,12 @@ doing-nothing-falls : SendsAlways (nodeWith Accepted) 0 × (keepsExamples (nodeW
 unfolding open-rules open-examples
 doing-nothing-falls = (λ c s d o. refl, refl)
 
--- it is the node after power-up, and idle then
+-- it is the node after power-up, and idle then, but that it loads files
 abbrev idleNode : Answers
 idleNode (powerUpCall n) s d o = answer (powerUpCall n) s d o
 idleNode (frameCall i bs) s d o = nodeWith Accepted (frameCall i bs) s d o
 idleNode (eventCall k xs) s d o = nodeWith Accepted (eventCall k xs) s d o
+idleNode (loadCall f) s d o = answer (loadCall f) s d o
 
 idle-falls : SendsNothingLater idleNode × ChangesNothingLater idleNode × (keepsExamples idleNode ≡ false)
 unfolding open-rules open-examples
@@ -595,11 +596,13 @@ idle-falls = (quiet, still, refl)
     quiet (powerUpCall n) s d o h = absurd (false≢true h)
     quiet (frameCall i bs) s d o h = refl
     quiet (eventCall k xs) s d o h = refl
+    quiet (loadCall f) s d o h = absurd (false≢true h)
 
     still : ChangesNothingLater idleNode
     still (powerUpCall n) s d o h = absurd (false≢true h)
     still (frameCall i bs) s d o h = refl
     still (eventCall k xs) s d o h = refl
+    still (loadCall f) s d o h = absurd (false≢true h)
 
 -- it is the node, and answers each frame as if 6040h had been written: right up to the upload of example 4
 abbrev constantReply : List Frame
@@ -611,6 +614,7 @@ replyingNode (frameCall i bs) s d o =
     let u = answer (frameCall i bs) s d o in
     record { refusal = u .refusal; frames = 1; state = u .state; dictionary = u .dictionary; output = sentInto o constantReply }
 replyingNode (eventCall k xs) s d o = answer (eventCall k xs) s d o
+replyingNode (loadCall f) s d o = answer (loadCall f) s d o
 
 replying-falls : RepliesAlike replyingNode constantReply × (givenBy replyingNode example4 ≡ false)
 unfolding open-rules open-examples

@@ -36,7 +36,7 @@ abbrev noneMore : List ℕ
 noneMore = carries 0x0E 0x00
 
 -- the upload of the device name begins; `askSegment` asks with toggle 0, this one with toggle 1
-abbrev askName : List ℕ
+abbrev pub askName : List ℕ
 askName = 0x40 ∷ 0x08 ∷ 0x10 ∷ 0x00 ∷ 0x00 ∷ 0x00 ∷ 0x00 ∷ 0x00 ∷ []
 
 abbrev askOther : List ℕ
@@ -50,14 +50,14 @@ abbrev uploading : Stand
 uploading = ran (request askName ∷ [])
 
 -- ---- EndsTransfers: what runs after each call, as the list has it and as the call leaves it
-abbrev turnsTo : List ℕ → Call → Stand → Bool
+abbrev pub turnsTo : List ℕ → Call → Stand → Bool
 turnsTo t c a = sameBy eqb (transferNumbers (afterCall c (a .state))) t && sameBy eqb (transferNumbers (left (step c) a .state .transfer)) t
 
 -- nothing runs
 abbrev ends : Call → Stand → Bool
 ends c a = turnsTo (0 ∷ []) c a
 
-abbrev stays : Call → Stand → Bool
+abbrev pub stays : Call → Stand → Bool
 stays c a = turnsTo (transferNumbers (a .state .transfer)) c a
 
 -- 01h, 80h, 82h for another node, SYNC, a tick, a fault, a request of seven bytes and one to another node leave a download

@@ -8,6 +8,8 @@ use Rattle.theorems.proofs.Words.{isOperational, isPreOperational, and-
 use Rattle.theorems.proofs.Words.{and-false-if, true≢false}
 use Rattle.theorems.proofs.Receipts.{MayRun, next-runs, begun-runs, carried-runs, turned-runs, request-object, nothing-runs, name-runs}
 use Rattle.theorems.proofs.Decisions.{Decided, decided-by, isGiven}
+use Rattle.theorems.proofs.Entries.{Entries, entryWrite}
+use Rattle.files.specs.ConciseDcf.{Entry}
 use Rattle.rules_dictionary.specs.Table.{Row, Found, found, theName, noObject, noSubindex, controlWord, mode, heartbeatTime, receivePdos}
 use Rattle.rules_dictionary.specs.Values.{Write, read, stored, unpacked}
 use Rattle.rules_dictionary.specs.Aborts.{Verdict, good, bad, wrongToggle}
@@ -27,7 +29,8 @@ use Rattle.rules_services.specs.Nmt.{commandOf as nmtCommandOf, NmtCommand, sta
 use Rattle.rules_services.specs.Nmt.{unknown as unknownNmt}
 use Rattle.rules_services.specs.{declared.Event.the-variants.Fault, Events.happens, Events.faulted}
 use Rattle.rules.specs.{Outcome.ended}
-use Rattle.rules.specs.Calls.{Call, powerUpCall, frameCall, eventCall, Decision, refuses, does as performs, framed, answer, answered, accepted}
+use Rattle.rules.specs.Calls.{Call, powerUpCall, frameCall, eventCall, loadCall, Decision, refuses, does as performs, framed, answer, answered}
+use Rattle.rules.specs.Calls.{accepted}
 use Rattle.rules.specs.Calls.{refused}
 use Rattle.theorems.specs.Promises.{octets, commandIn, afterSent, afterAsked, afterUpload, afterRequest, afterCommand, afterFrame, afterCall}
 use Rattle.theorems.specs.Promises.{EndsTransfers}
@@ -174,6 +177,12 @@ module _ (s : State) (d : List ℕ) where
       go false true false served h = refl
       go false false long served h = received-by-leaves s d receivePdos i bs
 
+-- a load
+entries-leave : {s : State} {d : List ℕ} {es : List Entry} {e : Effect} → Entries s d es e → Leaves e (s .transfer)
+unfolding andThen
+entries-leave Entries.none = refl
+entries-leave {s = s} {d = d} (Entries.next x r q v rest) = entries-leave rest ∙ applied-leaves (entryWrite x r ∷ []) s d
+
 -- ---- every call
 
 -- a refusal, or an effect that leaves the transfer of the list
@@ -188,6 +197,7 @@ turns (Decided.refusing r given why) = tt
 turns (Decided.powering n legal l) = refl
 turns {s} {d} (Decided.framing i bs l h) = framed-leaves s d i bs
 turns {s} {d} (Decided.happening k xs e q placed l h) = event-leaves s d e
+turns (Decided.loading f e served none taken l h) = entries-leave taken
 
 turned-by : {s : State} {d : List ℕ} {c : Call} {x : Decision} (o : List ℕ) → Decided s d c x → Turns c s x → answered x s d o .refusal ≡ Accepted →
     answered x s d o .state .transfer ≡ afterCall c s
@@ -196,6 +206,7 @@ turned-by o (Decided.refusing r given why) t ok = clash (isGiven r) given (ap is
 turned-by o (Decided.powering n legal l) t ok = t
 turned-by o (Decided.framing i bs l h) t ok = t
 turned-by o (Decided.happening k xs e q placed l h) t ok = t
+turned-by o (Decided.loading f e served none taken l h) t ok = t
 
 pub ends-transfers : EndsTransfers
 unfolding answer
@@ -254,3 +265,4 @@ call-runs (frameCall i bs) s o r =
     (eqb-true _ _ (and-right asks _ (and-left (asks && eqb (length bs) requestLength) _ e))) r)
     (λ e. r))
 call-runs (eventCall k xs) s o r = r
+call-runs (loadCall f) s o r = r

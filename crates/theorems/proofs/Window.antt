@@ -159,6 +159,7 @@ follows (Serves.alarms l code) = stays
 follows {s = s} {d = d} (Serves.applies t ws before may) = applied-follows ws (withTransfer t s) d
 follows (Serves.holds bs l i on synchronous long legal) = stays
 follows (Serves.releases r) = one-by-one-follow r
+follows (Serves.loads r) = one-by-one-follow r
 follows (Serves.starts q idle) = stays
 follows Serves.leaves = stays
 follows {s = s} Serves.stops = enters-follows _ (s .axis .drive)

@@ -9,6 +9,7 @@ pub use mathlib.Core.Bool.{Bool, true, false, cond, not, _&&_, _||_, false≢tru
 pub use mathlib.Core.Bool.{or-true, and-false, or-false, true≢false}
 pub use mathlib.Core.List.{List, [], _∷_, _++_, append-nil, map, append-assoc}
 pub use borrow.Author.Tests.{eqb-true, eq-eqb, leb-false, ltb-false, ne-eqb, leb-true, lt-ltb, le-leb, ltb-true, eqb-false, le-ltb, not-true}
+pub use borrow.Author.Tests.{not-false}
 pub use lib.Dec.{eqb, leb, ltb}
 pub use lib.ListN.{drop-of-length-le, length, getD, set, drop, take-append-drop, length-drop, take, length-append, length-take}
 pub use lib.Seq.{sets, getD-set-other, sets-eq, length-take-le, drop-drop, take-take, take-nil}
@@ -35,6 +36,7 @@ pub use Rattle.state.specs.declared.NmtState.the-variants.{PreOperational, Oper
 pub use Rattle.state.specs.declared.Transfer.the-variants.{NoTransfer, Uploading, Downloading}
 pub use Rattle.state.specs.{declared.Receipt.Receipt, declared.Transfer.Transfer}
 pub use Rattle.state.specs.declared.Refusal.the-variants.{Accepted, DictionaryLength, OutputLength, NodeId, NotSound, BadFrame, BadEvent, OutOfPlace}
+pub use Rattle.state.specs.declared.Refusal.the-variants.{WrongState, FileTooShort, TooManyEntries, FileMisfit, ControlWordEntry, EntryAborted}
 pub use Rattle.state.specs.NmtStates.{isStopped, isOperational, isPreOperational}
 pub use Rattle.state.specs.{declared.NmtState.NmtState, declared.Occasion.Occasion, declared.Occasion.the-variants.Synced}
 pub use Rattle.state.specs.{declared.Occasion.the-variants.Ticked, declared.Pace.Pace, declared.Refusal.Refusal, declared.State.State}

@@ -1,3 +1,4 @@
 pub mod Promises
 pub mod PromisesOfWindow
 pub mod PromisesOfLimits
+pub mod PromisesOfLoad

@@ -21,7 +21,8 @@ use Rattle.rules_dictionary.specs.TheNode.{isNodeId}
 use Rattle.rules_dictionary.specs.Table.{Row, table, sizeOf, same, dictionaryLength, placeOf, isReset, Found, found, theName, noObject, noSubindex}
 use Rattle.rules_dictionary.specs.DeviceName.{deviceName}
 use Rattle.rules_dictionary.specs.Table.{statusWord, mode, modeDisplay, controlWord, errorCode, errorRegister, position, velocity, identifier}
-use Rattle.rules_dictionary.specs.Table.{mappingRows, eachWay, pdos, receivePdos, transmitPdos}
+use Rattle.rules_dictionary.specs.Table.{mappingRows, eachWay, pdos, receivePdos, transmitPdos, lookup}
+use Rattle.files.specs.ConciseDcf.{Entry, entriesIn}
 use Rattle.rules_dictionary.specs.Values.{Write, write, read, field, stored, unpacked}
 use Rattle.rules_dictionary.specs.Aborts.{Abort, bad, isGood, abortCode, Verdict, good, test, firstOf, unknownCommand, wrongToggle}
 use Rattle.rules_dictionary.specs.Aborts.{noObject as absent}
@@ -60,7 +61,8 @@ use Rattle.rules_services.specs.declared.Event.the-variants.{SetPointReached as
 use Rattle.rules_services.specs.declared.Event.the-variants.{Feedback as feedback, Voltage as voltage}
 use Rattle.rules.specs.Outcome.{statusOf, encoded, sentInto, mostData, mostFrames, frameSize, transmitters}
 use Rattle.rules.specs.Sound.{sound}
-use Rattle.rules.specs.Calls.{Call, powerUpCall, frameCall, eventCall, Decision, refuses, does as performs, decided, Outcome, answer, outputLength}
+use Rattle.rules.specs.Calls.{Call, powerUpCall, frameCall, eventCall, loadCall, Decision, refuses, does as performs, decided, Outcome, answer}
+use Rattle.rules.specs.Calls.{outputLength}
 use Rattle.rules.specs.Calls.{refusalNumber}
 use Rattle.rules.specs.Scripts.{Answers, givenBy}
 use Rattle.rules.specs.Examples.{request, examples}
@@ -93,6 +95,7 @@ abbrev pub octets : Call → Bool
 octets (powerUpCall n) = true
 octets (frameCall i bs) = areBytes bs
 octets (eventCall k xs) = areBytes xs
+octets (loadCall f) = areBytes f
 
 unfoldable pub allOctets : List Step → Type 0
 allOctets [] = Unit
@@ -383,11 +386,12 @@ RepliesAlike node fs = (bs : List ℕ) (s : State) (d o : List ℕ) → node (re
 abbrev pub SendsAlways : Answers → ℕ → Type 0
 SendsAlways node n = (c : Call) (s : State) (d o : List ℕ) → node c s d o .frames ≡ n
 
--- a call that is no power-up
+-- a frame or an event; what a node makes of a load does not matter
 abbrev pub isLater : Call → Bool
 isLater (powerUpCall n) = false
 isLater (frameCall i bs) = true
 isLater (eventCall k xs) = true
+isLater (loadCall f) = false
 
 -- idle after power-up: it sends nothing, ..
 abbrev pub SendsNothingLater : Answers → Type 0
@@ -569,11 +573,23 @@ abbrev pub byTold : Told → List Row
 byTold (event e) = andSettled (byEvent e)
 byTold badEvent = []
 
+-- ticket 6: a load "writes its entries' objects"
+abbrev pub rowFound : Found → List Row
+rowFound (found x) = x ∷ []
+rowFound theName = []
+rowFound noObject = []
+rowFound noSubindex = []
+
+abbrev pub byEntries : List Entry → List Row
+byEntries [] = []
+byEntries (e ∷ es) = rowFound (lookup (e .index) (e .subindex)) ++ byEntries es
+
 -- the rows that a call may change
 unfoldable pub mayChange : Call → State → List ℕ → List Row
 mayChange (powerUpCall n) s d = cond (isNodeId n) (andSettled table) []
 mayChange (frameCall i bs) s d = andSettled (byFrame i bs s d)
 mayChange (eventCall k xs) s d = byTold (eventOf k xs)
+mayChange (loadCall f) s d = andSettled (byEntries (entriesIn f))
 
 -- byte for byte, of every state and dictionary: a byte of no such row stays
 abbrev pub ChangesNoOther : Type 0
@@ -680,6 +696,7 @@ abbrev pub tellsReached : Call → Bool
 tellsReached (powerUpCall n) = false
 tellsReached (frameCall i bs) = false
 tellsReached (eventCall k xs) = isReached (eventOf k xs)
+tellsReached (loadCall f) = false
 
 abbrev pub isAccepted : Decision → Bool
 isAccepted (refuses x) = false
@@ -762,7 +779,7 @@ afterCommand resetNode t = NoTransfer
 afterCommand resetCommunication t = NoTransfer
 afterCommand unknownNmt t = t
 
--- .. and nothing else touches it: no other frame, no request of another length or while Stopped, no event
+-- .. and nothing else touches it: no other frame, no request of another length or while Stopped, no event, no load
 unfoldable pub afterFrame : ℕ → List ℕ → State → Transfer
 afterFrame i bs s =
     cond (eqb i nmtIdentifier)
@@ -775,6 +792,7 @@ abbrev pub afterCall : Call → State → Transfer
 afterCall (powerUpCall n) s = NoTransfer
 afterCall (frameCall i bs) s = afterFrame i bs s
 afterCall (eventCall k xs) s = s .transfer
+afterCall (loadCall f) s = s .transfer
 
 abbrev pub EndsTransfers : Type 0
 EndsTransfers = (k : Step) (a : Stand) → does k a .refusal ≡ Accepted → does k a .state .transfer ≡ afterCall (k .call) (a .state)

@@ -37,7 +37,8 @@ use Rattle.rules_services.specs.declared.Event.the-variants.{SetPointReached as
 use Rattle.rules_services.specs.declared.Event.the-variants.{Feedback as feedback, Voltage as voltage}
 use Rattle.rules.specs.Outcome.{End, followed, sameData, transmitters, sentInto}
 use Rattle.rules.specs.Sound.{sound, staySound}
-use Rattle.rules.specs.Calls.{Call, powerUpCall, frameCall, eventCall, Decision, refuses, does as performs, refused, accepted, Outcome, outputLength}
+use Rattle.rules.specs.Calls.{Call, powerUpCall, frameCall, eventCall, loadCall, Decision, refuses, does as performs, refused, accepted, Outcome}
+use Rattle.rules.specs.Calls.{outputLength}
 use Rattle.theorems.specs.Promises.{Step, Stand, Run, does, left, begun, reached, decidedAt, isAccepted}
 
 -- ---- "At 0 the answer is as before.": of every state and every call
@@ -121,6 +122,7 @@ abbrev pub tellsTick : Call → Bool
 tellsTick (powerUpCall n) = false
 tellsTick (frameCall i bs) = false
 tellsTick (eventCall k xs) = isTick (eventOf k xs)
+tellsTick (loadCall f) = false
 
 -- a call of a run's past: whether it was an accepted tick, and where it left the run
 pub record Past : Type 0 where

@@ -1,6 +1,6 @@
 -- `calls::event_in` meets its contract. Assumes nothing.
 use native.Mathlib.Omega.{arith}
-use mathlib.Core.Path.{_≡_, sym, _∙_, subst}
+use mathlib.Core.Path.{_≡_, refl, sym, _∙_, subst}
 use mathlib.Core.Bool.{true}
 use borrow.Author.Tests.{not-true, not-false}
 use Rattle.state.specs.declared.Refusal.the-variants.{BadEvent, OutOfPlace}
@@ -28,7 +28,7 @@ returns c =
     let k = start .pre .stands in
     let told = sym (told-2 .e .given .1) ∙ event-of .event-of .ensures in
     refused-answers (start .pre .own) (c .refused2 .ensures)
-    (decides-not (eventCall (a .number) (a .arguments .now)) s (a .d .now) (a .output .now) (stands-lent k) OutOfPlace
+    (decides-not (eventCall (a .number) (a .arguments .now)) s (a .d .now) (a .output .now) refl (stands-lent k) OutOfPlace
     (out-of-place (a .number) (a .arguments .now) s (a .d .now) (k .sound) _ told
     (sym (c .before .before .is-in-place .ensures) ∙ not-true _ (c .before .if1 .taken))))
 
@@ -63,7 +63,7 @@ returns-2 c =
     let s = stateOf (a .state .now) in
     let k = start .pre .stands in
     refused-answers (start .pre .own) (c .refused .ensures)
-    (decides-not (eventCall (a .number) (a .arguments .now)) s (a .d .now) (a .output .now) (stands-lent k) BadEvent
+    (decides-not (eventCall (a .number) (a .arguments .now)) s (a .d .now) (a .output .now) refl (stands-lent k) BadEvent
     (bad-told (a .number) (a .arguments .now) s (a .d .now) (k .sound) (sym (c .before .enum-told .given .1) ∙ c .before .before
     .before .event-of .ensures)))
 
@@ -93,7 +93,7 @@ returns-3 c =
     let left = happens .happens .ensures in
     given-answers (concludes k b serves (left .0) (left .1) (rw (is-operational .is-operational .ensures) at (finish .finish .ensures)))
     (c .accepted .ensures)
-    (sym (decides (eventCall (a .number) (a .arguments .now)) s (a .d .now) (a .output .now) (stands-lent k) _
+    (sym (decides (eventCall (a .number) (a .arguments .now)) s (a .d .now) (a .output .now) refl (stands-lent k) _
     (in-place (a .number) (a .arguments .now) s (a .d .now) (k .sound) _ told placed)))
 
 pub event-in-spec : {M : Type 1} → statement M

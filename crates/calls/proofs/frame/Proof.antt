@@ -1,6 +1,6 @@
 -- `calls::frame` meets its contract. Assumes nothing.
 use Prim.Native.Nat.{ℕ}
-use mathlib.Core.Path.{sym, _∙_, ap}
+use mathlib.Core.Path.{refl, sym, _∙_, ap}
 use mathlib.Core.List.{List}
 use Rattle.state.specs.declared.Answer.{Answer}
 use Rattle.state.specs.declared.State.{State}
@@ -25,7 +25,7 @@ returns c =
     let e = c .before .before .opened .ensures ∙ ap (λ (bs : List ℕ). openingOf bs (a .d .now) (a .output .now)) (own .0)
     ∙ opens-form (a .s) (a .d .now) (a .output .now) (own .1) in
     ap (λ (x : Answer). outcome x (a .d .now) (a .output .now)) (c .refuse .ensures)
-    ∙ rw e (not-opened (frameCall (a .identifier) (a .bytes .now)) (a .s) (a .d .now) (a .output .now)
+    ∙ rw e (not-opened (frameCall (a .identifier) (a .bytes .now)) (a .s) (a .d .now) (a .output .now) refl
     (unsound-frame (a .identifier) (a .bytes .now) (a .s) (a .d .now)) (ap (λ (x : Opening). x .refused) (sym e) ∙ c .before .if1 .taken))
 
 frame-in-requires : tie.Need-frame-in-requires

@@ -1,6 +1,6 @@
 -- `calls::frame_in` meets its contract. Assumes nothing.
 use native.Mathlib.Omega.{arith}
-use mathlib.Core.Path.{_≡_, sym, _∙_, ap, subst}
+use mathlib.Core.Path.{_≡_, refl, sym, _∙_, ap, subst}
 use mathlib.Core.Bool.{true}
 use Rattle.state.specs.declared.Refusal.the-variants.{BadFrame}
 use Rattle.rules_dictionary.specs.Numbers.{areBytes}
@@ -28,7 +28,7 @@ returns c =
     let s = stateOf (a .state .now) in
     let k = start .pre .stands in
     refused-answers (start .pre .own) (c .refused .ensures)
-    (decides-not (frameCall (a .identifier) (a .bytes .now)) s (a .d .now) (a .output .now) (stands-lent k) BadFrame
+    (decides-not (frameCall (a .identifier) (a .bytes .now)) s (a .d .now) (a .output .now) refl (stands-lent k) BadFrame
     (no-identifier (a .identifier) (a .bytes .now) s (a .d .now) (k .sound) (c .before .if1 .taken)))
 
 returns-2 : tie.Need-returns-2
@@ -38,7 +38,7 @@ returns-2 c =
     let s = stateOf (a .state .now) in
     let k = start .pre .stands in
     refused-answers (start .pre .own) (c .refused2 .ensures)
-    (decides-not (frameCall (a .identifier) (a .bytes .now)) s (a .d .now) (a .output .now) (stands-lent k) BadFrame
+    (decides-not (frameCall (a .identifier) (a .bytes .now)) s (a .d .now) (a .output .now) refl (stands-lent k) BadFrame
     (too-long (a .identifier) (a .bytes .now) s (a .d .now) (k .sound) (c .before .if2 .taken)))
 
 -- the frame's data, as the services take them
@@ -97,7 +97,7 @@ returns-3 c =
     (c .accepted .ensures)
     (ap (λ xs. accepted (ended s (a .d .now) (framed (a .identifier) xs s (a .d .now))) (a .output .now))
     (ap dataOf (content .content-of .ensures) ∙ data-back (a .bytes .now) (short .if2 .left))
-    ∙ sym (decides (frameCall (a .identifier) (a .bytes .now)) s (a .d .now) (a .output .now) (stands-lent k)
+    ∙ sym (decides (frameCall (a .identifier) (a .bytes .now)) s (a .d .now) (a .output .now) refl (stands-lent k)
     (does (framed (a .identifier) (a .bytes .now) s (a .d .now)))
     (a-frame (a .identifier) (a .bytes .now) s (a .d .now) (k .sound) (short .before .if1 .left) (short .if2 .left))))
 

@@ -1,5 +1,5 @@
 -- `calls::power_up` meets its contract. Assumes nothing.
-use mathlib.Core.Path.{sym, _∙_, ap}
+use mathlib.Core.Path.{refl, sym, _∙_, ap}
 use lib.ListN.{length}
 use Rattle.state.specs.declared.Answer.{Answer}
 use Rattle.rules.specs.Calls.{powerUpCall}
@@ -18,7 +18,7 @@ returns c =
     let e = c .before .before .powering .ensures in
     let a = start .args in
     ap (λ (x : Answer). outcome x (a .d .now) (a .output .now)) (c .refuse .ensures)
-    ∙ rw e (not-opened (powerUpCall (a .n)) (a .s) (a .d .now) (a .output .now) (no-node (a .n) (a .s) (a .d .now))
+    ∙ rw e (not-opened (powerUpCall (a .n)) (a .s) (a .d .now) (a .output .now) refl (no-node (a .n) (a .s) (a .d .now))
     (ap (λ (x : Opening). x .refused) (sym e) ∙ c .before .if1 .taken))
 
 power-up-in-requires : tie.Need-power-up-in-requires

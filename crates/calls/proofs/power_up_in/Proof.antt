@@ -1,7 +1,7 @@
 -- `calls::power_up_in` meets its contract. Assumes nothing.
 use Prim.Native.Nat.{ℕ, _≤_}
 use native.Mathlib.Omega.{arith}
-use mathlib.Core.Path.{_≡_, _∙_, ap}
+use mathlib.Core.Path.{refl, _≡_, _∙_, ap}
 use mathlib.Core.Bool.{true, false}
 use mathlib.Core.List.{List}
 use lib.ListN.{length}
@@ -118,7 +118,7 @@ returns c =
     let fresh = rw (all-plans .all-plans .ensures, node, drive) at worked in
     λ x. rw (
       c .accepted .ensures,
-      decides (powerUpCall n) x (a .d .now) (a .output .now) (k .lent) (does (powerUp n)) (a-node n x (a .d .now)
+      decides (powerUpCall n) x (a .d .now) (a .output .now) refl (k .lent) (does (powerUp n)) (a-node n x (a .d .now)
           (k .node)),
     )
     (starts-anew n (k .first) (k .last) (k .long) (start .start .ensures) made x fresh)

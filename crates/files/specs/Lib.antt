@@ -1,0 +1,2 @@
+pub mod ConciseDcf
+pub mod Listings

@@ -1,0 +1,5 @@
+pub mod Offers
+pub mod AtRest
+pub mod Folding
+pub mod Steps
+pub mod Loaded
