@@ -1,11 +1,10 @@
 """The command line of tools/dcf."""
 import argparse
-import os
 import sys
 from pathlib import Path
 
 from tracing import dcf, eds
-from tracing.commands import bytes_of, node_number
+from tracing.commands import bytes_of, carry_out, node_number
 from tracing.records import MOST_LOAD, BadInput
 
 from . import lists, source, trial, verdict
@@ -19,17 +18,7 @@ VERDICT = 'Exit status: 0 the node takes the file; 1 it refuses it, or bad input
 
 
 def main(arguments: list[str]) -> int:
-    args = parser().parse_args(arguments)
-    try:
-        return args.command(args)
-    except BadInput as wrong:
-        print(f'dcf: {wrong}', file=sys.stderr)
-    except BrokenPipeError:
-        os.dup2(os.open(os.devnull, os.O_WRONLY), sys.stdout.fileno())  # the reader has seen enough
-        return DONE
-    except OSError as wrong:
-        print(f'dcf: {wrong.filename or "output"}: {wrong.strerror}', file=sys.stderr)
-    return BAD
+    return carry_out(parser().parse_args(arguments), 'dcf', BAD)
 
 
 # the commands

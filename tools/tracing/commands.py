@@ -19,17 +19,21 @@ VERDICT = 'Exit status: 0 the same; 1 different; 2 bad input, named on standard 
 
 
 def main(arguments: list[str]) -> int:
-    args = parser().parse_args(arguments)
+    return carry_out(parser().parse_args(arguments), 'trace', BAD_INPUT)
+
+
+def carry_out(args: argparse.Namespace, tool: str, bad_input: int) -> int:
+    """The command, and its exit status; bad input is said on standard error."""
     try:
         return args.command(args)
     except BadInput as wrong:
-        print(f'trace: {wrong}', file=sys.stderr)
+        print(f'{tool}: {wrong}', file=sys.stderr)
     except BrokenPipeError:
         os.dup2(os.open(os.devnull, os.O_WRONLY), sys.stdout.fileno())  # the reader has seen enough
         return SAME
     except OSError as wrong:
-        print(f'trace: {wrong.filename or "output"}: {wrong.strerror}', file=sys.stderr)
-    return BAD_INPUT
+        print(f'{tool}: {wrong.filename or "output"}: {wrong.strerror}', file=sys.stderr)
+    return bad_input
 
 
 # the commands
