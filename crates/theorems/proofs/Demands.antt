@@ -254,7 +254,7 @@ module _ (n : ℕ) (d : List ℕ) (ok : DictionaryOk n d) (m : NmtState) where
       let k = simp (Bool·not-not, and-eq-true-iff) at near in
       (leb-true _ _ (k .0), leb-true _ _ (k .1))
 
-  pub receives : (i : ℕ) (bs : List ℕ) (s : State) (p : ℕ) (ps : List ℕ) → s .node .nmt ≡ m → In p pdos → ((q : ℕ) → In q ps → In q pdos) → In p ps →
+  receives : (i : ℕ) (bs : List ℕ) (s : State) (p : ℕ) (ps : List ℕ) → s .node .nmt ≡ m → In p pdos → ((q : ℕ) → In q ps → In q pdos) → In p ps →
       listens i m d p ≡ true → receivedBy ps i bs s d ≡ received p bs s d
   unfolding receivedBy
   receives i bs s p [] e j sub k h = absurd (none-in k)

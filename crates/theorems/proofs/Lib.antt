@@ -22,8 +22,10 @@ pub mod Aborted
 pub mod Sent
 pub mod SameWord
 pub mod Taken
+pub mod Applied
 pub mod Listed
 pub mod Changes
+pub mod Follows
 pub mod ShutOut
 pub mod Segments
 pub mod AsBefore
@@ -38,4 +40,5 @@ pub mod Telling
 pub mod TellingOfSegments
 pub mod TellingOfWindow
 pub mod TellingOfLimits
+pub mod TellingOfDrive
 pub mod TellingOfLoad

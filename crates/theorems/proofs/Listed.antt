@@ -1,34 +1,32 @@
--- What a call writes is what document 01 lists for it, one by one: a walk over the rules' services beside the list of specs/Promises.antt.
+-- What a call writes is what document 01 lists for it, one by one: a walk over the rules' services beside the list of specs/Promises.antt. The same
+-- walk shows what the values that a frame brings make of the drive.
 -- Assumes nothing.
-use mathlib.Core.Bool.{and-true, and-false, and-comm}
 use Rattle.theorems.proofs.Words.{ℕ, inl, inr, suc, _+_, _||_, _≡_, refl, sym, _∙_, ap, ap₂, subst, Bool, true, false, cond, not, _&&_}
-use Rattle.theorems.proofs.Words.{Bool·beq, and-not-self, List, [], _∷_, _++_, append-nil, map, eqb, eqb-self, ltb, length, getD, take, set}
-use Rattle.theorems.proofs.Words.{take-take, getD-set-other, arith, PdoData, Synced, NmtState, PreOperational, Operational, Stopped}
-use Rattle.theorems.proofs.Words.{DriveState, Command, Drive, State, In, here, there, Event, Started, QuickStopDone, ReactionDone}
-use Rattle.theorems.proofs.Words.{SetPointReached, Tick, CauseGone, Feedback, Voltage, SdoCommand, Download, Upload, ClientAbort, Unknown}
-use Rattle.theorems.proofs.Words.{isStopped, isOperational, isPreOperational, on-ways, all-in, and-left, and-right, found-in, in-left, either}
-use Rattle.theorems.proofs.Words.{by-test, by-match, both-by-test, both-by-match, whichever, same-test, clash, not-true, Transfer, NoTransfer}
-use Rattle.theorems.proofs.Words.{Uploading, Downloading, DownloadBySegments, DownloadSegment, UploadSegment, or-false-left, or-false-right}
+use Rattle.theorems.proofs.Words.{Bool·beq, List, [], _∷_, _++_, map, eqb, eqb-self, ltb, length, getD, take, set, take-take, getD-set-other}
+use Rattle.theorems.proofs.Words.{arith, PdoData, Synced, NmtState, PreOperational, Operational, Stopped, State, In, here, there, Event}
+use Rattle.theorems.proofs.Words.{Started, QuickStopDone, ReactionDone, SetPointReached, Tick, CauseGone, Feedback, Voltage, SdoCommand}
+use Rattle.theorems.proofs.Words.{Download, Upload, ClientAbort, Unknown, isStopped, isOperational, isPreOperational, all-in, and-left}
+use Rattle.theorems.proofs.Words.{and-right, found-in, in-left, either, by-test, by-match, both-by-test, both-by-match, whichever, clash}
+use Rattle.theorems.proofs.Words.{not-true, Transfer, NoTransfer, Uploading, Downloading, DownloadBySegments, DownloadSegment, UploadSegment}
+use Rattle.theorems.proofs.Words.{or-false-left, or-false-right}
 use Rattle.theorems.proofs.Dictionary.{DictionaryOk, isPdo, mapped-alike}
-use Rattle.theorems.proofs.Writes.{InTable, one-row, not-wrote, no-pdo-alike}
+use Rattle.theorems.proofs.Writes.{InTable, one-row, no-pdo-alike}
 use Rattle.theorems.proofs.Mapped.{QuietRow, received-row}
 use Rattle.theorems.proofs.PdoKept.{unpacked-rows, unpacked-same}
-use Rattle.theorems.proofs.{Settled.control-in, Settled.register-in, DriveKept.emptied-same, DriveKept.rule-same, Lawful.Lawful}
-use Rattle.theorems.proofs.{Lawful.sound-lawful, Services.applied-all, Demands.one-listener, Sent.control-state, Sent.found-by}
+use Rattle.theorems.proofs.{Settled.register-in, Lawful.Lawful, Lawful.sound-lawful, Services.applied-all, Demands.one-listener}
+use Rattle.theorems.proofs.Applied.{Brings, brings-none, applied-held, applied-brings, applied-then}
 use Rattle.theorems.proofs.Decisions.{Decided, isGiven}
 use Rattle.theorems.proofs.Entries.{Entries, entry-applied}
 use Rattle.files.specs.ConciseDcf.{Entry}
 use Rattle.rules_services.specs.Load.{isForControlWord, namesControlWord}
-use Rattle.rules_dictionary.specs.Table.{Row, table, receivePdos, transmitPdos, pdos, errorRegister, controlWord, heartbeatTime, isReset, Found}
-use Rattle.rules_dictionary.specs.Table.{found, noObject, noSubindex, theName}
+use Rattle.rules_dictionary.specs.Table.{Row, table, receivePdos, transmitPdos, pdos, heartbeatTime, isReset, Found, found, noObject, noSubindex}
+use Rattle.rules_dictionary.specs.Table.{theName}
 use Rattle.rules_dictionary.specs.Values.{Write, write, read, stored, unpacked, toDefaults}
 use Rattle.rules_dictionary.specs.{Numbers.all, Numbers.filter, Plans.mapped, Legal.isSynchronous}
 use Rattle.rules_dictionary.specs.Aborts.{Verdict, good, bad, isGood, wrongToggle}
-use Rattle.drive.specs.DriveStates.{isFault, isFaultReset, asked as commandFor, command, next, resets}
-use Rattle.drive.specs.SetPoints.{controlWritten, enters}
 use Rattle.rules_services.specs.Effects.{Frame, Effect, becomes, sends, on, andThen, withHeld, withoutTransfer}
 use Rattle.rules_services.specs.Emergency.{emergency, badSyncLength}
-use Rattle.rules_services.specs.Written.{wrote, countRestarted, modeActed, faultReset, controlActed, applied}
+use Rattle.rules_services.specs.Written.{applied}
 use Rattle.rules_services.specs.PdoTraffic.{typeOf, mappedLength, areLegal, heldOrApplied, received, listens, receivedBy, noData, isHeld, release}
 use Rattle.rules_services.specs.PdoTraffic.{releaseAll, sync, syncBase}
 use Rattle.rules_services.specs.Nmt.{powerUp, commanded, nmt, nmtIdentifier, nmtLength, everyNode, tick as ticked, commandOf as nmtCommandOf}
@@ -40,106 +38,8 @@ use Rattle.rules_services.specs.Segments.{toggleOf, toggleAt, isLast, carried, 
 use Rattle.rules_services.specs.Segments.{acknowledged, concluded, continued, segmentSent, objectIn}
 use Rattle.rules_services.specs.SdoServer.{uploads, asked, sdo}
 use Rattle.rules.specs.Calls.{Call, Decision, refuses, does as performs, framed}
-use Rattle.theorems.specs.Promises.{rowsOf, andSettled, toFound, bySdo, appliesAtOnce, byPdo, heldFor, bySync, applies, isClearable, asksReset}
-use Rattle.theorems.specs.Promises.{written, byCommand, byNmt, byFrame, byEvent, byTold, mayChange, bySegment, commandIn, byEntries}
-
--- ---- a fault reset
-
--- the command is a fault reset where bit 7 rose
-reset-asked : (set was voltage quick on enable : Bool) → isFaultReset (commandFor set was voltage quick on enable) ≡ (set && not was)
-reset-asked true true v q o e = refl
-reset-asked true false v q o e = refl
-reset-asked false was v q o e =
-    let P : Command → Type 0 = λ c. isFaultReset c ≡ false in
-    whichever P (not v) refl (whichever P (not q) refl (whichever P (not o) refl (whichever P (not e) refl refl)))
-
--- `isClearable` of a drive in that state, with its cause present or gone
-abbrev clearableIn : DriveState → Bool → Bool
-clearableIn q cause = isFault q && not cause
-
--- a fault without cause stays one until it is reset, and no command makes one
-clearable-next : (cause : Bool) (q : DriveState) (c : Command) →
-    clearableIn (next cause q c) cause ≡ (clearableIn q cause && not (resets cause q c))
-unfolding next resets
-clearable-next cause q c =
-    same-test _ _ (on-ways (λ b q c. Bool·beq (clearableIn (next b q c) b) (clearableIn q b && not (resets b q c))) refl cause q c)
-
-control-cause : (d : List ℕ) (old : ℕ) (v : Drive) → controlWritten d old v .drive .cause ≡ v .cause
-unfolding controlWritten enters
-control-cause d old v = rule-same d old (read d controlWord) _ .cause ∙ emptied-same _ .cause
-
--- ---- values stored and acted on
-
--- acting on 6040h from s, where `reset` says that it resets the fault
-record Acts (s : State) (reset : Bool) (e : Effect) : Type 0 where
-  writes : e .writes ≡ cond reset (write errorRegister 0 ∷ []) []
-  clearable : isClearable (e .state .axis .drive) ≡ (isClearable (s .axis .drive) && not reset)
-  held : e .state .axis .held ≡ s .axis .held
-
-and-last : (a b c : Bool) → (a && b && c) ≡ (a && c && b)
-and-last true b c = and-comm b c
-and-last false b c = refl
-
-module _ (ws : List Write) (s : State) (d : List ℕ) (rows : InTable ws) where
-  abbrev resetting : Bool
-  resetting = isClearable (s .axis .drive) && asksReset d (stored ws d)
-
-  abbrev moded : State
-  moded = modeActed ws (countRestarted ws s) (stored ws d)
-
-  abbrev asking : Command
-  asking = command (read d controlWord) (read (stored ws d) controlWord)
-
-  reset-is : resets (moded .axis .drive .cause) (moded .axis .drive .state) asking ≡ resetting
-  unfolding resets command
-  reset-is =
-      let f = found-by ws s (stored ws d) in
-      rw (f .1, f .2, reset-asked) (and-last (isFault (s .axis .drive .state)) (asksReset d (stored ws d)) (not (s .axis .drive .cause)))
-
-  clearable-after : isClearable (controlWritten (stored ws d) (read d controlWord) (moded .axis .drive) .drive)
-      ≡ (isClearable (s .axis .drive) && not resetting)
-  clearable-after =
-      let f = found-by ws s (stored ws d) in
-      let v = moded .axis .drive in
-      ap₂ clearableIn (control-state (stored ws d) (read d controlWord) v) (control-cause (stored ws d) (read d controlWord) v)
-      ∙ clearable-next (v .cause) (v .state) asking
-      ∙ ap₂ (λ (b r : Bool). b && not r) (ap₂ clearableIn (f .1) (f .2)) reset-is
-
-  control-acts : Acts s resetting (controlActed (read d controlWord) ws moded (stored ws d))
-  unfolding controlActed faultReset controlWritten
-  control-acts =
-      let f = found-by ws s (stored ws d) in
-      by-test (Acts s resetting) (wrote controlWord ws)
-      (λ w. by-test (Acts s resetting) (resets (moded .axis .drive .cause) (moded .axis .drive .state) asking)
-      (λ e. record { writes = rw (sym reset-is ∙ e); clearable = clearable-after; held = f .3 })
-      (λ e. record { writes = rw (sym reset-is ∙ e); clearable = clearable-after; held = f .3 }))
-      (λ w.
-      let none : resetting ≡ false = rw (not-wrote controlWord ws d control-in rows w, and-not-self, and-false) in
-      record { writes = rw none; clearable = rw (none, and-true) (ap₂ clearableIn (f .1) (f .2)); held = f .3 })
-
-  -- all that is written, and what is left of the fault and of the frames held
-  applied-writes : applied ws s d .writes ≡ ws ++ cond resetting (write errorRegister 0 ∷ []) []
-  unfolding applied
-  applied-writes = ap (λ (vs : List Write). ws ++ vs) (control-acts .writes)
-
-  applied-clearable : isClearable (applied ws s d .state .axis .drive) ≡ (isClearable (s .axis .drive) && not resetting)
-  unfolding applied
-  applied-clearable = control-acts .clearable
-
-  pub applied-held : applied ws s d .state .axis .held ≡ s .axis .held
-  unfolding applied
-  applied-held = control-acts .held
-
--- ---- frames applied, one after another
-
--- the effect writes what those frames do
-abbrev Brings : State → List ℕ → Effect → List (List Write) → Type 0
-Brings s d e fs = e .writes ≡ written (isClearable (s .axis .drive)) d fs
-
--- one frame: its values, and 1001h where it resets the fault
-applied-brings : (ws : List Write) (s : State) (d : List ℕ) → InTable ws → Brings s d (applied ws s d) (ws ∷ [])
-unfolding written
-applied-brings ws s d rows = rw append-nil (applied-writes ws s d rows)
+use Rattle.theorems.specs.Promises.{rowsOf, andSettled, toFound, bySdo, appliesAtOnce, byPdo, heldFor, bySync, applies, byCommand, byNmt}
+use Rattle.theorems.specs.Promises.{byFrame, byEvent, byTold, mayChange, bySegment, commandIn, byEntries}
 
 -- ---- lists of PDOs
 
@@ -169,15 +69,15 @@ module _ {n : ℕ} (d₀ : List ℕ) (ok : DictionaryOk n d₀) (h₀ : ℕ → 
   releases-bring : (ps : List ℕ) (s : State) (d : List ℕ) → ((p : ℕ) → In p ps → In p receivePdos) → differ ps ≡ true →
       ((p : ℕ) → In p ps → heldFor s p ≡ h₀ p) → ((y : Row) → In y table → isPdo (y .role) ≡ true → read d y ≡ read d₀ y) →
       Brings s d (releaseAll ps s d) (map brought (filter (λ p. isHeld (h₀ p)) ps))
-  unfolding releaseAll release andThen written stored differ
-  releases-bring [] s d sub unlike held alike = refl
+  unfolding releaseAll release andThen stored differ
+  releases-bring [] s d sub unlike held alike = brings-none
   releases-bring (p ∷ ps) s d sub unlike held alike =
       let i : In p receivePdos = sub p here in
       let t = withHeld (set (s .axis .held) p noData) s in
       let ws = brought p in
+      let later = filter (λ p. isHeld (h₀ p)) ps in
       let a = applied ws t d in
       let rows : InTable ws = λ w j. brought-quiet i w j .0 in
-      let later : List (List Write) = map brought (filter (λ p. isHeld (h₀ p)) ps) in
       let quiet = applied-all (λ w. QuietRow (w .row)) ws t d (brought-quiet i) (λ e. (register-in, refl)) in
       let rest = releases-bring ps (a .state) (stored (a .writes) d) (λ q j. sub q (there j)) (and-right (all (λ q. not (eqb q p)) ps) _ unlike)
       (λ q j. ap (λ (h : List PdoData). getD h q noData) (applied-held ws t d rows)
@@ -186,24 +86,21 @@ module _ {n : ℕ} (d₀ : List ℕ) (ok : DictionaryOk n d₀) (h₀ : ℕ → 
       let first : release p s d ≡ elim (isHeld (h₀ p)) [ true ↦ a | false ↦ becomes s ] =
       ap₂ (λ (f : PdoData) (xs : List Row). elim (isHeld f) [ true ↦ applied (unpacked xs (f .bytes)) t d | false ↦ becomes s ]) (held p here)
       (mapped-alike d₀ d alike (in-left transmitPdos i)) in
-      ap (λ (e : Effect). andThen d e (releaseAll ps) .writes) first
-      ∙ both-by-match (λ (e : Effect) (qs : List ℕ). andThen d e (releaseAll ps) .writes ≡ written (isClearable (s .axis .drive)) d (map brought qs))
-      (isHeld (h₀ p))
-      (λ e. ap₂ _++_ (applied-writes ws t d rows) (rest
-      ∙ ap₂ (λ (b : Bool) (vs : List Write). written b (stored vs d) later) (applied-clearable ws t d rows) (applied-writes ws t d rows)))
-      (λ e. releases-bring ps s d (λ q j. sub q (there j)) (and-right (all (λ q. not (eqb q p)) ps) _ unlike) (λ q j. held q (there j)) alike)
+      let P : Effect → List ℕ → Type 0 = λ e qs. Brings s d (andThen d e (releaseAll ps)) (map brought qs) in
+      subst (λ (e : Effect). P e (elim (isHeld (h₀ p)) [ true ↦ p ∷ later | false ↦ later ])) (sym first)
+      (both-by-match P (isHeld (h₀ p)) (λ e. applied-then ws t d rows (map brought later) (releaseAll ps) rest)
+      (λ e. releases-bring ps s d (λ q j. sub q (there j)) (and-right (all (λ q. not (eqb q p)) ps) _ unlike) (λ q j. held q (there j)) alike))
 
 module _ (s : State) (d : List ℕ) (law : Lawful s d) where
   -- "Stopped it is not served; in Pre-operational one of length 0 does nothing."
   sync-cases : (m : NmtState) (b : Bool) (e : Effect) (alarm : List Frame) (fs : List (List Write)) → Brings s d e fs →
       Brings s d (cond (isStopped m) (becomes s) (cond (not b) (sends alarm (becomes s)) (cond (isOperational m) (on Synced e) (becomes s))))
       (cond (isOperational m && b) fs [])
-  unfolding written
-  sync-cases PreOperational true e alarm fs h = refl
-  sync-cases PreOperational false e alarm fs h = refl
+  sync-cases PreOperational true e alarm fs h = brings-none
+  sync-cases PreOperational false e alarm fs h = brings-none
   sync-cases Operational true e alarm fs h = h
-  sync-cases Operational false e alarm fs h = refl
-  sync-cases Stopped b e alarm fs h = refl
+  sync-cases Operational false e alarm fs h = brings-none
+  sync-cases Stopped b e alarm fs h = brings-none
 
   sync-brings : (bs : List ℕ) → Brings s d (sync bs s d) (cond (isOperational (s .node .nmt) && eqb (length bs) 0) (bySync s d) [])
   unfolding sync bySync differ
@@ -216,53 +113,53 @@ module _ (s : State) (d : List ℕ) (law : Lawful s d) where
     judged-brings : (x : Row) → In x table → (v : Verdict) →
         Brings s d (withReply fs o (withoutTransfer s) (judged v (offer x) (withoutTransfer s) d))
         (cond (isGood v) ((write x (offer x .value) ∷ []) ∷ []) [])
-    unfolding judged withReply abort written
+    unfolding judged withReply abort
     judged-brings x i good =
         rw (own x) (applied-brings (write x (offer x .value) ∷ []) (withoutTransfer s) d (one-row (λ w. In (w .row) table) i))
-    judged-brings x i (bad a) = refl
+    judged-brings x i (bad a) = brings-none
 
     downloads-bring : (f : Found) → sought o ≡ f → Brings s d (downloads fs o offer f (withoutTransfer s) d) (toFound offer s d f)
-    unfolding downloads download withReply abort written
+    unfolding downloads download withReply abort
     downloads-bring (found x) e = judged-brings x (found-in _ _ e) (offerVerdict (s .node .nmt) d (offer x))
-    downloads-bring theName e = refl
-    downloads-bring noObject e = refl
-    downloads-bring noSubindex e = refl
+    downloads-bring theName e = brings-none
+    downloads-bring noObject e = brings-none
+    downloads-bring noSubindex e = brings-none
 
   module _ (rq : List ℕ) where
     sent-brings : (t : Transfer) → Brings s d (segmentSent t rq s d) (bySegment t rq s d)
-    unfolding segmentSent unfit abort concluded continued written
-    sent-brings NoTransfer = refl
-    sent-brings (Uploading k) = refl
+    unfolding segmentSent unfit abort concluded continued
+    sent-brings NoTransfer = brings-none
+    sent-brings (Uploading k) = brings-none
     sent-brings (Downloading g) = go (Bool·beq (toggleOf rq) (g .toggle)) (isLast rq)
       where
         go : (a b : Bool) → Brings s d (cond a (cond b (concluded g (carried rq) s d) (continued g (carried rq) s)) (unfit wrongToggle s))
             (cond (a && b) (toFound (joined (gathered g (carried rq))) s d (sought (objectIn g))) [])
         go true true = downloads-bring (acknowledged g s) (objectIn g) (joined (gathered g (carried rq))) (λ x. refl) (sought (objectIn g)) refl
-        go true false = refl
-        go false b = refl
+        go true false = brings-none
+        go false b = brings-none
 
     answered-brings : (t : Transfer) → Brings s d (segmentAsked t rq s) []
-    unfolding segmentAsked unfit abort written
-    answered-brings NoTransfer = refl
-    answered-brings (Uploading k) = whichever (λ e. Brings s d e []) (Bool·beq (toggleOf rq) (toggleAt k)) refl refl
-    answered-brings (Downloading g) = refl
+    unfolding segmentAsked unfit abort
+    answered-brings NoTransfer = brings-none
+    answered-brings (Uploading k) = whichever (λ e. Brings s d e []) (Bool·beq (toggleOf rq) (toggleAt k)) brings-none brings-none
+    answered-brings (Downloading g) = brings-none
 
     uploads-bring : (f : Found) → Brings s d (uploads (objectOf rq) f (withoutTransfer s) d) []
-    unfolding uploads nameAsked abort written
-    uploads-bring (found x) = refl
-    uploads-bring theName = refl
-    uploads-bring noObject = refl
-    uploads-bring noSubindex = refl
+    unfolding uploads nameAsked abort
+    uploads-bring (found x) = brings-none
+    uploads-bring theName = brings-none
+    uploads-bring noObject = brings-none
+    uploads-bring noSubindex = brings-none
 
     asked-brings : (c : SdoCommand) → Brings s d (asked c rq s d) (bySdo c rq s d)
-    unfolding asked downloadBegun abort written
+    unfolding asked downloadBegun abort
     asked-brings Download = downloads-bring _ (objectOf rq) (expedited rq) (λ x. refl) (sought (objectOf rq)) refl
-    asked-brings DownloadBySegments = refl
+    asked-brings DownloadBySegments = brings-none
     asked-brings DownloadSegment = sent-brings (s .transfer)
     asked-brings Upload = uploads-bring (sought (objectOf rq))
     asked-brings UploadSegment = answered-brings (s .transfer)
-    asked-brings ClientAbort = refl
-    asked-brings Unknown = refl
+    asked-brings ClientAbort = brings-none
+    asked-brings Unknown = brings-none
 
   -- ---- a receive PDO
   module _ (i : ℕ) (bs : List ℕ) where
@@ -275,11 +172,12 @@ module _ (s : State) (d : List ℕ) (law : Lawful s d) where
     -- by the one that listens
     received-brings : (p : ℕ) → In p receivePdos → listens i (s .node .nmt) d p ≡ true →
         Brings s d (received p bs s d) (only p (appliesAtOnce i bs s d p))
-    unfolding received heldOrApplied written
+    unfolding received heldOrApplied
     received-brings p j listening =
         let k = mappedLength (mapped d p) in
         let P : Effect → Type 0 = λ e. Brings s d e (only p (appliesAtOnce i bs s d p)) in
-        let none : appliesAtOnce i bs s d p ≡ false → P (becomes s) = λ q. subst (λ (b : Bool). Brings s d (becomes s) (only p b)) (sym q) refl in
+        let none : appliesAtOnce i bs s d p ≡ false → P (becomes s) = λ q.
+        subst (λ (b : Bool). Brings s d (becomes s) (only p b)) (sym q) brings-none in
         by-test P (ltb (length bs) k) (λ short. none (rw (listening, short)))
         (λ enough. by-test P (areLegal d (values p))
         (λ legal. by-test P (isSynchronous (typeOf d p)) (λ later. none (rw (listening, enough, legal, later)))
@@ -296,8 +194,8 @@ module _ (s : State) (d : List ℕ) (law : Lawful s d) where
 
     received-by-brings : (ps : List ℕ) → ((p : ℕ) → In p ps → In p receivePdos) → differ ps ≡ true →
         Brings s d (receivedBy ps i bs s d) (map values (filter (appliesAtOnce i bs s d) ps))
-    unfolding receivedBy written differ
-    received-by-brings [] sub unlike = refl
+    unfolding receivedBy differ
+    received-by-brings [] sub unlike = brings-none
     received-by-brings (p ∷ ps) sub unlike =
         let m = s .node .nmt in
         let pdo : (q : ℕ) → In q (p ∷ ps) → In q pdos = λ q j. in-left transmitPdos (sub q j) in
@@ -322,13 +220,13 @@ module _ (s : State) (d : List ℕ) (law : Lawful s d) where
         (cond (eqb i (requestBase + s .node .id))
         (cond (eqb (length bs) requestLength && not (isStopped (s .node .nmt))) (sdo bs s d) (becomes s)) (receivedBy receivePdos i bs s d)))
         (applies i bs s d)
-    unfolding applies sdo byPdo written differ
+    unfolding applies sdo byPdo differ
     applies-brings =
         let P : Effect → List (List Write) → Type 0 = Brings s d in
         both-by-test P (eqb i syncBase) (λ e. sync-brings bs)
         (λ e. both-by-test P (eqb i (requestBase + s .node .id))
         (λ e. both-by-test P (eqb (length bs) requestLength && not (isStopped (s .node .nmt))) (λ e. asked-brings bs (commandIn bs))
-        (λ e. refl))
+        (λ e. brings-none))
         (λ e. received-by-brings receivePdos (λ p j. j) refl))
 
 -- ---- NMT
@@ -358,10 +256,15 @@ nmt-rows bs s =
 
 -- ---- every frame, and every event
 
+pub framed-brings : (i : ℕ) (bs : List ℕ) (s : State) (d : List ℕ) → Lawful s d → eqb i nmtIdentifier ≡ false →
+    Brings s d (framed i bs s d) (applies i bs s d)
+unfolding framed
+framed-brings i bs s d law other = rw other (applies-brings s d law i bs)
+
 framed-rows : (i : ℕ) (bs : List ℕ) (s : State) (d : List ℕ) → Lawful s d → RowsAre (framed i bs s d) (byFrame i bs s d)
 unfolding framed byFrame
 framed-rows i bs s d law =
-    both-by-test RowsAre (eqb i nmtIdentifier) (λ e. nmt-rows bs s) (λ e. ap rowsOf (applies-brings s d law i bs))
+    both-by-test RowsAre (eqb i nmtIdentifier) (λ e. nmt-rows bs s) (λ e. ap rowsOf (applies-brings s d law i bs .writes))
 
 event-rows : (e : Event) (s : State) (d : List ℕ) → RowsAre (happens e s d) (byEvent e)
 unfolding happens ticked faulted

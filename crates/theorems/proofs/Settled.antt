@@ -1,8 +1,8 @@
 -- Making 6041h and 6061h leaves all else as it was, and the status word does not read itself.
 -- Assumes nothing.
-use Rattle.theorems.proofs.Words.{ℕ, _-_, _^_, _<_, _≤_, arith, _≡_, refl, _∙_, ap, inl, inr, Bool, true, false, cond, List, le-ltb, length}
-use Rattle.theorems.proofs.Words.{Mode, NoMode, ProfilePosition, ProfileVelocity, Store, Empty, Rested, Moving, Queued, Drive, State, Plain}
-use Rattle.theorems.proofs.Words.{In, apart, same-or-apart, found-in, within, read-apart, read-same, length-store, clash, whichever}
+use Rattle.theorems.proofs.Words.{ℕ, _-_, _^_, _<_, _≤_, arith, _≡_, refl, sym, _∙_, ap, inl, inr, Bool, true, false, cond, List, le-ltb}
+use Rattle.theorems.proofs.Words.{length, Mode, NoMode, ProfilePosition, ProfileVelocity, Store, Empty, Rested, Moving, Queued, Drive, State}
+use Rattle.theorems.proofs.Words.{Plain, In, apart, same-or-apart, found-in, within, read-apart, read-same, length-store, clash, whichever}
 use Rattle.theorems.proofs.{GoodValues.inRange, Dictionary.MayHold, Dictionary.isPdo, Dictionary.isLimit, Dictionary.no-order}
 use Rattle.rules_dictionary.specs.Table.{errorRegister, heartbeatTime, Row, table, sizeOf, dictionaryLength, statusWord, modeDisplay, mode}
 use Rattle.rules_dictionary.specs.Table.{controlWord, position, positionWindow, windowTime, velocity, velocityWindow, velocityThreshold}
@@ -131,11 +131,16 @@ settled-motion s d =
       goal = settled-apart s d targetVelocity refl refl;
     }
 
+-- every other row of the table stays
+pub settled-other : (s : State) (d : List ℕ) (y : Row) → In y table → (statusWord ≡ y → ⊥) → (modeDisplay ≡ y → ⊥) → read (settled s d) y ≡ read d y
+settled-other s d y i p q =
+    let away : (x : Row) → In x table → (x ≡ y → ⊥) → apart x y ≡ true = λ x j n. elim (same-or-apart j i) [ inl e ↦ absurd (n e) | inr a ↦ a ] in
+    settled-apart s d y (away statusWord status-in p) (away modeDisplay display-in q)
+
 pub settled-pdo : (s : State) (d : List ℕ) (y : Row) → In y table → isPdo (y .role) ≡ true → read (settled s d) y ≡ read d y
 settled-pdo s d y i h =
-    let other : (x : Row) → In x table → isPdo (x .role) ≡ false → apart x y ≡ true =
-    λ x j q. elim (same-or-apart j i) [ inl e ↦ clash (isPdo (x .role)) (rw e h) q | inr a ↦ a ] in
-    settled-apart s d y (other statusWord status-in refl) (other modeDisplay display-in refl)
+    let role : (x : Row) → x ≡ y → isPdo (y .role) ≡ isPdo (x .role) = λ x e. ap (λ (x : Row). isPdo (x .role)) (sym e) in
+    settled-other s d y i (λ e. clash (isPdo (y .role)) h (role statusWord e)) (λ e. clash (isPdo (y .role)) h (role modeDisplay e))
 
 module _ (s : State) (d : List ℕ) (long : length d ≡ dictionaryLength) where
   pub settled-status : read (settled s d) statusWord ≡ statusOf s d
