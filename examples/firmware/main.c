@@ -7,6 +7,8 @@
 #include <stdio.h>
 
 #include "configuration.h"
+#include "feeding.h"
+#include "labels.h"
 #include "master.h"
 #include "motor.h"
 #include "node.h"
@@ -23,6 +25,9 @@ enum {
     LONGEST_RUN = 60000   /* ms; no script takes so long */
 };
 
+/* Receive PDO 3 by the node's defaults; and an identifier with a bit more than a frame can have. */
+enum { TARGET_FRAME = 0x400 + NODE_ID, STRAY_FRAME = 0x800 };
+
 static struct {
     uint32_t now, switched_on, busy_until, stalled_until;
     bool has_over_current; /* the level of the fault line */
@@ -30,6 +35,8 @@ static struct {
     struct motor motor;
     struct axis_command command;
     struct master master;
+    struct feeding feeding;
+    struct labels labels;
     uint8_t drive;         /* the drive state that was last printed */
     uint16_t stay;         /* ticks inside the window, after the last pass */
 } world;
@@ -56,7 +63,12 @@ static void stop_safely(void)
            motor_velocity(&world.motor));
 }
 
-static const struct node_hooks hooks = {.refused = log_refusal, .loaded = log_load, .stop_safely = stop_safely};
+static void note_reached(void)
+{
+    labels_reached(&world.labels, world.now);
+}
+
+static const struct node_hooks hooks = {.refused = log_refusal, .loaded = log_load, .reached = note_reached, .stop_safely = stop_safely};
 
 static void log_drive(void)
 {
@@ -92,6 +104,13 @@ static void power_cycle(void)
     node_power_up(&world.node, NODE_ID);
 }
 
+static void hand_on_stray(void)
+{
+    const struct can_frame stray = {.identifier = STRAY_FRAME};
+
+    node_receive(&world.node, &stray);
+}
+
 static void carry_out(enum trouble trouble)
 {
     switch (trouble) {
@@ -101,6 +120,7 @@ static void carry_out(enum trouble trouble)
     case TROUBLE_STALL: world.stalled_until = world.now + STALLED; break;
     case TROUBLE_FLIP: world.node.dict[FLIPPED_BYTE] ^= 0x01; break;
     case TROUBLE_JAM: world.motor.is_jammed = true; break;
+    case TROUBLE_STRAY: hand_on_stray(); break;
     case TROUBLE_POWER_CYCLE: power_cycle(); break;
     default: break;
     }
@@ -143,12 +163,43 @@ static struct node_inputs measure(void)
     return inputs;
 }
 
+/* The operator's start key: the master hears what came of it. */
+static void start_feeding(void)
+{
+    const struct label_list *list = world.master.order;
+    enum feeding_start outcome = feeding_start(&world.feeding, &world.node, TARGET_FRAME, list->lengths, list->count);
+
+    if (outcome == FEEDING_STARTED)
+        labels_begin(&world.labels, list);
+    master_hear_start(&world.master, outcome);
+    world.master.order = 0;
+}
+
+/* The labels, where a list was started. What is between the two looks is the feeder's doing. */
+static void feed(void)
+{
+    bool has_stepped;
+
+    if (world.feeding.stage != FEEDING_RUNNING)
+        return;
+    if (!labels_before(&world.labels, &world.node))
+        printf("%7u ms  feeder  somebody else changed the set-points that are held\n", world.now);
+    has_stepped = feeding_run(&world.feeding, &world.node);
+    labels_behind(&world.labels, &world.node, world.now, has_stepped);
+    if (world.feeding.stage != FEEDING_RUNNING)
+        printf("%7u ms  feeder  broken off behind %u of %u labels: %s\n", world.now, world.feeding.position, (uint32_t)world.feeding.count,
+               world.feeding.stage == FEEDING_OVERWRITTEN ? "somebody else wrote 6040h or 607Ah" : "the drive is not enabled in mode 1");
+}
+
 /* In a product: for (;;) main_loop_pass(); with the axis command handed to the position controller. */
 static void main_loop_pass(void)
 {
     struct node_inputs inputs = measure();
 
     node_run(&world.node, &inputs);
+    if (world.master.order != 0)
+        start_feeding();
+    feed();
     world.command = node_command(&world.node);
     log_drive();
     log_glide();
@@ -174,6 +225,8 @@ static void print_counts(void)
         refused += node->refused[i];
     printf("%u calls accepted, %u refused; frames lost: %u in, %u out\n", node->refused[0], refused, frame_queue_lost(&node->received),
            frame_queue_lost(&node->to_send));
+    if (world.labels.list.count != 0)
+        printf("%u answers of the feeder handed in again\n", world.feeding.handed_again);
     printf("%u checks held, %u failed\n", world.master.held, world.master.failed);
 }
 
@@ -191,16 +244,18 @@ int main(int argc, char **argv)
 
     world.master.script = script_named(name);
     if (world.master.script == 0) {
-        printf("no script '%s': moves, flood, damage, stall, swapped, jam\n", name);
+        printf("no script '%s': moves, flood, damage, stall, swapped, feeder, halted, meddling, jam\n", name);
         return 2;
     }
     node_init(&world.node, &hooks, stored_file(world.master.script->has_swapped_limits));
+    world.master.labels = &world.labels;
     node_power_up(&world.node, NODE_ID);
     while (master_run(&world.master, world.now) && world.now < LONGEST_RUN) {
         carry_out(world.master.trouble);
         world.master.trouble = TROUBLE_NONE;
         millisecond();
     }
+    labels_print(&world.labels);
     print_counts();
     return world.master.failed != 0 || world.now >= LONGEST_RUN;
 }

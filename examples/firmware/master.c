@@ -64,7 +64,7 @@ static void begin(struct master *master, const struct step *step)
 {
     struct heard *heard = &master->heard;
 
-    heard->has_reply = heard->has_any = false;
+    heard->has_reply = heard->has_any = heard->has_start = false;
     heard->shown = heard->status;
     master->upload = (struct upload){.is_running = false};
     switch (step->kind) {
@@ -73,6 +73,7 @@ static void begin(struct master *master, const struct step *step)
     case STEP_CONTROL: send(master, CONTROL_FRAME, 2, step->value, 0); break;
     case STEP_MOVE: send_target(master, step); break;
     case STEP_PLANT: master->trouble = (enum trouble)step->value; break;
+    case STEP_FEED: master->order = step->list; break;
     case STEP_WRITE: case STEP_READ: case STEP_TEXT: send_sdo(master, step); break;
     default: break;
     }
@@ -119,6 +120,12 @@ void master_hear(struct master *master, const struct can_frame *frame)
     default:
         break;
     }
+}
+
+void master_hear_start(struct master *master, uint32_t outcome)
+{
+    master->heard.start = outcome;
+    master->heard.has_start = true;
 }
 
 /* ---- checking */
@@ -192,6 +199,8 @@ static bool holds(struct master *master, const struct step *step)
     case STEP_WRITE: return is_written(master, step);
     case STEP_READ: return is_read(master, step);
     case STEP_TEXT: return is_text(master, step);
+    case STEP_FEED: return heard->has_start && heard->start == step->expected;
+    case STEP_LABELS: return labels_hold(master->labels, (enum label_check)step->value);
     case STEP_BOOT_UP: return takes(&heard->has_heartbeat, heard->heartbeat == 0);
     case STEP_HEARTBEAT: return takes(&heard->has_heartbeat, heard->heartbeat == step->expected);
     case STEP_STATUS: return (heard->status & step->mask) == step->expected;
@@ -213,6 +222,7 @@ static const char *const trouble_names[TROUBLES] = {
     [TROUBLE_STALL] = "the bus is kept busy by others",
     [TROUBLE_FLIP] = "a bit of the dictionary flips",
     [TROUBLE_JAM] = "the motor's shaft jams",
+    [TROUBLE_STRAY] = "the CAN driver hands on a frame that cannot be, identifier 800h",
     [TROUBLE_POWER_CYCLE] = "the amplifier is switched off and on",
 };
 
@@ -242,12 +252,27 @@ static void say_write(const struct step *step)
         printf(" is refused with %08X\n", step->expected);
 }
 
+static const char *const label_names[LABEL_CHECKS] = {
+    [LABELS_ALL_REACHED] = "every label is reached",
+    [LABELS_ONCE_EACH] = "every label is taken once, and nothing by further steps",
+    [LABELS_IN_PLACE] = "every label's target is the one before it and its length",
+    [LABELS_TWO_AHEAD] = "at times two labels were held",
+    [LABELS_ALONE] = "no set-point but the labels",
+};
+
+static void say_feed(const struct step *step)
+{
+    printf("the feeder %s a list of %u labels %s\n", step->expected == 0 ? "starts on" : "refuses", (uint32_t)step->list->count, step->says);
+}
+
 static void say_checked(const struct step *step)
 {
     switch (step->kind) {
     case STEP_WRITE: say_write(step); break;
     case STEP_READ: printf("%04Xh:%u reads %08Xh\n", step->index, step->subindex, step->expected); break;
     case STEP_TEXT: printf("%04Xh:%u reads '%s' by segments\n", step->index, step->subindex, step->says); break;
+    case STEP_FEED: say_feed(step); break;
+    case STEP_LABELS: printf("%s\n", label_names[step->value]); break;
     case STEP_BOOT_UP: printf("boot-up\n"); break;
     case STEP_HEARTBEAT: printf("heartbeat %02X %s\n", step->expected, step->says); break;
     case STEP_STATUS: printf("status word has %04X of %04X %s\n", step->expected, step->mask, step->says); break;

@@ -6,6 +6,7 @@
 #include <stdint.h>
 
 #include "frame_queue.h"
+#include "labels.h"
 #include "script.h"
 
 enum { NODE_ID = 5, MOST_TEXT = 32 /* characters of a device name */ };
@@ -16,8 +17,9 @@ struct heard {
     uint16_t status, emergency_code;
     uint8_t emergency_register, heartbeat;
     int32_t position, velocity;
+    uint32_t start; /* what came of the start of the feeder */
     /* heard since the step began */
-    bool has_reply, has_emergency, has_heartbeat, has_any;
+    bool has_reply, has_emergency, has_heartbeat, has_any, has_start;
     uint16_t shown; /* all bits of the status words, that of the step's start too */
 };
 
@@ -29,9 +31,10 @@ struct upload {
     bool is_running, is_whole;
 };
 
-/* All but the script zero at the start. */
+/* All but the script and the labels zero at the start. */
 struct master {
     const struct script *script;
+    const struct labels *labels; /* what became of them */
     uint32_t part, step;  /* where it is in the script */
     bool is_begun;        /* the step's frame is sent */
     uint32_t begun;       /* when */
@@ -40,6 +43,7 @@ struct master {
     struct upload upload;
     struct frame_queue to_bus;
     enum trouble trouble; /* planted by a step, for the simulation to carry out and to clear */
+    const struct label_list *order; /* for the feeder to start on, likewise; 0: none */
     uint32_t held, failed;
 };
 
@@ -48,5 +52,8 @@ bool master_run(struct master *master, uint32_t now);
 
 /* A frame of the node. */
 void master_hear(struct master *master, const struct can_frame *frame);
+
+/* What came of the start of the feeder. */
+void master_hear_start(struct master *master, uint32_t outcome);
 
 #endif

@@ -73,21 +73,21 @@ static bool take_answer(struct node *node, uint32_t answer, const char *call, ui
     return true;
 }
 
-static void tell(struct node *node, uint32_t event, const uint8_t *args, uint64_t length)
+static bool tell(struct node *node, uint32_t event, const uint8_t *args, uint64_t length)
 {
     if (node->is_stopped)
-        return;
-    take_answer(node,
-                cendurak_event(node->state, sizeof node->state, node->dict, sizeof node->dict, node->out, sizeof node->out, event, args, length),
-                "event", event);
+        return false;
+    return take_answer(
+        node, cendurak_event(node->state, sizeof node->state, node->dict, sizeof node->dict, node->out, sizeof node->out, event, args, length),
+        "event", event);
 }
 
-static void take_frame(struct node *node, const struct can_frame *frame)
+static bool take_frame(struct node *node, const struct can_frame *frame)
 {
-    take_answer(node,
-                cendurak_frame(node->state, sizeof node->state, node->dict, sizeof node->dict, node->out, sizeof node->out, frame->identifier,
-                               frame->data, frame->length),
-                "frame", frame->identifier);
+    return take_answer(node,
+                       cendurak_frame(node->state, sizeof node->state, node->dict, sizeof node->dict, node->out, sizeof node->out,
+                                      frame->identifier, frame->data, frame->length),
+                       "frame", frame->identifier);
 }
 
 bool node_power_up(struct node *node, uint8_t node_id)
@@ -166,6 +166,12 @@ static void tell_feedback(struct node *node, const struct node_inputs *inputs)
     tell(node, CENDURAK_FEEDBACK, args, sizeof args);
 }
 
+static void tell_reached(struct node *node)
+{
+    if (tell(node, CENDURAK_SET_POINT_REACHED, 0, 0))
+        node->hooks->reached();
+}
+
 /* What the axis was to do is done. The inputs are of the command before this pass, so no frame may come between the two. */
 static void tell_ends(struct node *node, const struct node_inputs *inputs)
 {
@@ -176,7 +182,7 @@ static void tell_ends(struct node *node, const struct node_inputs *inputs)
     else if (drive == CENDURAK_DRIVE_FAULT_REACTION_ACTIVE && inputs->is_at_standstill)
         tell(node, CENDURAK_REACTION_DONE, 0, 0);
     else if (cendurak_set_points(node->state) != 0 && inputs->is_at_target)
-        tell(node, CENDURAK_SET_POINT_REACHED, 0, 0);
+        tell_reached(node);
 }
 
 static void tell_inputs(struct node *node, const struct node_inputs *inputs)
@@ -194,16 +200,25 @@ static void tell_inputs(struct node *node, const struct node_inputs *inputs)
 
 /* ---- the main loop's pass */
 
-/*
- * Received frames, as long as whatever a frame can bring forth finds room to be sent. A slow bus then holds up the receive queue, which is
- * where an overload is counted, and never loses half an answer.
- */
+/* Whether whatever a frame can bring forth finds room to be sent. */
+static bool can_take(const struct node *node)
+{
+    return !node->is_stopped && frame_queue_room(&node->to_send) >= CENDURAK_MOST_FRAMES;
+}
+
+/* Received frames, as long as there is that room. A slow bus then holds up the receive queue, which is where an overload is counted, and never
+ * loses half an answer. */
 static void take_frames(struct node *node)
 {
     struct can_frame frame;
 
-    while (!node->is_stopped && frame_queue_room(&node->to_send) >= CENDURAK_MOST_FRAMES && frame_queue_take(&node->received, &frame))
+    while (can_take(node) && frame_queue_take(&node->received, &frame))
         take_frame(node, &frame);
+}
+
+bool node_hand(struct node *node, const struct can_frame *frame)
+{
+    return can_take(node) && take_frame(node, frame);
 }
 
 void node_run(struct node *node, const struct node_inputs *inputs)

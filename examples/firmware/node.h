@@ -50,10 +50,11 @@ struct axis_command {
     uint32_t velocity, acceleration, deceleration;
 };
 
-/* What a product does when a call was refused, and when the configuration was loaded. All run in the main loop. */
+/* What a product does when a call was refused, when the configuration was loaded, and when a target is reached. All run in the main loop. */
 struct node_hooks {
     void (*refused)(uint32_t refusal, const char *call, uint32_t number); /* to the log: `number` is the identifier, event or node-ID */
     void (*loaded)(uint32_t refusal, uint32_t entry, uint32_t abort_code); /* refusal 0: it is loaded; else the node keeps its defaults */
+    void (*reached)(void);                                                /* the axis rests on the active set-point's target, and the node was told */
     void (*stop_safely)(void);                                            /* the output stage off, now */
 };
 
@@ -88,7 +89,13 @@ bool node_power_up(struct node *node, uint8_t node_id);
 /* One pass: faults first, then what changed in the last millisecond, then the received frames. */
 void node_run(struct node *node, const struct node_inputs *inputs);
 
-/* What the axis has to do after that pass. */
+/*
+ * A frame of the amplifier's own, behind that pass: it goes to the node at once, past the queue of the bus. False: it was refused, or there is no
+ * room for what it may bring forth, and nothing has changed; it may be handed in again.
+ */
+bool node_hand(struct node *node, const struct can_frame *frame);
+
+/* What the axis has to do after that pass, and after what was handed in. */
 struct axis_command node_command(const struct node *node);
 
 /* ---- interrupts */

@@ -2,9 +2,11 @@
 
 #include <string.h>
 
+#include "feeding.h"
+
 /* ---- the words of a script */
 
-enum { SOON = 50, A_WHILE = 4000 };
+enum { SOON = 50, A_WHILE = 4000, TWENTY_LABELS = 15000 };
 
 #define NMT(command) {.kind = STEP_NMT, .says = #command, .value = (command)}
 #define SYNC_EVERY(ms) {.kind = STEP_SYNC, .value = (ms)}
@@ -18,6 +20,8 @@ enum { SOON = 50, A_WHILE = 4000 };
     {.kind = STEP_WRITE, .index = (object), .subindex = (sub), .size = (bytes), .value = (v), .expected = (abort), .within = SOON}
 #define READ(object, sub, v) {.kind = STEP_READ, .index = (object), .subindex = (sub), .expected = (v), .within = SOON}
 #define TEXT(object, sub, text) {.kind = STEP_TEXT, .says = (text), .index = (object), .subindex = (sub), .within = SOON}
+#define FEED(labels, outcome) {.kind = STEP_FEED, .says = #outcome, .list = (labels), .expected = (outcome), .within = SOON}
+#define LABELS(what, ms) {.kind = STEP_LABELS, .value = (what), .within = (ms)}
 #define BOOT_UP {.kind = STEP_BOOT_UP, .within = SOON}
 #define HEARTBEAT(nmt) {.kind = STEP_HEARTBEAT, .says = #nmt, .expected = (nmt), .within = 150}
 #define STATUS(bits, v) {.kind = STEP_STATUS, .says = #v, .mask = (bits), .expected = (v), .within = A_WHILE}
@@ -301,6 +305,87 @@ static const struct step jam[] = {
     END,
 };
 
+/* Twenty labels, with a label of no length, and labels fed back; and a list that is too long by one. */
+static const int32_t twenty_lengths[] = {1200, 1200, 850, 0, 2400, -300, 1200, 1200, 60, 3000, -1500, 0, 0, 1999, 1, -1, 4000, -2500, 777, 1111};
+static const int32_t too_many_lengths[FEEDER_MOST_LENGTHS + 1];
+static const struct label_list twenty = {twenty_lengths, sizeof twenty_lengths / sizeof twenty_lengths[0]};
+static const struct label_list too_many = {too_many_lengths, sizeof too_many_lengths / sizeof too_many_lengths[0]};
+
+static const struct step label_profile[] = {
+    WRITE(0x6081, 0, 4, 12000),
+    WRITE(0x6083, 0, 4, 60000),
+    WRITE(0x6084, 0, 4, 60000),
+    WRITE(0x6067, 0, 4, 3),
+    WRITE(0x6068, 0, 2, 10),
+    FEED(&twenty, FEEDING_NOT_READY),
+    END,
+};
+
+/* Labels are fed while the bus has other things to do: objects are read and written, a write is refused, so is a call. Then there is no room for
+ * the node's frames, and two labels are reached meanwhile: the next one waits, and is not lost. Behind the last one the feeder goes on stepping. */
+static const struct step feed[] = {
+    FEED(&too_many, FEEDING_TOO_LONG),
+    WAIT(20),
+    READ(0x6040, 0, ENABLE),
+    FEED(&twenty, FEEDING_STARTED),
+    WAIT(400),
+    WRITE(0x6081, 0, 4, 9000),
+    REFUSED(0x6060, 0, 1, 7, VALUE_INVALID),
+    TEXT(0x1008, 0, "Cendurak servo node"),
+    PLANT(TROUBLE_STRAY),
+    WAIT(284),
+    PLANT(TROUBLE_STALL),
+    WAIT(300),
+    READ(0x6061, 0, 1),
+    LABELS(LABELS_ALL_REACHED, TWENTY_LABELS),
+    WAIT(200),
+    LABELS(LABELS_ONCE_EACH, SOON),
+    LABELS(LABELS_IN_PLACE, SOON),
+    LABELS(LABELS_TWO_AHEAD, SOON),
+    LABELS(LABELS_ALONE, SOON),
+    STATUS(SET_POINT_TAKEN | TARGET_REACHED, TARGET_REACHED),
+    POSITION(14697),
+    END,
+};
+
+/* The master halts the axis, and the feeder leaves it at that; or it switches the drive off while a list is fed. */
+static const struct step halt[] = {
+    FEED(&twenty, FEEDING_STARTED),
+    WAIT(500),
+    CONTROL(HALT),
+    SPEED(0),
+    STATUS(TARGET_REACHED, TARGET_REACHED),
+    WAIT(100),
+    READ(0x6040, 0, HALT),
+    FEED(&twenty, FEEDING_NOT_READY),
+    CONTROL(SWITCH_ON),
+    STATUS(STATE_BITS, SWITCHED_ON),
+    CONTROL(ENABLE),
+    STATUS(STATE_BITS, OPERATION_ENABLED),
+    FEED(&twenty, FEEDING_STARTED),
+    WAIT(500),
+    CONTROL(SHUTDOWN),
+    STATUS(STATE_BITS, READY_TO_SWITCH_ON),
+    WAIT(100),
+    READ(0x6040, 0, SHUTDOWN),
+    END,
+};
+
+/* Somebody else writes 6040h, an edge at once, and takes it back before the feeder can see it: two labels that were held are thrown away, and the
+ * checks must say so. */
+static const struct step meddle[] = {
+    FEED(&twenty, FEEDING_STARTED),
+    WAIT(500),
+    CONTROL(NEW_AT_ONCE),
+    CONTROL(ENABLE),
+    LABELS(LABELS_ALL_REACHED, TWENTY_LABELS),
+    LABELS(LABELS_ONCE_EACH, SOON),
+    LABELS(LABELS_IN_PLACE, SOON),
+    LABELS(LABELS_TWO_AHEAD, SOON),
+    LABELS(LABELS_ALONE, SOON),
+    END,
+};
+
 /* ---- scripts */
 
 static const struct step *const moves_parts[] = {
@@ -309,6 +394,9 @@ static const struct step *const flood_parts[] = {commission, start, enable, floo
 static const struct step *const damage_parts[] = {commission, start, enable, damage, 0};
 static const struct step *const stall_parts[] = {commission, start, enable, stall, 0};
 static const struct step *const swapped_parts[] = {commission_by_sdo, start, enable, one_move, 0};
+static const struct step *const feeder_parts[] = {commission, start, label_profile, enable, feed, 0};
+static const struct step *const halted_parts[] = {commission, start, label_profile, enable, halt, 0};
+static const struct step *const meddling_parts[] = {commission, start, label_profile, enable, meddle, 0};
 static const struct step *const jam_parts[] = {commission, start, enable, jam, 0};
 
 static const struct script scripts[] = {
@@ -317,6 +405,9 @@ static const struct script scripts[] = {
     {.name = "damage", .parts = damage_parts},
     {.name = "stall", .parts = stall_parts},
     {.name = "swapped", .parts = swapped_parts, .has_swapped_limits = true},
+    {.name = "feeder", .parts = feeder_parts},
+    {.name = "halted", .parts = halted_parts},
+    {.name = "meddling", .parts = meddling_parts},
     {.name = "jam", .parts = jam_parts},
 };
 

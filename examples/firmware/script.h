@@ -5,6 +5,8 @@
 #include <stdbool.h>
 #include <stdint.h>
 
+#include "labels.h"
+
 enum step_kind {
     /* sent; the next step follows in the same millisecond */
     STEP_NMT,     /* `value` is the command */
@@ -18,6 +20,8 @@ enum step_kind {
     STEP_WRITE,     /* SDO download; `expected` is the abort code, 0 for none */
     STEP_READ,      /* SDO upload; `expected` is the value */
     STEP_TEXT,      /* SDO upload by segments; `says` is the text */
+    STEP_FEED,      /* the operator starts the feeder on `list`; `expected` is what comes of it */
+    STEP_LABELS,    /* of the labels that were fed: the check `value` */
     STEP_BOOT_UP,   /* the boot-up frame */
     STEP_HEARTBEAT, /* a heartbeat with the NMT state `expected` */
     STEP_STATUS,    /* the status word under `mask` is `expected` */
@@ -38,6 +42,7 @@ enum trouble {
     TROUBLE_STALL,       /* the bus is kept busy by others, and carries nothing of the node for a while */
     TROUBLE_FLIP,        /* a bit of the dictionary flips */
     TROUBLE_JAM,         /* the motor's shaft does not turn any more */
+    TROUBLE_STRAY,       /* a frame comes with an identifier that no frame can have */
     TROUBLE_POWER_CYCLE, /* the amplifier is switched off and on */
     TROUBLES
 };
@@ -48,6 +53,7 @@ struct step {
     uint32_t index, subindex, size; /* of an SDO's object */
     uint32_t value, mask, expected;
     int32_t target;
+    const struct label_list *list;
     uint32_t within;
 };
 

@@ -6,6 +6,7 @@
 #include <stdio.h>
 
 #include "counter.h"
+#include "digits.h"
 #include "kinds.h"
 #include "own_stack.h"
 
@@ -19,15 +20,6 @@ static void make_calls(void)
     prepare(kind);
     for (uint32_t i = 0; i < times; i++)
         call(kind, i);
-}
-
-static uint32_t number_of(const char *digits)
-{
-    uint32_t number = 0;
-
-    for (const char *p = digits; *p; p++)
-        number = 10 * number + (uint32_t)(*p - '0');
-    return number;
 }
 
 int main(int argc, char **argv)

@@ -1,0 +1,12 @@
+pub mod Words
+pub mod Steps
+pub mod Apart
+pub mod Unique
+pub mod Edges
+pub mod Objects
+pub mod Targets
+pub mod Values
+pub mod Answers
+pub mod Turns
+pub mod Played
+pub mod Telling

@@ -1,0 +1,3 @@
+pub mod Feeder
+pub mod Feeding
+pub mod Promises
