@@ -1,16 +1,15 @@
 // One record: payload length (2), kind (2), little-endian, payload.
-use crate::lines::print_answer;
 use cendurak::cendurak_event;
 use cendurak::cendurak_frame;
 use cendurak::cendurak_power_up;
 use dictionary::places::DICTIONARY_LENGTH;
 use form::layout::STATE_LENGTH;
-use libc::STDIN_FILENO;
 use output::OUTPUT_LENGTH;
+ghost use mathlib.Core.Path.{_≡_};
 ghost use Prim.Native.Nat.{_≤_};
 ghost use lib.ListN.{length};
 
-const HEAD: usize = 4;
+pub const HEAD: usize = 4;
 
 const MOST_PAYLOAD: usize = 16;
 
@@ -21,8 +20,16 @@ const EVENT: u16 = 2;
 
 const POWER_UP: u16 = 3;
 
-// Refusal 8, a bad record, as an answer: the refusal times 256 plus the number of frames.
-const BAD_RECORD: u32 = 0x800;
+// The refusal of a bad record, and the answer with it: the refusal times 256 plus the number of frames.
+pub const BAD: u32 = 8;
+
+pub const BAD_RECORD: u32 = BAD * 256;
+
+// How many bytes of the input a record took, and the answer. It took none where it is not whole yet.
+pub struct Served {
+    pub taken: usize,
+    pub status: u32,
+}
 
 // A byte as a number of 32 bits.
 fn wide(byte: u8) -> u32 {
@@ -35,7 +42,9 @@ fn number_of(low: u8, high: u8) -> u16 {
 }
 
 // The bytes that a payload of that kind has at least: the identifier, the event's number, N. No payload is long enough for another kind.
-fn least(kind: u16) -> usize {
+fn least(kind: u16) -> usize
+    ensures { λ r. ⌜ (1 ≤ r) × (r ≤ 17) ⌝ }
+{
     match kind {
         FRAME => 2,
         EVENT => 1,
@@ -51,12 +60,14 @@ fn most(kind: u16) -> usize
     if kind == POWER_UP { 1 } else { MOST_PAYLOAD }
 }
 
-// The number that a payload starts with: the identifier, the event's number, N.
-fn leading(kind: u16, payload: &[u8; MOST_PAYLOAD]) -> u32 {
-    if kind == FRAME {
-        return number_of(payload[0], payload[1]) as u32;
+// The number that a payload starts with, of one byte or two: the identifier, the event's number, N.
+fn leading(bytes: &[u8]) -> u32
+    requires { ⌜ 1 ≤ length (now bytes) ⌝ }
+{
+    if bytes.len() == 1 {
+        return wide(bytes[0]);
     }
-    wide(payload[0])
+    number_of(bytes[0], bytes[1]) as u32
 }
 
 // The call that a record of that kind asks for.
@@ -77,62 +88,53 @@ fn call(
     cendurak_power_up(state, dictionary, output, number)
 }
 
-// Reads so many bytes of a payload; false where the input ends before.
-fn read_payload(payload: &mut [u8], count: usize) -> bool
-    requires { ⌜ count ≤ length (now payload) ⌝ }
+// No record starts so: what is taken is the head.
+fn bad() -> Served
+    ensures { λ r. ⌜ r .taken ≡ 4 ⌝ }
 {
-    let read = io::read_full(STDIN_FILENO, &mut payload[0..count]);
-    read == count
+    Served {
+        taken: HEAD,
+        status: BAD_RECORD,
+    }
 }
 
-// The answer to the record whose head was read: the payload is read and the call made.
-fn answer(
-    kind: u16,
-    length: usize,
+// The record is not whole yet.
+fn cut() -> Served
+    ensures { λ r. ⌜ r .taken ≡ 0 ⌝ }
+{
+    Served {
+        taken: 0,
+        status: BAD_RECORD,
+    }
+}
+
+// The record that the input starts with: where it is whole, the call is made.
+pub fn serve(
+    input: &[u8],
     state: &mut [u8; STATE_LENGTH],
     dictionary: &mut [u8; DICTIONARY_LENGTH],
     output: &mut [u8; OUTPUT_LENGTH],
-) -> u32 {
+) -> Served
+    ensures { λ r. ⌜ r .taken ≤ length (now (input .entry)) ⌝ }
+{
+    if input.len() < HEAD {
+        return cut();
+    }
+    let length = number_of(input[0], input[1]) as usize;
+    let kind = number_of(input[2], input[3]);
     let start = least(kind);
     if length < start {
-        return BAD_RECORD;
+        return bad();
     }
     if most(kind) < length {
-        return BAD_RECORD;
+        return bad();
     }
-    let mut payload = [0u8; MOST_PAYLOAD];
-    if !read_payload(&mut payload, length) {
-        return BAD_RECORD;
+    if input.len() - HEAD < length {
+        return cut();
     }
-    let number = leading(kind, &payload);
-    call(
-        kind,
-        number,
-        &payload[start..length],
-        state,
-        dictionary,
-        output,
-    )
-}
-
-// The next record, served and its lines printed; false where there is none, it is bad, or its lines cannot be written.
-pub fn serve(
-    state: &mut [u8; STATE_LENGTH],
-    dictionary: &mut [u8; DICTIONARY_LENGTH],
-    output: &mut [u8; OUTPUT_LENGTH],
-    number: u64,
-) -> bool {
-    let mut head = [0u8; HEAD];
-    let read = io::read_full(STDIN_FILENO, &mut head);
-    if read == 0 {
-        return false;
-    }
-    let mut status = BAD_RECORD;
-    if read == HEAD {
-        let length = number_of(head[0], head[1]) as usize;
-        let kind = number_of(head[2], head[3]);
-        status = answer(kind, length, state, dictionary, output);
-    }
-    let is_printed = print_answer(number, status, dictionary, output);
-    is_printed && status != BAD_RECORD
+    let from = HEAD + start;
+    let end = HEAD + length;
+    let number = leading(&input[HEAD..from]);
+    let status = call(kind, number, &input[from..end], state, dictionary, output);
+    Served { taken: end, status }
 }
