@@ -19,6 +19,15 @@
 extern "C" {
 #endif
 
+/*
+ * The version, of this header, of the archive that it belongs to and of the data sheet (cendurak.eds): major and minor number. The major one is
+ * raised where a caller has to be changed, the minor one with every other release (CHANGELOG.md). As one number it reads as CiA 301 writes
+ * revisions: the major number from bit 16 on.
+ */
+#define CENDURAK_VERSION_MAJOR 1u
+#define CENDURAK_VERSION_MINOR 7u
+#define CENDURAK_VERSION (65536u * CENDURAK_VERSION_MAJOR + CENDURAK_VERSION_MINOR)
+
 /* ---- places and lengths: tools/header writes them from the source */
 
 /* The lengths of the three buffers. State and dictionary have just these; output has this many bytes or more. */
@@ -38,22 +47,33 @@ extern "C" {
 #define CENDURAK_FIRST_NODE 1u
 #define CENDURAK_LAST_NODE 127u
 
-/* In the dictionary: 603Fh, 6040h, 6041h, 6061h, 6064h, 6068h, 606Ch, 607Ah, 6083h, 6084h and 60FFh. */
+/* Receive PDOs, and in the dictionary the identifier of the first one (1400h:1); the next one's stands so many bytes behind it. */
+#define CENDURAK_RECEIVE_PDOS 4u
+#define CENDURAK_DICT_AT_RECEIVE_IDENTIFIER 21u
+#define CENDURAK_RECEIVE_IDENTIFIER_STEP 6u
+
+/* In the dictionary: 603Fh, 6040h, 6041h, 6061h, 6064h, 6067h, 6068h, 606Ch, 607Ah, 607Dh:1, 607Dh:2, 6081h, 6083h, 6084h and 60FFh. */
 #define CENDURAK_DICT_AT_ERROR_CODE 332u
 #define CENDURAK_DICT_AT_CONTROL_WORD 334u
 #define CENDURAK_DICT_AT_STATUS_WORD 336u
 #define CENDURAK_DICT_AT_MODE_DISPLAY 339u
 #define CENDURAK_DICT_AT_POSITION 340u
+#define CENDURAK_DICT_AT_POSITION_WINDOW 344u
 #define CENDURAK_DICT_AT_WINDOW_TIME 348u
 #define CENDURAK_DICT_AT_VELOCITY 350u
 #define CENDURAK_DICT_AT_TARGET_POSITION 358u
+#define CENDURAK_DICT_AT_MINIMUM_POSITION 363u
+#define CENDURAK_DICT_AT_MAXIMUM_POSITION 367u
+#define CENDURAK_DICT_AT_PROFILE_VELOCITY 371u
 #define CENDURAK_DICT_AT_ACCELERATION 375u
 #define CENDURAK_DICT_AT_DECELERATION 379u
 #define CENDURAK_DICT_AT_TARGET_VELOCITY 383u
 
 /* In the state: what the accessors below read. */
+#define CENDURAK_STATE_AT_NODE_ID 0u
 #define CENDURAK_STATE_AT_NMT 1u
 #define CENDURAK_STATE_AT_VOLTAGE 2u
+#define CENDURAK_STATE_AT_TRANSFER 5u
 #define CENDURAK_STATE_AT_DRIVE 15u
 #define CENDURAK_STATE_AT_MODE 16u
 #define CENDURAK_STATE_AT_CAUSE 19u
@@ -72,7 +92,7 @@ enum cendurak_refusal_number {
     CENDURAK_BAD_DICT_LEN = 1,  /* the dictionary is not CENDURAK_DICT_LEN bytes */
     CENDURAK_BAD_OUT_LEN = 2,   /* the output has under CENDURAK_OUT_LEN bytes */
     CENDURAK_BAD_NODE_ID = 3,   /* power-up with a node-ID outside CENDURAK_FIRST_NODE..CENDURAK_LAST_NODE */
-    CENDURAK_NOT_SOUND = 4,     /* state bytes that are no state, or state and dictionary not sound */
+    CENDURAK_NOT_SOUND = 4,     /* state bytes of another length, in power-up too, or that are no state; state and dictionary not sound */
     CENDURAK_BAD_FRAME = 5,     /* an identifier over 7FFh, or more than eight data bytes */
     CENDURAK_BAD_EVENT = 6,     /* an unknown event, a wrong argument size, a voltage flag not 0 or 1, fault code 0 */
     CENDURAK_OUT_OF_PLACE = 7,  /* an event that cannot happen now */
@@ -204,6 +224,12 @@ static inline uint16_t cendurak_status_word(const uint8_t *dict)
  * state is; the dictionary's entries are packed in rising order.
  */
 
+/* The node-ID that it was powered up with. */
+static inline uint8_t cendurak_node_id(const uint8_t *state)
+{
+    return state[CENDURAK_STATE_AT_NODE_ID];
+}
+
 /* The NMT states, and the node's own. */
 enum cendurak_nmt_number {
     CENDURAK_NMT_PRE_OPERATIONAL = 0,
@@ -214,6 +240,18 @@ enum cendurak_nmt_number {
 static inline uint8_t cendurak_nmt(const uint8_t *state)
 {
     return state[CENDURAK_STATE_AT_NMT];
+}
+
+/* An SDO transfer by segments in progress. Every initiate ends it, also one that the firmware itself hands in. */
+enum cendurak_transfer_number {
+    CENDURAK_TRANSFER_NONE = 0,
+    CENDURAK_TRANSFER_UPLOAD = 1,
+    CENDURAK_TRANSFER_DOWNLOAD = 2
+};
+
+static inline uint8_t cendurak_transfer(const uint8_t *state)
+{
+    return state[CENDURAK_STATE_AT_TRANSFER];
 }
 
 /* The voltage flag, 0 or 1, as the last event 9 gave it. Power-up, by NMT too, puts it to 0: the firmware then has to tell it again. */
@@ -288,7 +326,12 @@ static inline uint16_t cendurak_stay(const uint8_t *state)
     return cendurak_half(state + CENDURAK_STATE_AT_STAY);
 }
 
-/* The window time 6068h, in ticks. */
+/* That window, 6067h, to both sides of the target; and the window time 6068h, in ticks. */
+static inline uint32_t cendurak_position_window(const uint8_t *dict)
+{
+    return cendurak_word(dict + CENDURAK_DICT_AT_POSITION_WINDOW);
+}
+
 static inline uint16_t cendurak_window_time(const uint8_t *dict)
 {
     return cendurak_half(dict + CENDURAK_DICT_AT_WINDOW_TIME);
@@ -315,7 +358,28 @@ static inline int32_t cendurak_velocity(const uint8_t *dict)
     return cendurak_signed(dict + CENDURAK_DICT_AT_VELOCITY);
 }
 
-/* For profile velocity: acceleration 6083h, deceleration 6084h and target velocity 60FFh. */
+/* For profile position: target 607Ah, the limits 607Dh:1 and :2, of which the first is at most the second, and profile velocity 6081h. */
+static inline int32_t cendurak_target_position(const uint8_t *dict)
+{
+    return cendurak_signed(dict + CENDURAK_DICT_AT_TARGET_POSITION);
+}
+
+static inline int32_t cendurak_minimum_position(const uint8_t *dict)
+{
+    return cendurak_signed(dict + CENDURAK_DICT_AT_MINIMUM_POSITION);
+}
+
+static inline int32_t cendurak_maximum_position(const uint8_t *dict)
+{
+    return cendurak_signed(dict + CENDURAK_DICT_AT_MAXIMUM_POSITION);
+}
+
+static inline uint32_t cendurak_profile_velocity(const uint8_t *dict)
+{
+    return cendurak_word(dict + CENDURAK_DICT_AT_PROFILE_VELOCITY);
+}
+
+/* For both profiles acceleration 6083h and deceleration 6084h; for profile velocity target velocity 60FFh. */
 static inline uint32_t cendurak_acceleration(const uint8_t *dict)
 {
     return cendurak_word(dict + CENDURAK_DICT_AT_ACCELERATION);
@@ -329,6 +393,42 @@ static inline uint32_t cendurak_deceleration(const uint8_t *dict)
 static inline int32_t cendurak_target_velocity(const uint8_t *dict)
 {
     return cendurak_signed(dict + CENDURAK_DICT_AT_TARGET_VELOCITY);
+}
+
+/* The identifiers of the services; that of a single node is this and its node-ID, but for NMT and SYNC. And the last one that a frame can have. */
+enum cendurak_service_number {
+    CENDURAK_NMT_COMMAND = 0x000,
+    CENDURAK_SYNC = 0x080,
+    CENDURAK_EMERGENCY = 0x080,
+    CENDURAK_SDO_REPLY = 0x580,
+    CENDURAK_SDO_REQUEST = 0x600,
+    CENDURAK_HEARTBEAT = 0x700,
+    CENDURAK_LAST_IDENTIFIER = 0x7FF
+};
+
+/*
+ * The identifiers that the node serves, for the acceptance filters of a CAN controller: NMT, SYNC, its SDO requests and the valid receive PDOs.
+ * Frames on all others send nothing and change nothing. Writes them into the list, and returns how many they are. The NMT state is not looked at:
+ * behind the command that starts the node its first process frame may be the next one on the bus.
+ *
+ * The list changes where the identifier of a receive PDO (1400h:1 to 1403h:1) is written or set back: in Pre-operational alone, by SDO, by a load
+ * and by resets. Where the filters are set before the frames of that answer are sent, no frame that a master sends upon them is missed.
+ */
+#define CENDURAK_MOST_SERVED (3u + CENDURAK_RECEIVE_PDOS)
+
+static inline uint32_t cendurak_served(const uint8_t *state, const uint8_t *dict, uint16_t *identifiers)
+{
+    uint32_t count = 0;
+
+    identifiers[count++] = CENDURAK_NMT_COMMAND;
+    identifiers[count++] = CENDURAK_SYNC;
+    identifiers[count++] = (uint16_t)(CENDURAK_SDO_REQUEST + cendurak_node_id(state));
+    for (uint32_t i = 0; i < CENDURAK_RECEIVE_PDOS; i++) {
+        uint32_t identifier = cendurak_word(dict + CENDURAK_DICT_AT_RECEIVE_IDENTIFIER + CENDURAK_RECEIVE_IDENTIFIER_STEP * i);
+        if (identifier <= CENDURAK_LAST_IDENTIFIER) /* bit 31 is 1 where the PDO is not valid */
+            identifiers[count++] = (uint16_t)identifier;
+    }
+    return count;
 }
 
 #ifdef __cplusplus

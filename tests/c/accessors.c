@@ -1,6 +1,6 @@
 /*
  * Tests of the header's accessors: what they read is what the node was told, and what its status word says, along a walk through every drive
- * state and along random calls.
+ * state and along random calls; and of the identifiers that the node serves, with random receive PDOs.
  */
 #include <stdio.h>
 #include <string.h>
@@ -120,6 +120,40 @@ static void objects(void)
     check(cendurak_mode(state) == CENDURAK_MODE_NONE, "no mode");
     write(0x6060, 0, 3);
     check(cendurak_mode(state) == CENDURAK_MODE_PROFILE_VELOCITY && agrees(), "profile velocity");
+    write(0x6067, 0, 0x7FFFFFFF);
+    write(0x6081, 0, 0x89ABCDEF);
+    write(0x607A, 0, (uint32_t)-80000);
+    check(cendurak_position_window(dict) == 0x7FFFFFFF && cendurak_profile_velocity(dict) == 0x89ABCDEF, "position window, profile velocity");
+    check(cendurak_target_position(dict) == -80000, "target position");
+    check(cendurak_minimum_position(dict) == -2147483647 - 1 && cendurak_maximum_position(dict) == 2147483647, "the limits by default");
+    write(0x607D, 1, (uint32_t)-90000);
+    write(0x607D, 2, 100000);
+    check(cendurak_minimum_position(dict) == -90000 && cendurak_maximum_position(dict) == 100000, "the limits");
+}
+
+static void node_ids(void)
+{
+    uint32_t wrong = 0;
+
+    for (uint32_t n = CENDURAK_FIRST_NODE; n <= CENDURAK_LAST_NODE; n++) {
+        cendurak_power_up(state, sizeof state, dict, sizeof dict, out, sizeof out, n);
+        wrong += cendurak_node_id(state) != n;
+    }
+    check(wrong == 0, "the node-ID");
+}
+
+static void transfers(void)
+{
+    const uint8_t read_name[8] = {0x40, 0x08, 0x10}, write_word[8] = {0x21, 0x40, 0x60}, abort[8] = {0x80};
+
+    power_up();
+    check(cendurak_transfer(state) == CENDURAK_TRANSFER_NONE, "no transfer");
+    frame(0x605, read_name, 8);
+    check(cendurak_transfer(state) == CENDURAK_TRANSFER_UPLOAD, "an upload");
+    frame(0x605, write_word, 8);
+    check(cendurak_transfer(state) == CENDURAK_TRANSFER_DOWNLOAD, "a download");
+    frame(0x605, abort, 8);
+    check(cendurak_transfer(state) == CENDURAK_TRANSFER_NONE, "a transfer that was ended");
 }
 
 /* ---- set-points */
@@ -250,15 +284,107 @@ static void random_calls(void)
     check(waits == 7 && (seen & 0xFE) == 0xFE, "random calls met 0, 1 and 2 set-points and every drive state but the first");
 }
 
+/* ---- the identifiers that are served: just those of frames that can do something */
+
+static const uint8_t nmt_commands[] = {0x80, 0x01, 0x02}; /* to Pre-operational, Operational, Stopped */
+static uint16_t served[CENDURAK_MOST_SERVED];
+static uint32_t served_count;
+
+/* Receive PDOs with random identifiers, of which some are not valid, and random types. */
+static void random_configuration(void)
+{
+    power_up();
+    for (uint32_t i = 0; i < CENDURAK_RECEIVE_PDOS; i++) {
+        write(0x1400 + i, 1, 0x80000000);
+        write(0x1400 + i, 2, random_below(2) == 0 ? 255 : random_below(241));
+        if (random_below(2) != 0)
+            write(0x1400 + i, 1, 0x181 + random_below(0x3FF));
+    }
+    event(CENDURAK_STARTED, 0, 0);
+    served_count = cendurak_served(state, dict, served);
+}
+
+static int is_served(uint32_t identifier)
+{
+    int is_there = 0;
+
+    for (uint32_t i = 0; i < served_count; i++)
+        is_there |= served[i] == identifier;
+    return is_there;
+}
+
+/* Whether a frame of random bytes, or of the two given, sends or changes anything. What it did is taken back. */
+static int has_effect(uint32_t identifier, uint32_t length, uint8_t first, uint8_t second)
+{
+    static uint8_t state_before[CENDURAK_STATE_LEN], dict_before[CENDURAK_DICT_LEN];
+    uint8_t data[8] = {first, second};
+    int has_changed;
+
+    memcpy(state_before, state, sizeof state);
+    memcpy(dict_before, dict, sizeof dict);
+    for (uint32_t i = 2; i < 8; i++)
+        data[i] = (uint8_t)random_below(256);
+    has_changed = frame(identifier, data, length) != 0 || memcmp(state, state_before, sizeof state) != 0 || memcmp(dict, dict_before, sizeof dict) != 0;
+    memcpy(state, state_before, sizeof state);
+    memcpy(dict, dict_before, sizeof dict);
+    return has_changed;
+}
+
+/* Every identifier that is not in the list, with frames of every length. How many do something. */
+static uint32_t effects_of_others(void)
+{
+    uint32_t wrong = 0;
+
+    for (uint32_t identifier = 0; identifier <= CENDURAK_LAST_IDENTIFIER; identifier++)
+        if (!is_served(identifier))
+            wrong += has_effect(identifier, identifier % 9, (uint8_t)random_below(256), 5) + has_effect(identifier, 8, 0x40, 0x00)
+                     + has_effect(identifier, 2, 0x02, 5) + has_effect(identifier, 0, 0, 0);
+    return wrong;
+}
+
+/* The identifiers of the list for which some frame does something in the present NMT state, as bits. A PDO's own are six bytes at the most. */
+static uint32_t effects_of_served(void)
+{
+    uint32_t seen = 0;
+
+    for (uint32_t i = 0; i < served_count; i++)
+        if (has_effect(served[i], 2, 0x82, 5) || has_effect(served[i], 8, 0x40, 0x00) || has_effect(served[i], 1, 1, 0))
+            seen |= 1u << i;
+    return seen;
+}
+
+static void served_identifiers(void)
+{
+    uint32_t wrong = 0, idle = 0, counts = 0;
+
+    for (uint32_t i = 0; i < 20; i++) {
+        uint32_t seen = 0;
+        random_configuration();
+        counts |= 1u << served_count;
+        for (uint32_t j = 0; j < sizeof nmt_commands; j++) {
+            nmt(nmt_commands[j]);
+            wrong += effects_of_others() + (cendurak_served(state, dict, served) != served_count);
+            seen |= effects_of_served();
+        }
+        idle += seen != (1u << served_count) - 1;
+    }
+    check(wrong == 0, "frames on identifiers that are not served do nothing, in any NMT state");
+    check(idle == 0, "on each identifier that is served some frame does something");
+    check((counts & 0xF8) == 0xF8, "configurations of none to four valid receive PDOs were met");
+}
+
 int main(void)
 {
     drive_states();
     nmt_states();
+    node_ids();
+    transfers();
     objects();
     set_points();
     window_time();
     load_answers();
     random_calls();
+    served_identifiers();
     printf("%u passed, %u failed\n", passed, failed);
     return failed != 0;
 }
