@@ -8,6 +8,10 @@
 
 #include <stdint.h>
 
+#ifdef __cplusplus
+extern "C" {
+#endif
+
 /* The machine's settings. */
 extern const uint8_t configuration[];
 extern const uint64_t configuration_length;
@@ -15,5 +19,9 @@ extern const uint64_t configuration_length;
 /* Settings with the limits the wrong way round, which the node refuses. */
 extern const uint8_t swapped[];
 extern const uint64_t swapped_length;
+
+#ifdef __cplusplus
+}
+#endif
 
 #endif

@@ -9,11 +9,6 @@ static bool takes_set_points(const struct node *node)
            && cendurak_mode(node->state) == CENDURAK_MODE_PROFILE_POSITION;
 }
 
-static int32_t target_position(const struct node *node)
-{
-    return cendurak_signed(node->dict + CENDURAK_DICT_AT_TARGET_POSITION);
-}
-
 /* What the first step has to find. */
 static bool is_ready(const struct node *node)
 {
@@ -32,7 +27,7 @@ enum feeding_start feeding_start(struct feeding *feeding, const struct node *nod
                                 .count = count,
                                 .identifier = identifier,
                                 .control_word = cendurak_control_word(node->dict),
-                                .target = target_position(node)};
+                                .target = cendurak_target_position(node->dict)};
     return FEEDING_STARTED;
 }
 
@@ -51,9 +46,9 @@ static bool step(struct feeding *feeding, const struct node *node)
 }
 
 /* The last answer as receive PDO 3. */
-static struct can_frame target_frame(const struct feeding *feeding)
+static struct node_frame target_frame(const struct feeding *feeding)
 {
-    struct can_frame frame = {.identifier = feeding->identifier, .length = TARGET_FRAME_LENGTH};
+    struct node_frame frame = {.identifier = feeding->identifier, .length = TARGET_FRAME_LENGTH};
     uint64_t bytes = feeding->control_word + ((uint64_t)(uint32_t)feeding->target << 16);
 
     for (uint32_t i = 0; i < TARGET_FRAME_LENGTH; i++)
@@ -64,12 +59,12 @@ static struct can_frame target_frame(const struct feeding *feeding)
 /* The dictionary has the last word: an accepted call may have dropped the frame, as outside Operational. */
 static bool is_written(const struct feeding *feeding, const struct node *node)
 {
-    return cendurak_control_word(node->dict) == feeding->control_word && target_position(node) == feeding->target;
+    return cendurak_control_word(node->dict) == feeding->control_word && cendurak_target_position(node->dict) == feeding->target;
 }
 
 static void hand_in(struct feeding *feeding, struct node *node)
 {
-    struct can_frame frame = target_frame(feeding);
+    struct node_frame frame = target_frame(feeding);
     bool is_accepted = node_hand(node, &frame);
 
     feeding->is_owed = !(is_accepted && is_written(feeding, node));

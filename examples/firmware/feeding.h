@@ -25,6 +25,10 @@
 #include "feeder.h"
 #include "node.h"
 
+#ifdef __cplusplus
+extern "C" {
+#endif
+
 enum feeding_stage {
     FEEDING_IDLE,       /* never started */
     FEEDING_RUNNING,    /* also behind the last label, until another list is started: each step then answers 000Fh and 0 */
@@ -61,5 +65,9 @@ enum feeding_start feeding_start(struct feeding *feeding, const struct node *nod
 
 /* One pass, right behind node_run: a step and its answer, or the answer that is owed. True: a step was made. */
 bool feeding_run(struct feeding *feeding, struct node *node);
+
+#ifdef __cplusplus
+}
+#endif
 
 #endif

@@ -5,7 +5,7 @@
  * (acquire); its place is free again only when `taken` says so, by the same rule the other way round.
  */
 
-bool frame_queue_put(struct frame_queue *queue, const struct can_frame *frame)
+bool frame_queue_put(struct frame_queue *queue, const struct node_frame *frame)
 {
     unsigned put = atomic_load_explicit(&queue->put, memory_order_relaxed);
 
@@ -19,7 +19,7 @@ bool frame_queue_put(struct frame_queue *queue, const struct can_frame *frame)
     return true;
 }
 
-bool frame_queue_take(struct frame_queue *queue, struct can_frame *frame)
+bool frame_queue_take(struct frame_queue *queue, struct node_frame *frame)
 {
     unsigned taken = atomic_load_explicit(&queue->taken, memory_order_relaxed);
 

@@ -1,37 +1,47 @@
 /*
  * The amplifier's firmware, in a simulation: `firmware [SCRIPT]`, by default the script `moves`. Each turn of the loop is a millisecond. What
- * interrupts would do is done first, then comes one pass of the main loop, then the transmit interrupt and the motor's motion.
+ * interrupts would do is done first, then comes one pass of the main loop, then the motor's motion.
  *
  * It prints what happened and when, and ends with status 0 where every check of the bus master held.
  */
 #include <stdio.h>
 
+#include "bus.h"
 #include "configuration.h"
 #include "feeding.h"
 #include "labels.h"
 #include "master.h"
 #include "motor.h"
 #include "node.h"
+#include "service.h"
 
 enum {
     SELF_TEST_ENDS = 20,  /* ms after the amplifier was switched on */
     VOLTAGE_COMES = 30,
-    BUS_FRAMES = 15,      /* that the bus carries in a millisecond, at 1 Mbit/s and a few data bytes each */
     HELD_UP = 6,          /* ms that the main loop is away in the planted hold-up */
     STALLED = 200,        /* ms that the bus carries nothing of the node in the planted stall */
-    OVER_CURRENT = 0x2310,
-    ERROR_REGISTER_CURRENT = 0x02,
+    DEAD = 1000,          /* ms that it carries nothing when it is dead */
+    RECOVERY = 100,       /* ms from the bus-off to the bus again: the pause and the controller's own 128 times 11 bits */
     FLIPPED_BYTE = 0,     /* of the device type 1000h, a constant */
     LONGEST_RUN = 60000   /* ms; no script takes so long */
+};
+
+/* The faults of this amplifier. */
+enum { FAULT_OVER_CURRENT, FAULT_OVER_TEMPERATURE, FAULTS };
+
+static const struct node_fault faults[FAULTS] = {
+    [FAULT_OVER_CURRENT] = {0x2310, 0x02},
+    [FAULT_OVER_TEMPERATURE] = {0x4310, 0x08},
 };
 
 /* Receive PDO 3 by the node's defaults; and an identifier with a bit more than a frame can have. */
 enum { TARGET_FRAME = 0x400 + NODE_ID, STRAY_FRAME = 0x800 };
 
 static struct {
-    uint32_t now, switched_on, busy_until, stalled_until;
-    bool has_over_current; /* the level of the fault line */
+    uint32_t now, switched_on, busy_until, back_on_bus;
+    uint32_t faults;       /* the levels of the fault lines */
     struct node node;
+    struct bus bus;
     struct motor motor;
     struct axis_command command;
     struct master master;
@@ -68,7 +78,45 @@ static void note_reached(void)
     labels_reached(&world.labels, world.now);
 }
 
-static const struct node_hooks hooks = {.refused = log_refusal, .loaded = log_load, .reached = note_reached, .stop_safely = stop_safely};
+static void recover_bus(void)
+{
+    printf("%7u ms  node    off the bus: recovery started\n", world.now);
+    world.back_on_bus = world.now + RECOVERY;
+}
+
+/* ---- the CAN controller */
+
+static void set_filter(const uint16_t *identifiers, uint32_t count)
+{
+    bus_filter(&world.bus, identifiers, count);
+}
+
+static bool send(const struct node_frame *frame)
+{
+    bool is_sent = bus_takes(&world.bus);
+
+    if (is_sent)
+        master_hear(&world.master, frame);
+    return is_sent;
+}
+
+/* The simulated bus has taken what it was given: no mailbox holds anything. */
+static void withdraw(void)
+{
+}
+
+static const struct node_hooks hooks = {
+    .refused = log_refusal,
+    .loaded = log_load,
+    .reached = note_reached,
+    .stop_safely = stop_safely,
+    .bus_off = recover_bus,
+    .filter = set_filter,
+    .withdraw = withdraw,
+    .transmit = send,
+};
+
+/* ---- the account of a pass */
 
 static void log_drive(void)
 {
@@ -106,18 +154,27 @@ static void power_cycle(void)
 
 static void hand_on_stray(void)
 {
-    const struct can_frame stray = {.identifier = STRAY_FRAME};
+    const struct node_frame stray = {.identifier = STRAY_FRAME};
 
     node_receive(&world.node, &stray);
+}
+
+static void go_off_bus(void)
+{
+    world.bus.is_off = true;
+    node_bus_off(&world.node);
 }
 
 static void carry_out(enum trouble trouble)
 {
     switch (trouble) {
-    case TROUBLE_TRIP: world.has_over_current = true; node_trip(&world.node, OVER_CURRENT, ERROR_REGISTER_CURRENT); break;
-    case TROUBLE_CURE: world.has_over_current = false; break;
+    case TROUBLE_TRIP: world.faults |= 1u << FAULT_OVER_CURRENT; node_trip(&world.node, FAULT_OVER_CURRENT); break;
+    case TROUBLE_HEAT: world.faults |= 1u << FAULT_OVER_TEMPERATURE; break;
+    case TROUBLE_CURE: world.faults = 0; break;
     case TROUBLE_HOLD_UP: world.busy_until = world.now + HELD_UP; break;
-    case TROUBLE_STALL: world.stalled_until = world.now + STALLED; break;
+    case TROUBLE_STALL: world.bus.busy_until = world.now + STALLED; break;
+    case TROUBLE_DEAD_BUS: world.bus.dead_until = world.now + DEAD; break;
+    case TROUBLE_BUS_OFF: go_off_bus(); break;
     case TROUBLE_FLIP: world.node.dict[FLIPPED_BYTE] ^= 0x01; break;
     case TROUBLE_JAM: world.motor.is_jammed = true; break;
     case TROUBLE_STRAY: hand_on_stray(); break;
@@ -130,20 +187,20 @@ static void carry_out(enum trouble trouble)
 
 static void receive_interrupts(void)
 {
-    struct can_frame frame;
+    struct node_frame frame;
 
     for (uint32_t i = 0; i < BUS_FRAMES && frame_queue_take(&world.master.to_bus, &frame); i++)
-        node_receive(&world.node, &frame);
+        if (bus_accepts(&world.bus, &frame))
+            node_receive(&world.node, &frame);
 }
 
-static void transmit_interrupts(void)
+/* The controller is back on the bus. */
+static void error_interrupt(void)
 {
-    struct can_frame frame;
-
-    if (world.now < world.stalled_until)
-        return;
-    for (uint32_t i = 0; i < BUS_FRAMES && node_next_to_send(&world.node, &frame); i++)
-        master_hear(&world.master, &frame);
+    if (world.bus.is_off && world.back_on_bus == world.now) {
+        world.bus.is_off = false;
+        node_bus_on(&world.node);
+    }
 }
 
 /* ---- the main loop */
@@ -153,8 +210,7 @@ static struct node_inputs measure(void)
     struct node_inputs inputs = {
         .position = motor_position(&world.motor),
         .velocity = motor_velocity(&world.motor),
-        .fault_code = world.has_over_current ? OVER_CURRENT : 0,
-        .fault_register = world.has_over_current ? ERROR_REGISTER_CURRENT : 0,
+        .faults = world.faults,
         .is_self_tested = world.now - world.switched_on >= SELF_TEST_ENDS,
         .has_voltage = world.now - world.switched_on >= VOLTAGE_COMES,
         .is_at_standstill = motor_is_at_standstill(&world.motor),
@@ -197,6 +253,8 @@ static void main_loop_pass(void)
     struct node_inputs inputs = measure();
 
     node_run(&world.node, &inputs);
+    if (world.master.is_key_pressed)
+        world.master.is_key_pressed = !service_key(&world.node, world.now);
     if (world.master.order != 0)
         start_feeding();
     feed();
@@ -208,11 +266,13 @@ static void main_loop_pass(void)
 static void millisecond(void)
 {
     world.now++;
+    bus_step(&world.bus, world.now);
     node_tick(&world.node);
+    error_interrupt();
     receive_interrupts();
+    node_transmit(&world.node);
     if (world.now >= world.busy_until)
         main_loop_pass();
-    transmit_interrupts();
     motor_step(&world.motor, &world.command);
 }
 
@@ -224,7 +284,9 @@ static void print_counts(void)
     for (uint32_t i = 1; i < NODE_REFUSALS; i++)
         refused += node->refused[i];
     printf("%u calls accepted, %u refused; frames lost: %u in, %u out\n", node->refused[0], refused, frame_queue_lost(&node->received),
-           frame_queue_lost(&node->to_send));
+           node->outbox.lost);
+    if (world.bus.others != 0)
+        printf("%u frames for others, which the filters kept away\n", world.bus.others);
     if (world.labels.list.count != 0)
         printf("%u answers of the feeder handed in again\n", world.feeding.handed_again);
     printf("%u checks held, %u failed\n", world.master.held, world.master.failed);
@@ -241,13 +303,15 @@ static struct node_file stored_file(bool has_swapped_limits)
 int main(int argc, char **argv)
 {
     const char *name = argc > 1 ? argv[1] : "moves";
+    struct node_setup setup = {.hooks = &hooks, .faults = faults, .fault_count = FAULTS};
 
     world.master.script = script_named(name);
     if (world.master.script == 0) {
-        printf("no script '%s': moves, flood, damage, stall, swapped, feeder, halted, meddling, jam\n", name);
+        printf("no script '%s': moves, flood, others, dead, busoff, service, damage, stall, swapped, feeder, halted, meddling, jam\n", name);
         return 2;
     }
-    node_init(&world.node, &hooks, stored_file(world.master.script->has_swapped_limits));
+    setup.configuration = stored_file(world.master.script->has_swapped_limits);
+    node_init(&world.node, &setup);
     world.master.labels = &world.labels;
     node_power_up(&world.node, NODE_ID);
     while (master_run(&world.master, world.now) && world.now < LONGEST_RUN) {

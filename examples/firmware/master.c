@@ -30,7 +30,7 @@ enum { SDO_SEGMENTS_FOLLOW = 0x41, SDO_READ_SEGMENT = 0x60, SEGMENT_ROOM = 7, SE
 
 static void send(struct master *master, uint16_t identifier, uint8_t length, uint32_t low, uint32_t high)
 {
-    struct can_frame frame = {.identifier = identifier, .length = length};
+    struct node_frame frame = {.identifier = identifier, .length = length};
 
     for (uint32_t i = 0; i < 4; i++) {
         frame.data[i] = (uint8_t)(low >> (8 * i));
@@ -56,8 +56,8 @@ static void send_target(struct master *master, const struct step *step)
 
 static void flood(struct master *master, const struct step *step)
 {
-    for (uint32_t i = 0; i < step->value; i++)
-        send(master, CONTROL_FRAME, 2, 0x000F, 0);
+    for (uint32_t i = 0; i < step->each; i++)
+        send(master, (uint16_t)step->index, (uint8_t)step->size, step->value, 0);
 }
 
 static void begin(struct master *master, const struct step *step)
@@ -66,6 +66,7 @@ static void begin(struct master *master, const struct step *step)
 
     heard->has_reply = heard->has_any = heard->has_start = false;
     heard->shown = heard->status;
+    heard->heartbeats = 0;
     master->upload = (struct upload){.is_running = false};
     switch (step->kind) {
     case STEP_NMT: send(master, NMT, 2, step->value + 256 * NODE_ID, 0); break;
@@ -74,6 +75,7 @@ static void begin(struct master *master, const struct step *step)
     case STEP_MOVE: send_target(master, step); break;
     case STEP_PLANT: master->trouble = (enum trouble)step->value; break;
     case STEP_FEED: master->order = step->list; break;
+    case STEP_KEY: master->is_key_pressed = true; break;
     case STEP_WRITE: case STEP_READ: case STEP_TEXT: send_sdo(master, step); break;
     default: break;
     }
@@ -87,7 +89,7 @@ static void hear_status(struct heard *heard, const uint8_t *data)
     heard->shown |= heard->status;
 }
 
-void master_hear(struct master *master, const struct can_frame *frame)
+void master_hear(struct master *master, const struct node_frame *frame)
 {
     struct heard *heard = &master->heard;
     const uint8_t *data = frame->data;
@@ -106,6 +108,7 @@ void master_hear(struct master *master, const struct can_frame *frame)
     case HEARTBEAT:
         heard->heartbeat = data[0];
         heard->has_heartbeat = true;
+        heard->heartbeats++;
         break;
     case POSITION_FRAME:
         heard->position = cendurak_signed(data + 2);
@@ -208,6 +211,8 @@ static bool holds(struct master *master, const struct step *step)
     case STEP_POSITION: return heard->position == step->target;
     case STEP_SPEED: return heard->velocity == step->target;
     case STEP_SILENCE: return !heard->has_any;
+    case STEP_NO_REPLY: return !heard->has_reply;
+    case STEP_AT_MOST: return heard->heartbeats <= step->value;
     case STEP_WITHOUT: return (heard->shown & step->mask) == 0;
     default: return false;
     }
@@ -217,9 +222,12 @@ static bool holds(struct master *master, const struct step *step)
 
 static const char *const trouble_names[TROUBLES] = {
     [TROUBLE_TRIP] = "the over-current line rises",
-    [TROUBLE_CURE] = "the over-current line falls",
+    [TROUBLE_HEAT] = "the amplifier gets too hot",
+    [TROUBLE_CURE] = "no cause of a fault is left",
     [TROUBLE_HOLD_UP] = "the main loop is kept busy elsewhere",
     [TROUBLE_STALL] = "the bus is kept busy by others",
+    [TROUBLE_DEAD_BUS] = "nobody is on the bus",
+    [TROUBLE_BUS_OFF] = "the CAN controller takes itself off the bus",
     [TROUBLE_FLIP] = "a bit of the dictionary flips",
     [TROUBLE_JAM] = "the motor's shaft jams",
     [TROUBLE_STRAY] = "the CAN driver hands on a frame that cannot be, identifier 800h",
@@ -233,7 +241,8 @@ static void say_sent(const struct step *step)
     case STEP_SYNC: printf("a SYNC every %u ms\n", step->value); break;
     case STEP_CONTROL: printf("control word %04X %s\n", step->value, step->says); break;
     case STEP_MOVE: printf("control word %04X %s, target %d\n", step->value, step->says, step->target); break;
-    case STEP_FLOOD: printf("%u frames each millisecond, for %u ms\n", step->value, step->within); break;
+    case STEP_FLOOD: printf("%u frames each millisecond on %03Xh, for %u ms\n", step->each, step->index, step->within); break;
+    case STEP_KEY: printf("the operator presses the service panel's key\n"); break;
     case STEP_PLANT: printf("trouble: %s\n", trouble_names[step->value]); break;
     default: printf("waits for %u ms\n", step->within); break;
     }
@@ -279,6 +288,8 @@ static void say_checked(const struct step *step)
     case STEP_EMERGENCY: printf("emergency %04X %s, register %02X\n", step->value, step->says, step->expected); break;
     case STEP_POSITION: printf("position %d\n", step->target); break;
     case STEP_SPEED: printf("velocity %d\n", step->target); break;
+    case STEP_NO_REPLY: printf("no SDO reply for %u ms\n", step->within); break;
+    case STEP_AT_MOST: printf("at most %u heartbeat(s) in %u ms\n", step->value, step->within); break;
     case STEP_WITHOUT: printf("no status word has %04X %s for %u ms\n", step->mask, step->says, step->within); break;
     default: printf("silence for %u ms\n", step->within); break;
     }
@@ -335,7 +346,7 @@ static bool is_sent_step_over(struct master *master, const struct step *step, ui
 static bool is_check_over(struct master *master, const struct step *step, uint32_t now)
 {
     bool is_late = now - master->begun >= step->within;
-    bool is_to_last = step->kind == STEP_SILENCE || step->kind == STEP_WITHOUT;
+    bool is_to_last = step->kind == STEP_SILENCE || step->kind == STEP_NO_REPLY || step->kind == STEP_AT_MOST || step->kind == STEP_WITHOUT;
     bool has_held = holds(master, step);
 
     if (has_held == is_to_last && !is_late)

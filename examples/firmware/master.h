@@ -20,6 +20,7 @@ struct heard {
     uint32_t start; /* what came of the start of the feeder */
     /* heard since the step began */
     bool has_reply, has_emergency, has_heartbeat, has_any, has_start;
+    uint32_t heartbeats;
     uint16_t shown; /* all bits of the status words, that of the step's start too */
 };
 
@@ -44,6 +45,7 @@ struct master {
     struct frame_queue to_bus;
     enum trouble trouble; /* planted by a step, for the simulation to carry out and to clear */
     const struct label_list *order; /* for the feeder to start on, likewise; 0: none */
+    bool is_key_pressed;            /* of the service panel, likewise */
     uint32_t held, failed;
 };
 
@@ -51,7 +53,7 @@ struct master {
 bool master_run(struct master *master, uint32_t now);
 
 /* A frame of the node. */
-void master_hear(struct master *master, const struct can_frame *frame);
+void master_hear(struct master *master, const struct node_frame *frame);
 
 /* What came of the start of the feeder. */
 void master_hear_start(struct master *master, uint32_t outcome);

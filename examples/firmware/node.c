@@ -8,20 +8,65 @@
 
 enum { CONTROL_HALT = 0x0100 };
 
-/* The boot-up frame: a heartbeat with 0. No PDO can have an identifier of this service. */
-enum { HEARTBEAT = 0x700, SERVICE_BITS = 0x780 };
+/* Places that frames of the bus leave free in the outbox, for the emergencies that events bring forth. */
+enum { KEPT_FOR_EVENTS = 8 };
 
-/* ---- the calls, and what becomes of an answer */
+/* ---- sending */
 
-/* Hands the frames of an answer to the transmit interrupt. A full queue loses them, counted; only those of events, see take_frames. */
-static void send_frames(struct node *node, uint32_t count)
+/* An exchange and not an atomic_flag: of that GCC makes a plain load and a store on cores without exclusive access, as the Cortex-M0+. */
+static bool begins_sending(struct node *node)
 {
-    for (uint32_t i = 0; i < count; i++) {
-        struct can_frame frame = {.identifier = cendurak_identifier(node->out, i), .length = cendurak_length(node->out, i)};
-        memcpy(frame.data, cendurak_data(node->out, i), sizeof frame.data);
-        frame_queue_put(&node->to_send, &frame);
+    return atomic_exchange_explicit(&node->is_sending, 1, memory_order_seq_cst) == 0;
+}
+
+static void ends_sending(struct node *node)
+{
+    atomic_store_explicit(&node->is_sending, 0, memory_order_seq_cst);
+}
+
+static void fill_mailboxes(struct node *node)
+{
+    const struct node_frame *frame = outbox_first(&node->outbox);
+
+    while (frame != 0 && node->setup.hooks->transmit(frame)) {
+        outbox_drop_first(&node->outbox);
+        frame = outbox_first(&node->outbox);
     }
 }
+
+/* Sends as often as it is asked for. Who finds another one at it has asked before, and the other one looks for that when it is done: so no request
+ * is lost. On two cores that takes one order of all accesses to the flag and to the request, for all who see them (seq_cst). */
+static void send_as_asked(struct node *node)
+{
+    while (atomic_load_explicit(&node->is_asked, memory_order_seq_cst) != 0 && begins_sending(node)) {
+        atomic_store_explicit(&node->is_asked, 0, memory_order_seq_cst);
+        fill_mailboxes(node);
+        ends_sending(node);
+    }
+}
+
+void node_transmit(struct node *node)
+{
+    atomic_store_explicit(&node->is_asked, 1, memory_order_seq_cst);
+    send_as_asked(node);
+}
+
+/* The main loop's turn at the outbox. An interrupt that sends is over before the main loop goes on, so that on one core this never waits; a thread
+ * that sends on another core is over soon. */
+static struct outbox *open_outbox(struct node *node)
+{
+    while (!begins_sending(node))
+        ;
+    return &node->outbox;
+}
+
+static void close_outbox(struct node *node)
+{
+    ends_sending(node);
+    send_as_asked(node);
+}
+
+/* ---- the calls, and what becomes of an answer */
 
 /*
  * A refusal is counted and logged, and has changed nothing. Only one of them ends the service: NOT_SOUND says that the buffers are no longer
@@ -32,45 +77,103 @@ static void count_refusal(struct node *node, uint32_t refusal)
     node->refused[refusal]++;
     if (refusal == CENDURAK_NOT_SOUND) {
         node->is_stopped = true;
-        node->hooks->stop_safely();
+        node->setup.hooks->stop_safely();
     }
 }
 
 /* All of the file or nothing: where it is refused the node goes on with its defaults. No frame comes of it. */
 static void load_configuration(struct node *node)
 {
-    const struct node_file *file = &node->configuration;
+    const struct node_file *file = &node->setup.configuration;
     uint64_t answer;
 
     if (file->length == 0)
         return;
     answer = cendurak_load(node->state, sizeof node->state, node->dict, sizeof node->dict, file->bytes, file->length);
-    node->hooks->loaded(cendurak_load_refusal(answer), cendurak_load_entry(answer), cendurak_load_abort_code(answer));
+    node->setup.hooks->loaded(cendurak_load_refusal(answer), cendurak_load_entry(answer), cendurak_load_abort_code(answer));
     count_refusal(node, cendurak_load_refusal(answer));
+}
+
+/* The identifiers that the node serves change in Pre-operational alone. A master hears of a change by the frames of the answer, and uses it then. */
+static void set_filter(struct node *node)
+{
+    uint16_t served[CENDURAK_MOST_SERVED];
+    uint32_t count;
+
+    if (cendurak_nmt(node->state) != CENDURAK_NMT_PRE_OPERATIONAL)
+        return;
+    count = cendurak_served(node->state, node->dict, served);
+    if (count == node->filter_count && memcmp(served, node->filter, count * sizeof served[0]) == 0)
+        return;
+    memcpy(node->filter, served, count * sizeof served[0]);
+    node->filter_count = count;
+    node->setup.hooks->filter(node->filter, count);
 }
 
 /* Whether the node boots up with this answer: at power-up, or because it was reset over the bus. Its objects then have their defaults. */
 static bool has_boot_up(const struct node *node, uint32_t count)
 {
     for (uint32_t i = 0; i < count; i++)
-        if ((cendurak_identifier(node->out, i) & SERVICE_BITS) == HEARTBEAT && cendurak_data(node->out, i)[0] == 0)
+        if (cendurak_identifier(node->out, i) == CENDURAK_HEARTBEAT + cendurak_node_id(node->state) && cendurak_data(node->out, i)[0] == 0)
             return true;
     return false;
 }
 
-static bool take_answer(struct node *node, uint32_t answer, const char *call, uint32_t number)
+/* A boot-up is the first frame of a life: what waits when it comes is of the last one, and nobody sends meanwhile. */
+static void withdraw_frames(struct node *node)
+{
+    outbox_clear(open_outbox(node));
+    node->setup.hooks->withdraw();
+    close_outbox(node);
+}
+
+/* The frames of an answer, from one on. Process data of a node that has left Operational are not sent any more. */
+static void send_frames(struct node *node, uint32_t from, uint32_t count)
+{
+    struct outbox *outbox = open_outbox(node);
+
+    for (uint32_t i = from; i < count; i++) {
+        struct node_frame frame = {.identifier = cendurak_identifier(node->out, i), .length = cendurak_length(node->out, i)};
+        memcpy(frame.data, cendurak_data(node->out, i), sizeof frame.data);
+        outbox_put(outbox, &frame);
+    }
+    if (cendurak_nmt(node->state) != CENDURAK_NMT_OPERATIONAL)
+        outbox_drop_process_data(outbox);
+    close_outbox(node);
+    node_transmit(node);
+}
+
+/* An accepted answer, of which the first frames are not for the bus. */
+static void pass_on(struct node *node, uint32_t answer, uint32_t kept_back)
+{
+    uint32_t count = cendurak_frames(answer);
+
+    if (has_boot_up(node, count)) {
+        withdraw_frames(node);
+        load_configuration(node);
+    }
+    set_filter(node);
+    send_frames(node, kept_back, count);
+}
+
+/* Whether the call was accepted. */
+static bool is_accepted(struct node *node, uint32_t answer, const char *call, uint32_t number)
 {
     uint32_t refusal = cendurak_refusal(answer);
 
     if (refusal != CENDURAK_ACCEPTED)
-        node->hooks->refused(refusal, call, number);
+        node->setup.hooks->refused(refusal, call, number);
     count_refusal(node, refusal);
-    if (refusal != CENDURAK_ACCEPTED)
-        return false;
-    send_frames(node, cendurak_frames(answer));
-    if (has_boot_up(node, cendurak_frames(answer)))
-        load_configuration(node);
-    return true;
+    return refusal == CENDURAK_ACCEPTED;
+}
+
+static bool take_answer(struct node *node, uint32_t answer, const char *call, uint32_t number)
+{
+    bool was_accepted = is_accepted(node, answer, call, number);
+
+    if (was_accepted)
+        pass_on(node, answer, 0);
+    return was_accepted;
 }
 
 static bool tell(struct node *node, uint32_t event, const uint8_t *args, uint64_t length)
@@ -82,12 +185,14 @@ static bool tell(struct node *node, uint32_t event, const uint8_t *args, uint64_
         "event", event);
 }
 
-static bool take_frame(struct node *node, const struct can_frame *frame)
+static uint32_t answer_to(struct node *node, uint32_t identifier, const uint8_t *data, uint8_t length)
 {
-    return take_answer(node,
-                       cendurak_frame(node->state, sizeof node->state, node->dict, sizeof node->dict, node->out, sizeof node->out,
-                                      frame->identifier, frame->data, frame->length),
-                       "frame", frame->identifier);
+    return cendurak_frame(node->state, sizeof node->state, node->dict, sizeof node->dict, node->out, sizeof node->out, identifier, data, length);
+}
+
+static bool take_frame(struct node *node, const struct node_frame *frame)
+{
+    return take_answer(node, answer_to(node, frame->identifier, frame->data, frame->length), "frame", frame->identifier);
 }
 
 bool node_power_up(struct node *node, uint8_t node_id)
@@ -95,16 +200,18 @@ bool node_power_up(struct node *node, uint8_t node_id)
     uint32_t answer = cendurak_power_up(node->state, sizeof node->state, node->dict, sizeof node->dict, node->out, sizeof node->out, node_id);
 
     node->is_stopped = cendurak_refusal(answer) != CENDURAK_ACCEPTED;
+    if (node->is_stopped)
+        withdraw_frames(node);
+    node->filter_count = 0;
     frame_queue_clear(&node->received);
     node->lost_told = frame_queue_lost(&node->received);
     node->ticks_told = atomic_load_explicit(&node->ticks, memory_order_relaxed);
     return take_answer(node, answer, "power-up", node_id);
 }
 
-void node_init(struct node *node, const struct node_hooks *hooks, struct node_file configuration)
+void node_init(struct node *node, const struct node_setup *setup)
 {
-    node->hooks = hooks;
-    node->configuration = configuration;
+    node->setup = *setup;
     node->is_stopped = true;
 }
 
@@ -116,34 +223,72 @@ static void put_word(uint8_t *to, uint32_t word)
         to[i] = (uint8_t)(word >> (8 * i));
 }
 
-static void tell_fault(struct node *node, uint32_t code, uint32_t error_register)
+/* A fault that the table does not have, or has without a code, stops the axis all the same. */
+static struct node_fault fault_numbered(const struct node *node, uint32_t number)
 {
-    const uint8_t args[3] = {(uint8_t)code, (uint8_t)(code >> 8), (uint8_t)error_register};
+    const struct node_fault overrun = {ERROR_CAN_OVERRUN, ERROR_REGISTER_COMMUNICATION}, bus_off = {ERROR_BUS_OFF, ERROR_REGISTER_COMMUNICATION};
+    const struct node_fault unknown = {ERROR_GENERIC, 0};
+    bool is_in_table = number < NODE_MOST_FAULTS && number < node->setup.fault_count && node->setup.faults[number].code != 0;
+
+    if (number == NODE_FAULT_OVERRUN)
+        return overrun;
+    if (number == NODE_FAULT_BUS_OFF)
+        return bus_off;
+    return is_in_table ? node->setup.faults[number] : unknown;
+}
+
+static void tell_fault(struct node *node, uint32_t number)
+{
+    struct node_fault fault = fault_numbered(node, number);
+    const uint8_t args[3] = {(uint8_t)fault.code, (uint8_t)(fault.code >> 8), fault.error_register};
 
     tell(node, CENDURAK_FAULT, args, sizeof args);
 }
 
+static uint32_t bit(uint32_t number)
+{
+    return (uint32_t)1 << number;
+}
+
+/* Frames lost, one of which may have been a stop: the axis is not to go on. */
+static uint32_t overruns(struct node *node)
+{
+    uint32_t lost = frame_queue_lost(&node->received);
+    bool is_more = lost != node->lost_told;
+
+    node->lost_told = lost;
+    return is_more ? bit(NODE_FAULT_OVERRUN) : 0;
+}
+
 /*
- * A trip of an interrupt; frames lost, one of which may have been a stop, so that the axis is not to go on; a fault that the node does not
- * know of, as after a reset; a cause that went away.
+ * Off the bus nobody can stop the axis. The emergency is sent when the bus is back. Each time that the controller goes off asks for a recovery: also
+ * where it was off at the last pass, and in between was on the bus and fell off again.
+ */
+static uint32_t bus_faults(struct node *node, uint32_t tripped)
+{
+    bool is_off = atomic_load_explicit(&node->is_off_bus, memory_order_acquire) != 0;
+
+    if (is_off && (tripped & bit(NODE_FAULT_BUS_OFF)) != 0)
+        node->setup.hooks->bus_off();
+    return is_off ? bit(NODE_FAULT_BUS_OFF) : 0;
+}
+
+/*
+ * Each fault that the node does not know of: one that came, beside others too, if only as a pulse; and where the node was reset and knows of no
+ * cause, all that are present. When none is present any more, the cause is gone.
  */
 static void tell_faults(struct node *node, const struct node_inputs *inputs)
 {
-    uint32_t tripped = atomic_load_explicit(&node->tripped, memory_order_acquire);
-    uint32_t lost = frame_queue_lost(&node->received);
-    bool has_cause = cendurak_cause(node->state);
+    uint32_t tripped = atomic_exchange_explicit(&node->tripped, 0, memory_order_acq_rel);
+    uint32_t present = inputs->faults | tripped | overruns(node) | bus_faults(node, tripped);
+    uint32_t known = cendurak_cause(node->state) ? node->faults_told : 0;
 
-    if (tripped != 0) {
-        atomic_store_explicit(&node->tripped, 0, memory_order_release);
-        tell_fault(node, tripped & 0xFFFF, tripped >> 16);
-    } else if (lost != node->lost_told) {
-        node->lost_told = lost;
-        tell_fault(node, ERROR_CAN_OVERRUN, ERROR_REGISTER_COMMUNICATION);
-    } else if (inputs->fault_code != 0 && !has_cause) {
-        tell_fault(node, inputs->fault_code, inputs->fault_register);
-    } else if (inputs->fault_code == 0 && has_cause) {
+    for (uint32_t i = 0; i < NODE_FAULT_BITS; i++)
+        if (present & ~known & bit(i))
+            tell_fault(node, i);
+    node->faults_told = present;
+    if (present == 0 && cendurak_cause(node->state))
         tell(node, CENDURAK_CAUSE_GONE, 0, 0);
-    }
 }
 
 /* Every tick that went by, one event each. False: none did. */
@@ -169,7 +314,7 @@ static void tell_feedback(struct node *node, const struct node_inputs *inputs)
 static void tell_reached(struct node *node)
 {
     if (tell(node, CENDURAK_SET_POINT_REACHED, 0, 0))
-        node->hooks->reached();
+        node->setup.hooks->reached();
 }
 
 /* What the axis was to do is done. The inputs are of the command before this pass, so no frame may come between the two. */
@@ -200,35 +345,58 @@ static void tell_inputs(struct node *node, const struct node_inputs *inputs)
 
 /* ---- the main loop's pass */
 
-/* Whether whatever a frame can bring forth finds room to be sent. */
-static bool can_take(const struct node *node)
+/* Whether whatever a frame can bring forth finds room to be sent, and what events may bring forth behind it too. */
+static bool has_room(struct node *node)
 {
-    return !node->is_stopped && frame_queue_room(&node->to_send) >= CENDURAK_MOST_FRAMES;
+    uint32_t room = outbox_room(open_outbox(node));
+
+    close_outbox(node);
+    return room >= CENDURAK_MOST_FRAMES + KEPT_FOR_EVENTS;
 }
 
 /* Received frames, as long as there is that room. A slow bus then holds up the receive queue, which is where an overload is counted, and never
  * loses half an answer. */
 static void take_frames(struct node *node)
 {
-    struct can_frame frame;
+    struct node_frame frame;
 
-    while (can_take(node) && frame_queue_take(&node->received, &frame))
+    while (!node->is_stopped && has_room(node) && frame_queue_take(&node->received, &frame))
         take_frame(node, &frame);
 }
 
-bool node_hand(struct node *node, const struct can_frame *frame)
+bool node_hand(struct node *node, const struct node_frame *frame)
 {
-    return can_take(node) && take_frame(node, frame);
+    return !node->is_stopped && has_room(node) && take_frame(node, frame);
+}
+
+enum node_request_outcome node_request(struct node *node, const uint8_t *request, uint8_t *reply)
+{
+    uint32_t identifier = CENDURAK_SDO_REQUEST + cendurak_node_id(node->state), answer;
+    bool has_reply;
+
+    if (node->is_stopped)
+        return NODE_NO_REPLY;
+    if (!has_room(node))
+        return NODE_NO_ROOM;
+    answer = answer_to(node, identifier, request, NODE_FRAME_ROOM);
+    if (!is_accepted(node, answer, "frame", identifier))
+        return NODE_NO_REPLY;
+    has_reply = cendurak_frames(answer) != 0 && cendurak_identifier(node->out, 0) == CENDURAK_SDO_REPLY + cendurak_node_id(node->state);
+    if (has_reply)
+        memcpy(reply, cendurak_data(node->out, 0), NODE_FRAME_ROOM);
+    pass_on(node, answer, has_reply);
+    return has_reply ? NODE_REPLIED : NODE_NO_REPLY;
 }
 
 void node_run(struct node *node, const struct node_inputs *inputs)
 {
-    if (node->is_stopped)
-        return;
-    tell_faults(node, inputs);
-    if (tell_ticks(node))
-        tell_inputs(node, inputs);
-    take_frames(node);
+    if (!node->is_stopped) {
+        tell_faults(node, inputs);
+        if (tell_ticks(node))
+            tell_inputs(node, inputs);
+        take_frames(node);
+    }
+    node_transmit(node);
 }
 
 static struct axis_command enabled_command(const struct node *node)
@@ -272,14 +440,13 @@ struct axis_command node_command(const struct node *node)
 
 /* ---- interrupts */
 
-void node_receive(struct node *node, const struct can_frame *frame)
+void node_receive(struct node *node, const struct node_frame *frame)
 {
-    frame_queue_put(&node->received, frame);
-}
+    struct node_frame received = *frame;
 
-bool node_next_to_send(struct node *node, struct can_frame *frame)
-{
-    return frame_queue_take(&node->to_send, frame);
+    if (received.length > NODE_FRAME_ROOM)
+        received.length = NODE_FRAME_ROOM;
+    frame_queue_put(&node->received, &received);
 }
 
 void node_tick(struct node *node)
@@ -289,9 +456,23 @@ void node_tick(struct node *node)
     atomic_store_explicit(&node->ticks, ticks + 1, memory_order_relaxed);
 }
 
-/* The first fault stands until the main loop has told it: that is the cause, the next ones are mostly its consequences. */
-void node_trip(struct node *node, uint16_t code, uint8_t error_register)
+static void trip(struct node *node, uint32_t number)
 {
-    if (atomic_load_explicit(&node->tripped, memory_order_acquire) == 0)
-        atomic_store_explicit(&node->tripped, (unsigned)code | (unsigned)error_register << 16, memory_order_release);
+    atomic_fetch_or_explicit(&node->tripped, bit(number), memory_order_acq_rel);
+}
+
+void node_trip(struct node *node, uint32_t fault)
+{
+    trip(node, fault < NODE_MOST_FAULTS ? fault : (uint32_t)NODE_FAULT_UNKNOWN);
+}
+
+void node_bus_off(struct node *node)
+{
+    atomic_store_explicit(&node->is_off_bus, 1, memory_order_release);
+    trip(node, NODE_FAULT_BUS_OFF);
+}
+
+void node_bus_on(struct node *node)
+{
+    atomic_store_explicit(&node->is_off_bus, 0, memory_order_release);
 }

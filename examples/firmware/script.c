@@ -12,7 +12,9 @@ enum { SOON = 50, A_WHILE = 4000, TWENTY_LABELS = 15000 };
 #define SYNC_EVERY(ms) {.kind = STEP_SYNC, .value = (ms)}
 #define CONTROL(word) {.kind = STEP_CONTROL, .says = #word, .value = (word)}
 #define MOVE(word, to) {.kind = STEP_MOVE, .says = #word, .value = (word), .target = (to)}
-#define FLOOD(each_ms, ms) {.kind = STEP_FLOOD, .value = (each_ms), .within = (ms)}
+#define FLOOD(identifier, bytes, v, each_ms, ms) \
+    {.kind = STEP_FLOOD, .index = (identifier), .size = (bytes), .value = (v), .each = (each_ms), .within = (ms)}
+#define KEY {.kind = STEP_KEY}
 #define PLANT(what) {.kind = STEP_PLANT, .value = (what)}
 #define WAIT(ms) {.kind = STEP_WAIT, .within = (ms)}
 #define WRITE(object, sub, bytes, v) {.kind = STEP_WRITE, .index = (object), .subindex = (sub), .size = (bytes), .value = (v), .within = SOON}
@@ -29,6 +31,8 @@ enum { SOON = 50, A_WHILE = 4000, TWENTY_LABELS = 15000 };
 #define POSITION(at) {.kind = STEP_POSITION, .target = (at), .within = SOON}
 #define SPEED(at) {.kind = STEP_SPEED, .target = (at), .within = A_WHILE}
 #define SILENCE(ms) {.kind = STEP_SILENCE, .within = (ms)}
+#define NO_REPLY(ms) {.kind = STEP_NO_REPLY, .within = (ms)}
+#define AT_MOST_HEARTBEATS(count, ms) {.kind = STEP_AT_MOST, .value = (count), .within = (ms)}
 #define WITHOUT(bits, ms) {.kind = STEP_WITHOUT, .says = #bits, .mask = (bits), .within = (ms)}
 #define END {.kind = STEP_END}
 
@@ -64,8 +68,11 @@ enum {
     SET_POINT_TAKEN = 0x1000
 };
 
+/* What a master or a third node floods the bus with: control words for this node and for node 6, SDO uploads of the status word from this one. */
+enum { CONTROL_OF_5 = 0x205, CONTROL_OF_6 = 0x206, SDO_OF_5 = 0x605, READ_STATUS = 0x00604140 };
+
 /* Emergencies, and aborts of SDO. */
-enum { NO_ERROR = 0x0000, OVER_CURRENT = 0x2310, CAN_OVERRUN = 0x8110 };
+enum { NO_ERROR = 0x0000, OVER_CURRENT = 0x2310, OVER_TEMPERATURE = 0x4310, CAN_OVERRUN = 0x8110, BUS_OFF_OVER = 0x8140 };
 enum { NOT_COMPATIBLE = 0x06040043, VALUE_INVALID = 0x06090030, NOT_NOW = 0x08000022 };
 
 /* A set-point by the handshake: told, taken, bit 4 back, reached. */
@@ -200,7 +207,10 @@ static const struct step quick_stop[] = {
     END,
 };
 
-/* Tripped on the way: emergency, reaction, fault; no reset while the cause is there; reset. */
+/* Back from a fault whose cause is gone. */
+#define FAULT_RESET_DONE CONTROL(DISABLE_VOLTAGE), CONTROL(FAULT_RESET), EMERGENCY(NO_ERROR, 0x00), STATUS(STATE_BITS, SWITCH_ON_DISABLED)
+
+/* Tripped on the way: emergency, reaction, fault; a second fault, told too; no reset while a cause is there; reset. */
 static const struct step fault[] = {
     MOVE(NEW_SET_POINT, 5000),
     STATUS(SET_POINT_TAKEN, SET_POINT_TAKEN),
@@ -209,16 +219,15 @@ static const struct step fault[] = {
     EMERGENCY(OVER_CURRENT, 0x03),
     STATUS(STATE_BITS, IN_FAULT),
     SPEED(0),
+    PLANT(TROUBLE_HEAT),
+    EMERGENCY(OVER_TEMPERATURE, 0x0B),
     CONTROL(FAULT_RESET),
     WAIT(20),
     STATUS(STATE_BITS, IN_FAULT),
     PLANT(TROUBLE_CURE),
     WAIT(2),
-    CONTROL(DISABLE_VOLTAGE),
-    CONTROL(FAULT_RESET),
-    EMERGENCY(NO_ERROR, 0x00),
-    STATUS(STATE_BITS, SWITCH_ON_DISABLED),
-    READ(0x603F, 0, OVER_CURRENT),
+    FAULT_RESET_DONE,
+    READ(0x603F, 0, OVER_TEMPERATURE),
     END,
 };
 
@@ -250,14 +259,68 @@ static const struct step flood[] = {
     STATUS(SET_POINT_TAKEN, SET_POINT_TAKEN),
     WAIT(200),
     PLANT(TROUBLE_HOLD_UP),
-    FLOOD(12, 5),
+    FLOOD(CONTROL_OF_5, 2, ENABLE, 12, 5),
     EMERGENCY(CAN_OVERRUN, 0x11),
     STATUS(STATE_BITS, IN_FAULT),
     SPEED(0),
-    CONTROL(DISABLE_VOLTAGE),
-    CONTROL(FAULT_RESET),
-    EMERGENCY(NO_ERROR, 0x00),
-    STATUS(STATE_BITS, SWITCH_ON_DISABLED),
+    FAULT_RESET_DONE,
+    END,
+};
+
+/* The same, but the frames are for another node: the filters keep them away, and the axis goes on. */
+static const struct step others[] = {
+    MOVE(NEW_SET_POINT, 15000),
+    STATUS(SET_POINT_TAKEN, SET_POINT_TAKEN),
+    CONTROL(ENABLE),
+    WAIT(200),
+    PLANT(TROUBLE_HOLD_UP),
+    FLOOD(CONTROL_OF_6, 2, ENABLE, 12, 5),
+    STATUS(SET_POINT_TAKEN | TARGET_REACHED, TARGET_REACHED),
+    POSITION(15000),
+    END,
+};
+
+/* Nobody is on the bus for a second, on the way, with a heartbeat every 20 ms; at 0.9 s the amplifier is tripped. The first that is heard again is
+ * of that fault, and of the heartbeats the present one. */
+static const struct step dead[] = {
+    WRITE(0x1017, 0, 2, 20),
+    MOVE(NEW_SET_POINT, 15000),
+    STATUS(SET_POINT_TAKEN, SET_POINT_TAKEN),
+    PLANT(TROUBLE_DEAD_BUS),
+    SILENCE(900),
+    PLANT(TROUBLE_TRIP),
+    SILENCE(95),
+    AT_MOST_HEARTBEATS(1, 15),
+    EMERGENCY(OVER_CURRENT, 0x03),
+    STATUS(STATE_BITS, IN_FAULT),
+    HEARTBEAT(IN_OPERATIONAL),
+    SPEED(0),
+    PLANT(TROUBLE_CURE),
+    WAIT(2),
+    FAULT_RESET_DONE,
+    END,
+};
+
+/* The CAN controller takes itself off the bus, on the way: the axis is stopped, and when the controller is back the master hears why. */
+static const struct step bus_off[] = {
+    MOVE(NEW_SET_POINT, 15000),
+    STATUS(SET_POINT_TAKEN, SET_POINT_TAKEN),
+    WAIT(300),
+    PLANT(TROUBLE_BUS_OFF),
+    SILENCE(95),
+    EMERGENCY(BUS_OFF_OVER, 0x11),
+    STATUS(STATE_BITS, IN_FAULT),
+    SPEED(0),
+    FAULT_RESET_DONE,
+    END,
+};
+
+/* The operator halves the speed at the amplifier itself. The master hears no reply that it did not ask for, and reads the new value. */
+static const struct step service[] = {
+    READ(0x6081, 0, 10000),
+    KEY,
+    NO_REPLY(20),
+    READ(0x6081, 0, 5000),
     END,
 };
 
@@ -278,7 +341,7 @@ static const struct step damage[] = {
     END,
 };
 
-/* The bus has no room for the node for a while, on the way: frames pile up to be sent, then those received wait, and none is lost. */
+/* The bus has no room for the node for a while, on the way: of process data the latest waits, and no frame is lost. */
 static const struct step stall[] = {
     MOVE(NEW_SET_POINT, 5000),
     STATUS(SET_POINT_TAKEN, SET_POINT_TAKEN),
@@ -322,7 +385,8 @@ static const struct step label_profile[] = {
 };
 
 /* Labels are fed while the bus has other things to do: objects are read and written, a write is refused, so is a call. Then there is no room for
- * the node's frames, and two labels are reached meanwhile: the next one waits, and is not lost. Behind the last one the feeder goes on stepping. */
+ * the node's frames, while the master asks and asks, and two labels are reached meanwhile: the next one waits until the replies are sent, and is not
+ * lost. Behind the last one the feeder goes on stepping. */
 static const struct step feed[] = {
     FEED(&too_many, FEEDING_TOO_LONG),
     WAIT(20),
@@ -335,7 +399,8 @@ static const struct step feed[] = {
     PLANT(TROUBLE_STRAY),
     WAIT(284),
     PLANT(TROUBLE_STALL),
-    WAIT(300),
+    FLOOD(SDO_OF_5, 8, READ_STATUS, 1, 20),
+    WAIT(280),
     READ(0x6061, 0, 1),
     LABELS(LABELS_ALL_REACHED, TWENTY_LABELS),
     WAIT(200),
@@ -391,6 +456,10 @@ static const struct step meddle[] = {
 static const struct step *const moves_parts[] = {
     commission, start, enable, positions, glide, velocities, quick_stop, enable, fault, enable, home, reset, 0};
 static const struct step *const flood_parts[] = {commission, start, enable, flood, enable, home, 0};
+static const struct step *const others_parts[] = {commission, start, enable, others, 0};
+static const struct step *const dead_parts[] = {commission, start, enable, dead, enable, home, 0};
+static const struct step *const bus_off_parts[] = {commission, start, enable, bus_off, enable, home, 0};
+static const struct step *const service_parts[] = {commission, start, service, enable, one_move, 0};
 static const struct step *const damage_parts[] = {commission, start, enable, damage, 0};
 static const struct step *const stall_parts[] = {commission, start, enable, stall, 0};
 static const struct step *const swapped_parts[] = {commission_by_sdo, start, enable, one_move, 0};
@@ -402,6 +471,10 @@ static const struct step *const jam_parts[] = {commission, start, enable, jam, 0
 static const struct script scripts[] = {
     {.name = "moves", .parts = moves_parts},
     {.name = "flood", .parts = flood_parts},
+    {.name = "others", .parts = others_parts},
+    {.name = "dead", .parts = dead_parts},
+    {.name = "busoff", .parts = bus_off_parts},
+    {.name = "service", .parts = service_parts},
     {.name = "damage", .parts = damage_parts},
     {.name = "stall", .parts = stall_parts},
     {.name = "swapped", .parts = swapped_parts, .has_swapped_limits = true},
