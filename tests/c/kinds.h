@@ -113,6 +113,17 @@ static inline void rpdo3(char maps, uint32_t i)
     }
 }
 
+/* All four RPDOs, with what they map; two such sets that follow each other differ in what they write. */
+static inline void all_rpdos(char maps, uint32_t i)
+{
+    const uint8_t word = i % 2 ? 0x07 : 0x06, mode = i % 2 ? 3 : 1;
+    const uint8_t usual[6] = {word, 0, mode, 0, 0, 0}, modes[8] = {mode, mode, mode, mode, mode, mode, mode, mode};
+    static const uint8_t lengths[4] = {2, 3, 6, 6};
+
+    for (uint32_t k = 0; k < 4; k++)
+        frame(0x205 + 0x100 * k, maps == '6' ? modes : usual, maps == '6' ? 8 : lengths[k]);
+}
+
 static inline void feedback(uint32_t i)
 {
     const uint8_t at[8] = {(uint8_t)i, (uint8_t)(i >> 8)};
@@ -223,6 +234,39 @@ static inline void rest(int32_t position, uint32_t window_time, uint32_t ticks)
     operational();
 }
 
+/* ---- four held frames, which one SYNC applies: they are put into the state again before each */
+
+enum { HELD_AT = READY_AT + 4 * READY_LENGTH, HELD_LENGTH = 4 * READY_LENGTH };
+
+static uint8_t held[2][HELD_LENGTH];
+
+static inline void hold_all(char maps)
+{
+    types(1);
+    for (uint32_t i = 0; i < 4; i++)
+        sdo(0x2F, 0x1400 + i, 2, 1);
+    operational();
+    for (uint32_t i = 0; i < 2; i++) {
+        all_rpdos(maps, i);
+        memcpy(held[i], state + HELD_AT, HELD_LENGTH);
+    }
+}
+
+static inline void sync_of_held(uint32_t i)
+{
+    memcpy(state + HELD_AT, held[i % 2], HELD_LENGTH);
+    frame(0x80, 0, 0);
+}
+
+/* ---- the number of objects that a PDO maps, which works the plans out anew */
+
+static inline void write_map_count(char maps, uint32_t i)
+{
+    const uint32_t most = maps == '6' ? 8 : 2;
+
+    sdo(0x2F, 0x1A03, 0, i % 2 ? most : most - 1);
+}
+
 /* The tick that comes to the window time. Before each the node is put back to one tick before: the count, and bit 10 wherever it is shown. */
 static inline void last_tick(char maps)
 {
@@ -240,7 +284,9 @@ static inline void prepare(const char *kind)
     ready();
     prepare_maps(kind[1]);
     switch (kind[0]) {
+    case 'A': sdo(0x23, 0x1803, 1, NOT_VALID + NO_RTR + 0x485); break;
     case 'b': case 'o': types(1); operational(); break;
+    case 'B': hold_all(kind[1]); break;
     case 'c': types(0); operational(); frame(0x80, 0, 0); break;
     case 'f': sdo(0x2F, 0x1402, 2, 1); operational(); break;
     case 'e': case 'g': case 'i': case 'j': case 'l': case 'm': case 'n': case 'x': operational(); break;
@@ -261,7 +307,9 @@ static inline void call(const char *kind, uint32_t i)
 
     switch (kind[0]) {
     case 'a': power_up(5); break;
+    case 'A': write_map_count(kind[1], i); break;
     case 'b': case 'c': frame(0x80, 0, 0); break;
+    case 'B': sync_of_held(i); break;
     case 'd': load_tens_of_entries(1, i); break;
     case 'D': load_tens_of_entries(MOST_TENS, i); break;
     case 'e': case 'f': rpdo3(kind[1], i); break;
