@@ -4,7 +4,8 @@ import sys
 from pathlib import Path
 
 from tracing import dcf, eds
-from tracing.commands import bytes_of, carry_out, node_number
+from tracing.commands import carry_out, node_number
+from tracing.inputs import bytes_of
 from tracing.records import MOST_LOAD, BadInput
 
 from . import lists, source, trial, verdict

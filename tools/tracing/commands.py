@@ -2,20 +2,30 @@
 import argparse
 import os
 import sys
+from contextlib import closing
 from pathlib import Path
-from typing import Optional
+from typing import Callable, Iterable, Iterator, Optional
 
 from . import bench, differ, eds, log, readable, walk
 from .decode import Decoder, Row
+from .inputs import Input, nothing
 from .log import Entry
+from .look import Look, Trace, check_answers, look_at, look_through, need_power_up
 from .node import HEARTBEAT
-from .records import BadInput, Frame, Load, decode, encode
+from .records import BadInput, Load, encode
 
-SAME, DIFFERENT, BAD_INPUT = 0, 1, 2
+SAME, DIFFERENT, BAD_INPUT, INTERRUPTED = 0, 1, 2, 130
 
 ABOUT = "Bus traces of the node, for commissioning. '-' is standard input. Every command has its own --help."
 STATUS = 'Exit status: 0 done; 2 bad input, named on standard error with its file and line or record, and nothing is written.'
+READ_STATUS = ('Exit status: 0 done; 2 bad input, named on standard error with its file and line or record. Of a file nothing is written\n'
+               'then, of a pipe what stands before it.')
 VERDICT = 'Exit status: 0 the same; 1 different; 2 bad input, named on standard error with its file and line or record.'
+
+
+PIPED = """\
+A file is looked through before it is read. A pipe is read once, as it comes: there the power-up, or --node, has to stand
+before the first frame, and as it is not known whether a file will be loaded, it is the C calls that are made."""
 
 
 def main(arguments: list[str]) -> int:
@@ -25,24 +35,50 @@ def main(arguments: list[str]) -> int:
 def carry_out(args: argparse.Namespace, tool: str, bad_input: int) -> int:
     """The command, and its exit status; bad input is said on standard error."""
     try:
-        return args.command(args)
+        if sys.stdout is None:
+            raise BadInput('standard output is closed')
+        status = args.command(args)
+        sys.stdout.flush()
+        return status
     except BadInput as wrong:
-        print(f'{tool}: {wrong}', file=sys.stderr)
+        return complain(tool, wrong, bad_input)
     except BrokenPipeError:
-        os.dup2(os.open(os.devnull, os.O_WRONLY), sys.stdout.fileno())  # the reader has seen enough
+        drop_output()  # the reader has seen enough
         return SAME
+    except KeyboardInterrupt:
+        drop_output()
+        return INTERRUPTED
     except OSError as wrong:
-        print(f'{tool}: {wrong.filename or "output"}: {wrong.strerror}', file=sys.stderr)
-    return bad_input
+        drop_output()
+        return complain(tool, f'{wrong.filename or "output"}: {wrong.strerror}', bad_input)
+
+
+def complain(tool: str, wrong: object, status: int) -> int:
+    """What was written so far stands before what is wrong."""
+    try:
+        if sys.stdout:
+            sys.stdout.flush()
+    except OSError:
+        drop_output()
+    print(f'{tool}: {wrong}', file=sys.stderr)
+    return status
+
+
+def drop_output() -> None:
+    """What is not written yet goes nowhere, and is no error at the end of the program."""
+    try:
+        os.dup2(os.open(os.devnull, os.O_WRONLY), sys.stdout.fileno())
+    except OSError:
+        pass  # it is no file
 
 
 # the commands
 
 def command_records(args: argparse.Namespace) -> int:
-    entries = trace_of(args.log, args)
+    entries = trace_of(args.log, args).all_entries()
     if args.drop_own:
-        need_power_up(entries, args.log)
-        entries = walk.split(entries, Decoder(eds.load(args.eds)))[0]
+        items = walk.split(need_power_up(entries, args.log, look_at(entries, False)), Decoder(eds.load(args.eds)))
+        entries = [item for item in items if isinstance(item, Entry)]
     load = next((entry for entry in entries if isinstance(entry.what, Load)), None)
     if load:
         raise BadInput(f'{args.log}, line {load.line}: a load, for which the bench program has no record; tools/trace run makes one')
@@ -52,14 +88,19 @@ def command_records(args: argparse.Namespace) -> int:
 
 
 def command_run(args: argparse.Namespace) -> int:
-    return emit(bench.run(walk.records_of(trace_of(args.trace, args))).encode(), args.out)
+    return emit(bench.run(walk.records_of(trace_of(args.trace, args).all_entries())).encode(), args.out)
 
 
 def command_log(args: argparse.Namespace) -> int:
-    entries = trace_of(args.trace, args)
+    trace = trace_of(args.trace, args)
+    entries = trace.all_entries()
     if args.output:
-        entries = whole_bus(entries, bench.parse(text_of(args.output), args.output), args)
-    return emit(log.write(entries, args.bus or 'can0').encode(), args.out)
+        entries = whole_bus(entries, answers_of(args.output), args)
+    if args.plain:
+        entries = log.plain(entries)
+    if args.start is not None:
+        entries = log.starting_at(entries, args.start, trace.source.name)
+    return emit(encoded(log.write(entries, args.bus or 'can0')), args.out)
 
 
 def whole_bus(entries: list[Entry], answers: list[bench.Answer], args: argparse.Namespace) -> list[Entry]:
@@ -68,10 +109,10 @@ def whole_bus(entries: list[Entry], answers: list[bench.Answer], args: argparse.
     coming = iter(answers)
     due = len(walk.records_of(entries))
     if due != len(answers):
-        raise BadInput(f'{args.output}: answers to {len(answers)} records, where {args.trace} has {due}')
+        raise walk.miscounted(args.output, len(answers), due)
     for entry in entries:
         bus.append(entry)
-        if isinstance(entry.what, (log.Heading, log.Note)):
+        if not walk.is_record(entry):
             continue
         answer = next(coming)
         if answer.refusal:
@@ -81,47 +122,74 @@ def whole_bus(entries: list[Entry], answers: list[bench.Answer], args: argparse.
 
 
 def command_read(args: argparse.Namespace) -> int:
-    entries = trace_of(args.trace, args)
-    objects = eds.load(args.eds)
-    if args.output or args.run:
-        source = args.output or 'the bench program'
-        text = text_of(args.output) if args.output else bench.run(walk.records_of(entries))
-        lines = walk.rows_with_answers(entries, bench.parse(text, source), Decoder(objects), source, args.show_ticks)
-    else:
-        need_power_up(entries, args.trace)
-        lines = walk.rows_as_recorded(entries, Decoder(objects, not answers_in(entries)), args.show_ticks)
-    return emit(readable.write(lines, readable.wants_colour(args.color), args.absolute).encode())
-
-
-def command_replay(args: argparse.Namespace) -> int:
-    entries = trace_of(args.log, args)
-    need_power_up(entries, args.log)
-    objects = eds.load(args.eds)
-    given, recorded = walk.split(entries, Decoder(objects))
-    answers = bench.parse(bench.run(walk.records_of(given)), 'the bench program')
-    steps = walk.steps(given, answers, Decoder(objects), 'the bench program')
-    sent = [differ.Sent(row, step.given) for step in steps if isinstance(step, walk.Step) for row in step.sent]
-    if args.node and sent and (not recorded or recorded[0].frame != sent[0].row.frame):
-        sent = sent[1:]  # a log that begins behind the boot-up
-    find = differ.first_by_identifier if args.by_identifier else differ.first_difference
-    difference = find(recorded, sent)
-    if difference:
-        emit(differ.told(difference, args.log, args.by_identifier, readable.wants_colour(args.color)).encode())
-        return DIFFERENT
-    print(f'the same: {len(recorded)} frames from the node are as recorded')
+    if args.trace == args.output == '-':
+        raise BadInput("'-' stands for standard input once, and not twice")
+    trace = trace_of(args.trace, args, write_out)
+    output = Input(args.output, write_out) if args.output else None
+    look = look_through(trace, args.show_ticks or args.run or output is not None)
+    if output:
+        check_answers(output, look.records)
+    painter = readable.Painter(readable.wants_colour(args.color), look.time_width(args.absolute), 0 if args.absolute else None,
+                               readable.terminal_width())
+    for text in readable.texts(lines_of(trace, output, look, args), painter):
+        sys.stdout.buffer.write(encoded(text + '\n'))
     return SAME
 
 
+def lines_of(trace: Trace, output: Optional[Input], look: Look, args: argparse.Namespace) -> Iterator[walk.Line]:
+    """The readable trace, as it comes."""
+    objects = eds.load(args.eds)
+    entries = trace.entries(0 if args.absolute and not look.is_known else look.lead)
+    if output:
+        pairs = walk.with_answers(entries, bench.answers_in(output.lines(), output.name), output.name)
+        return walk.rows_with_answers(pairs, Decoder(objects), args.show_ticks)
+    if args.run:
+        return walk.rows_with_answers(replayed(entries, look), Decoder(objects), args.show_ticks)
+    return walk.rows_as_recorded(need_power_up(entries, trace.source.name, look), Decoder(objects, look.has_answers), args.show_ticks)
+
+
+def replayed(items: Iterable[walk.Item], look: Look) -> Iterator[walk.Answered]:
+    """What a trace has, with the answers of the node."""
+    program = bench.program_for(look.has_loads)
+    return walk.answered(items, lambda records: bench.answers_to(records, program), program.name)
+
+
+def command_replay(args: argparse.Namespace) -> int:
+    trace = trace_of(args.log, args)
+    look = look_through(trace, False)
+    objects = eds.load(args.eds)
+    items = walk.split(need_power_up(trace.entries(look.lead), trace.source.name, look), Decoder(objects))
+    comparison = differ.Comparison(args.by_identifier, args.node is not None)
+    with closing(replayed(items, look)) as pairs:
+        difference = compared(walk.steps(pairs, Decoder(objects)), comparison)
+    if difference:
+        emit(encoded(differ.told(difference, trace.source.name, args.by_identifier, readable.wants_colour(args.color), readable.terminal_width())))
+        return DIFFERENT
+    return emit(f'the same: {comparison.recorded} frames from the node are as recorded\n'.encode())
+
+
+def compared(steps: Iterable, comparison: differ.Comparison) -> Optional[differ.Difference]:
+    """The first difference. What comes behind it is not looked at."""
+    for step in steps:
+        if isinstance(step, Row):
+            comparison.add_recorded(step)
+        elif isinstance(step, walk.Step):
+            for row in step.sent:
+                comparison.add_sent(differ.Sent(row, step.given))
+        if comparison.is_decided:
+            return comparison.found
+    return comparison.end()
+
+
 def command_compare(args: argparse.Namespace) -> int:
-    one, other = (bench.parse(text_of(path), path) for path in (args.wanted, args.got))
+    one, other = (answers_of(path) for path in (args.wanted, args.got))
     place = differ.first_answer(one, other)
     if place is None:
-        print(f'the same: {len(one)} answers')
-        return SAME
-    entries = trace_of(args.records, args) if args.records else None
+        return emit(f'the same: {len(one)} answers\n'.encode())
+    entries = trace_of(args.records, args).all_entries() if args.records else None
     objects = eds.load(args.eds)
     sides = [(path, answer_at(place, answers, entries, objects)) for path, answers in ((args.wanted, one), (args.got, other))]
-    emit(differ.told_answers(place, sides, readable.wants_colour(args.color)).encode())
+    emit(encoded(differ.told_answers(place, sides, readable.wants_colour(args.color), readable.terminal_width())))
     return DIFFERENT
 
 
@@ -135,8 +203,10 @@ def answer_at(place: int, answers: list[bench.Answer], entries: Optional[list[En
         decoder.node.power_up(number_in(history))
         sent = [[decoder.put_out(frame, Entry(0, 0, frame)) for frame in answer.frames] for answer in history][-1]
     else:
-        records = [entry for entry in entries if not isinstance(entry.what, (log.Heading, log.Note))][:place + 1]
-        last = list(walk.steps(records, history, decoder, 'the outputs'))[-1]
+        records = [entry for entry in entries if walk.is_record(entry)][:place + 1]
+        if len(records) != len(history):
+            raise walk.miscounted('the outputs', len(history), len(records))
+        *_, last = walk.steps(zip(records, history), decoder)
         given, sent = last.given, last.sent
     return differ.Told(answers[place], given, sent, decoder.node.mode)
 
@@ -149,34 +219,22 @@ def number_in(answers: list[bench.Answer]) -> int:
 
 # input and output
 
-def bytes_of(path: str) -> bytes:
-    return sys.stdin.buffer.read() if path == '-' else Path(path).read_bytes()
+def trace_of(path: str, args: argparse.Namespace, before_wait: Callable[[], None] = nothing) -> Trace:
+    options = log.Options(args.bus if args.bus_chosen else None, args.skip_foreign)
+    return Trace(Input(path, before_wait), options, args.node, args.ticks, args.damaged)
 
 
-def text_of(path: str) -> str:
-    return bytes_of(path).decode('utf-8', errors='replace')
+def answers_of(path: str) -> list[bench.Answer]:
+    return list(bench.answers_in(Input(path).lines(), path))
 
 
-def trace_of(path: str, args: argparse.Namespace) -> list[Entry]:
-    """A trace, from a log or from records: the length and kind of a record have control characters, a log has none."""
-    content = bytes_of(path)
-    if any(byte < 0x20 and byte not in b'\t\r\n' or byte >= 0x80 for byte in content.removeprefix(b'\xef\xbb\xbf')[:4]):
-        entries = log.of_records(decode(content, path, args.damaged))
-    else:
-        options = log.Options(args.bus if args.bus_chosen else None, args.skip_foreign)
-        entries = log.parse(content.decode('utf-8-sig', errors='replace'), path, options)
-    entries = walk.with_power_up(entries, args.node)
-    return log.with_ticks(entries, path) if args.ticks else entries
+def write_out() -> None:
+    """What was written is to be seen while more is waited for."""
+    sys.stdout.flush()
 
 
-def need_power_up(entries: list[Entry], path: str) -> None:
-    if not walk.has_power_up(entries):
-        raise BadInput(f"{path}: which node? say --node N, or '#> power-up N' in the log")
-
-
-def answers_in(entries: list[Entry]) -> bool:
-    """Whether a log has SDO answers, of whichever node."""
-    return any(isinstance(entry.what, Frame) and 0x580 < entry.what.identifier < 0x600 for entry in entries)
+def encoded(text: str) -> bytes:
+    return text.encode('utf-8', errors='surrogateescape')  # the name of a file may be any bytes
 
 
 def emit(content: bytes, path: Optional[str] = None) -> int:
@@ -184,7 +242,6 @@ def emit(content: bytes, path: Optional[str] = None) -> int:
         Path(path).write_bytes(content)
     else:
         sys.stdout.buffer.write(content)
-        sys.stdout.buffer.flush()
     return SAME
 
 
@@ -230,9 +287,16 @@ def add_damaged(one: argparse.ArgumentParser) -> None:
 
 
 def node_number(text: str) -> int:
-    if not text.isdecimal() or not 1 <= int(text) <= 127:
+    if not log.is_number(text, 127) or not int(text):
         raise argparse.ArgumentTypeError(f"'{text}' is not 1 to 127")
     return int(text)
+
+
+def start_time(text: str) -> int:
+    time = log.time_of(text)
+    if time is None:
+        raise argparse.ArgumentTypeError(f"'{text}' is no Unix time: seconds, with or without decimals, as date +%s tells them")
+    return time - time % log.MICROSECOND
 
 
 def add_records(kinds) -> None:
@@ -247,8 +311,8 @@ def add_records(kinds) -> None:
 
 def add_run(kinds) -> None:
     text = 'a trace through the node: what the bench program prints for it'
-    after = ('Where a file is loaded, the C calls are made, by the program of tests/c/loads.c: it prints what the bench program would, and\n'
-             f'under a load what it answered, and the dictionary after it.\n\n{STATUS}')
+    after = (f'It needs {bench.NEEDS}\nThat program prints what the bench program would, and under a load what it answered, and the dictionary after it.\n\n'
+             f'{STATUS}')
     one = add(kinds, 'run', command_run, text, after)
     one.add_argument('trace', metavar='TRACE', help='records, or a log')
     one.add_argument('-o', dest='out', metavar='FILE', help='where the output goes (default: standard output)')
@@ -259,6 +323,7 @@ def add_run(kinds) -> None:
 def add_log(kinds) -> None:
     text = "records as a candump log with events; with the bench program's output, the log of the whole bus"
     after = ('Records have no time stamps: the times are those of the ticks, 1 ms each. A log may stand for RECORDS.\n'
+             'Wireshark opens plain logs alone, and log2asc of can-utils needs real times: --plain --start 1700000000 is for both.\n'
              f'How events stand in a log: tools/trace records --help.\n\n{STATUS}')
     one = add(kinds, 'log', command_log, text, after)
     one.set_defaults(bus_chosen=False)
@@ -266,6 +331,8 @@ def add_log(kinds) -> None:
     one.add_argument('output', metavar='OUTPUT', nargs='?', help='what the bench program printed for these records')
     one.add_argument('-o', dest='out', metavar='FILE', help='where the log goes (default: standard output)')
     one.add_argument('--bus', metavar='NAME', help='the interface that the log names (default: can0)')
+    one.add_argument('--plain', action='store_true', help="frames alone, as candump writes them: no events, headings and notes behind '#'")
+    one.add_argument('--start', type=start_time, metavar='EPOCH', help='move all times so that the first is this Unix time, in seconds')
     one.add_argument('--ticks', action='store_true', help='a tick for each millisecond of the time stamps (of a LOG)')
     add_damaged(one)
 
@@ -275,7 +342,10 @@ def add_read(kinds) -> None:
              'Columns: time in seconds from the first line on; in, out (of the node) or amp (from the amplifier); identifier; service;\n'
              'data bytes; object, its name and its value. PDOs are decoded by the mapping that the trace shows. What an SDO transfer\n'
              'by segments carries is told whole at its last segment. A state line tells a status word that no frame told. Ticks are\n'
-             f'not shown. How events stand in a log: tools/trace records --help.\n\n{STATUS}')
+             'not shown. On a terminal long lines are folded to its width, which COLUMNS may tell.\n\n'
+             'From a pipe each line is shown as soon as it is complete:\n\n  candump -ta can0 | tools/trace read --node 5 -\n\n'
+             'Of a log without any SDO answer each write is taken as done; from a pipe, each write before the first answer.\n\n'
+             f'--run needs {bench.NEEDS}\n\n{PIPED}\n\nHow events stand in a log: tools/trace records --help.\n\n{READ_STATUS}')
     one = add(kinds, 'read', command_read, 'the readable trace', after)
     one.add_argument('trace', metavar='TRACE', help='records, or a log')
     one.add_argument('output', metavar='OUTPUT', nargs='?', help='what the bench program printed for these records')
@@ -290,10 +360,14 @@ def add_read(kinds) -> None:
 def add_replay(kinds) -> None:
     after = ('Frames on the identifiers of the node are those it sent, as recorded; all others are given to the bench program, and\n'
              "what it answers is compared with what was recorded, in order. The amplifier's events are on no bus: place them in the\n"
-             f'log, as tools/trace records --help says. With --node, a log may begin behind the boot-up.\n\n{VERDICT}')
+             'log, as tools/trace records --help says. With --node, a log may begin behind the boot-up.\n\n'
+             f'It ends at the first difference. Frames that wait for their like, recorded or replayed, are kept; where over {differ.MOST_WAITING}\n'
+             f'wait (with --by-identifier, of one identifier) the first of them is the difference.\n\n'
+             f'It needs {bench.NEEDS}\n\n{PIPED}\n\n{VERDICT}')
     one = add(kinds, 'replay', command_replay, 'a recorded log through the node: does it answer as recorded?', after)
     one.add_argument('log', metavar='LOG')
-    one.add_argument('--by-identifier', action='store_true', help='compare the order of frames of one identifier only')
+    one.add_argument('--by-identifier', action='store_true',
+                     help='compare the order of frames of one identifier only; keeps, for each identifier, the frames that wait for their like')
     add_log_options(one)
     add_reading_options(one)
 

@@ -1,5 +1,6 @@
 """A frame or an event as a row of the readable trace."""
 from dataclasses import dataclass, field
+from functools import lru_cache
 from typing import NamedTuple, Optional, Union
 
 from . import dcf, events, node as can, segments, words
@@ -7,8 +8,8 @@ from .bench import Answer
 from .dcf import byte_count
 from .eds import Objects, Place
 from .log import Entry
-from .node import Node, Sdo
-from .records import BadInput, Damage, Event, Frame, Load, PowerUp
+from .node import Kept, Node, Pdo, Sdo
+from .records import MOST_KEPT, BadInput, Damage, Event, Frame, Load, PowerUp
 from .segments import Segment, Transfer, segment_of, toggle_of
 
 IN, OUT, AMPLIFIER = 'in', 'out', 'amp'
@@ -42,15 +43,25 @@ NO_OBJECT = (0, 0)  # as an abort names none
 MOST_NUMBER = 4  # bytes that are shown as a number
 
 
+class LastIn(NamedTuple):
+    """What was put in last, and what was known before it."""
+    entry: Entry
+    node: Kept
+    status: int
+
+
 class Decoder:
     """Turns a trace into rows, in order: what a row says depends on what came before it."""
 
-    def __init__(self, objects: Objects, answers_missing: bool = False):
+    def __init__(self, objects: Objects, answers: Optional[bool] = True):
+        """answers: whether the trace has SDO answers, where that is known."""
         self.objects = objects
-        self.node = Node(objects, answers_missing)
+        self.node = Node(objects, answers)
         # as they were before the frame that is put in or out
         self.running: Optional[Transfer] = None
         self.asked: Optional[Sdo] = None
+        self.last_in: Optional[LastIn] = None
+        self.texts: dict[tuple[Place, Optional[bytes], int], ObjectText] = {}  # by object, data and mode
         self.status = 0  # the status word that was shown last
 
     # what goes in and out
@@ -59,6 +70,9 @@ class Decoder:
         """The row of a record. One that was refused tells nothing about the node."""
         what = entry.what
         self.running = self.node.transfer
+        if isinstance(what, Event):
+            return Row(entry.time, AMPLIFIER, 'event', details=[event_text(what)], line=entry.line)
+        self.last_in = LastIn(entry, self.node.keep(), self.status)
         if isinstance(what, Frame):
             if accepted:
                 self.node.receive(what)
@@ -68,8 +82,6 @@ class Decoder:
                 self.node.power_up(what.node)
                 self.status = 0
             row = Row(0, AMPLIFIER, 'power-up', details=[f'node-ID {what.node}'])
-        elif isinstance(what, Event):
-            row = Row(0, AMPLIFIER, *event_texts(what))
         elif isinstance(what, Load):
             row = Row(0, AMPLIFIER, 'load', details=self.load_details(what.data))
             if accepted:
@@ -78,6 +90,12 @@ class Decoder:
             row = Row(0, AMPLIFIER, 'bad record', details=[f'{len(what.data)} bytes: {what.data[:20].hex(" ").upper()}'], style=BAD)
         row.time, row.line = entry.time, entry.line
         return row
+
+    def take_back(self, entry: Entry) -> None:
+        """An entry turns out to be refused. Only the last one that was put in can be taken back."""
+        if self.last_in and self.last_in.entry is entry:
+            self.node.take_back(self.last_in.node)
+            self.status = self.last_in.status
 
     def put_out(self, frame: Frame, entry: Entry) -> Row:
         """The row of a frame that the node sent."""
@@ -125,9 +143,9 @@ class Decoder:
             return self.make(IN, 'SYNC', frame, [wrong] if frame.data else [])
         if self.node.is_on(identifier, can.SDO_REQUEST):
             return self.sdo_request(frame)
-        number = self.node.pdo_on(can.RECEIVE, identifier)
-        if number:
-            return self.pdo(IN, can.RECEIVE, number, frame)
+        pdo = self.node.pdo_on(can.RECEIVE, identifier)
+        if pdo:
+            return self.pdo(IN, can.RECEIVE, pdo, frame)
         return self.make(IN, 'other', frame, [other_text(identifier)], QUIET)
 
     def sdo_request(self, frame: Frame) -> Row:
@@ -135,11 +153,10 @@ class Decoder:
         if sdo is None:
             return self.make(IN, 'SDO request', frame, [f'{len(frame.data)} bytes: not served'])
         if sdo.starts_segments:
-            told = f'{byte_count(int.from_bytes(sdo.data, "little"))} told, ' if sdo.command & can.SIZE_TOLD else ''
+            told = '' if sdo.told_size is None else f'{byte_count(sdo.told_size)} told, '
             return self.make(IN, 'SDO write', frame, [self.remark(sdo.place, f'{told}by segments')])
         if sdo.kind == can.DOWNLOAD:
-            size = can.told_size(sdo.command) or self.size_of(sdo.place)
-            return self.make(IN, 'SDO write', frame, [self.object_text(sdo.place, sdo.data[:size])])
+            return self.make(IN, 'SDO write', frame, [self.carried_value(sdo)])
         if sdo.kind == can.UPLOAD:
             return self.make(IN, 'SDO read', frame, [self.object_text(sdo.place)])
         if sdo.kind == can.DOWNLOAD_SEGMENT:
@@ -162,9 +179,9 @@ class Decoder:
             return self.make(OUT, 'EMCY', frame, [text], BAD if code else GOOD)
         if self.node.is_on(identifier, can.SDO_ANSWER):
             return self.sdo_answer(frame)
-        number = self.node.pdo_on(can.TRANSMIT, identifier)
-        if number:
-            return self.pdo(OUT, can.TRANSMIT, number, frame)
+        pdo = self.node.pdo_on(can.TRANSMIT, identifier)
+        if pdo:
+            return self.pdo(OUT, can.TRANSMIT, pdo, frame)
         return self.make(OUT, 'other', frame, [other_text(identifier)], QUIET)
 
     def heartbeat(self, frame: Frame) -> Row:
@@ -177,26 +194,37 @@ class Decoder:
         sdo = can.sdo_of(frame)
         if sdo is None:
             return self.make(OUT, 'SDO answer', frame, [f'{len(frame.data)} bytes, where 8 are due'])
-        if sdo.command == can.WRITTEN and self.asked and self.asked.starts_segments:
+        if sdo.kind == can.WRITTEN and self.asked and self.asked.starts_segments:
             return self.make(OUT, 'SDO ready', frame, [self.remark(sdo.place, 'by segments')])
-        if sdo.command == can.WRITTEN:
+        if sdo.kind == can.WRITTEN:
             return self.make(OUT, 'SDO written', frame, [self.object_text(sdo.place)])
-        if sdo.command in can.READ_BY_SEGMENTS:
-            told = f'{byte_count(int.from_bytes(sdo.data, "little"))}, ' if sdo.command & can.SIZE_TOLD else ''
-            return self.make(OUT, 'SDO value', frame, [self.remark(sdo.place, f'{told}by segments')])
+        if sdo.kind == can.READ:
+            return self.sdo_value(sdo, frame)
         if sdo.kind == can.SEGMENT_READ:
             return self.data_segment(OUT, segments.UPLOAD, frame)
         if sdo.kind == can.SEGMENT_WRITTEN:
             service = 'SDO written' if self.asked and self.asked.is_last_segment else 'SDO segment'
             return self.make(OUT, service, frame, [self.segment_text(segments.DOWNLOAD, toggle_of(sdo.command), ', taken')])
-        if sdo.command in can.READ_SIZES:
-            row = self.make(OUT, 'SDO value', frame, [self.object_text(sdo.place, sdo.data[:can.READ_SIZES[sdo.command]])])
-            if sdo.place == STATUS_WORD:
-                self.show_status(row, int.from_bytes(sdo.data[:2], 'little'))
-            return row
-        if sdo.command == can.ABORTED:
+        if sdo.kind == can.ABORTED:
             return self.make(OUT, 'SDO abort', frame, [self.abort_text(sdo), *self.reasons(sdo)], BAD)
         return self.make(OUT, 'SDO answer', frame, [self.object_text(sdo.place), f'unknown command {sdo.command:02X}h'])
+
+    def sdo_value(self, sdo: Sdo, frame: Frame) -> Row:
+        """The answer of an upload: a value, or how many bytes of it the segments bring."""
+        if not sdo.is_expedited:
+            told = '' if sdo.told_size is None else f'{byte_count(sdo.told_size)}, '
+            return self.make(OUT, 'SDO value', frame, [self.remark(sdo.place, f'{told}by segments')])
+        row = self.make(OUT, 'SDO value', frame, [self.carried_value(sdo)])
+        if sdo.place == STATUS_WORD:
+            self.show_status(row, int.from_bytes(sdo.data[:2], 'little'))
+        return row
+
+    def carried_value(self, sdo: Sdo) -> ObjectText:
+        """The value of an expedited transfer. Where neither it nor the object tells how many bytes it has, there may be fewer than are shown."""
+        known, data = self.objects.get(sdo.place), self.node.carried(sdo)
+        if sdo.told_size is None and (known is None or known.is_text):
+            return self.object_text(sdo.place)._replace(value=f'{words.shown(data)}, of which it is not told how many count')
+        return self.object_text(sdo.place, data)
 
     def abort_text(self, sdo: Sdo) -> Union[ObjectText, str]:
         text = words.abort(int.from_bytes(sdo.data, 'little'))
@@ -206,17 +234,18 @@ class Decoder:
         """Under a limit of the position that is refused for the other one: why, with both numbers where the trace shows them."""
         if sdo.place not in can.POSITION_LIMITS or int.from_bytes(sdo.data, 'little') != words.NOT_COMPATIBLE:
             return []
-        data = self.data_asked_for(sdo.place)
+        data, limit = self.data_asked_for(sdo.place), self.objects.get(sdo.place)
         low, high = self.node.limits_with([dcf.Entry(sdo.place, data)])
-        known = data and low > high
+        known = limit and limit.size == len(data) and low > high
         return [f'minimum {low} would be above maximum {high}' if known else 'the minimum would be above the maximum']
 
     def data_asked_for(self, place: Place) -> bytes:
         """What the request that is answered now would have stored there; nothing where the trace does not show it."""
         asked, running = self.asked, self.running
         if asked and asked.is_last_segment and running and running.place == place:
-            return running.data + segment_of(asked.whole).data
-        return asked.data if asked and asked.kind == can.DOWNLOAD and asked.place == place else b''
+            return running.with_data(segment_of(asked.whole).data).data
+        is_there = asked and asked.kind == can.DOWNLOAD and asked.is_expedited and asked.place == place
+        return self.node.carried(asked) if is_there else b''
 
     # segments, both ways
 
@@ -225,8 +254,12 @@ class Decoder:
         segment, running = segment_of(frame.data), self.running
         row = self.make(direction, 'SDO segment', frame, [self.segment_text(way, segment.toggle, self.carried_text(segment), segment.is_last)])
         if segment.is_last and running and running.fits(way, segment.toggle):
-            row.details.append(self.object_text(running.place, running.data + segment.data))
+            row.details.append(self.whole_value(running.with_data(segment.data)))
         return row
+
+    def whole_value(self, transfer: Transfer) -> ObjectText:
+        """What all segments of a transfer make."""
+        return self.object_text(transfer.place)._replace(value=self.value_text(transfer.place, transfer.data, transfer.size))
 
     def segment_text(self, way: str, toggle: int, more: str = '', is_last: bool = False) -> Union[ObjectText, str]:
         """Which segment of which transfer, by the transfer that runs before it."""
@@ -247,42 +280,43 @@ class Decoder:
     def make(self, direction: str, service: str, frame: Frame, details: Optional[list] = None, style: str = PLAIN) -> Row:
         return Row(0, direction, service, frame, details or [], style)
 
-    def pdo(self, direction: str, kind: str, number: int, frame: Frame) -> Row:
+    def pdo(self, direction: str, kind: str, pdo: Pdo, frame: Frame) -> Row:
         """A PDO's objects by the mapping in force; of one that is cut short none, since the node takes none."""
-        parts = list(self.node.mapping(kind, number))
-        row = self.make(direction, f'{kind}PDO{number}', frame)
-        needed = sum(part.size for part in parts)
-        if len(frame.data) < needed:
-            names = ', '.join(f'{part.place[0]:04X}:{part.place[1]:02X}' for part in parts)
-            row.details.append(f'too short: {len(frame.data)} of the {needed} bytes of {names}')
+        row = self.make(direction, f'{kind}PDO{pdo.number}', frame)
+        if len(frame.data) < pdo.size:
+            names = ', '.join(dcf.place_text(part.place) for part in pdo.parts)
+            row.details.append(f'too short: {len(frame.data)} of the {pdo.size} bytes of {names}')
             return row
-        for part in parts:
+        for part in pdo.parts:
             data = frame.data[part.start:part.start + part.size]
             row.details.append(self.object_text(part.place, data))
             if part.place == STATUS_WORD:
                 self.show_status(row, int.from_bytes(data, 'little'))
-        if len(frame.data) > needed:
-            row.details.append(f'{len(frame.data) - needed} bytes more than mapped')
+        if len(frame.data) > pdo.size:
+            row.details.append(f'{len(frame.data) - pdo.size} bytes more than mapped')
         return row
 
-    def size_of(self, place: Place) -> int:
-        """How many bytes an expedited write has that does not tell it."""
-        entry = self.objects.get(place)
-        return entry.size if entry and not entry.is_text else 4
-
     def object_text(self, place: Place, data: Optional[bytes] = None) -> ObjectText:
-        entry = self.objects.get(place)
-        name = entry.name if entry else '(not in the dictionary)'
-        return ObjectText(f'{place[0]:04X}:{place[1]:02X}', name, '' if data is None else self.value_text(place, data))
+        """An object by its name, with its value where there is data. The same may be asked for often: it is kept."""
+        key = place, data, self.node.mode
+        text = self.texts.get(key)
+        if text is None:
+            entry = self.objects.get(place)
+            name = entry.name if entry else '(not in the dictionary)'
+            text = ObjectText(dcf.place_text(place), name, '' if data is None else self.value_text(place, data))
+            if len(self.texts) >= MOST_KEPT:
+                self.texts.clear()
+            self.texts[key] = text
+        return text
 
     def remark(self, place: Place, text: str) -> ObjectText:
         """What is said about an object and is not its value."""
         return self.object_text(place)._replace(value=text, joint=': ')
 
-    def value_text(self, place: Place, data: bytes) -> str:
-        """A value in words where its object has words for it, and as a number otherwise."""
-        entry = self.objects.get(place)
-        size, value = len(data), int.from_bytes(data, 'little')
+    def value_text(self, place: Place, data: bytes, whole_size: Optional[int] = None) -> str:
+        """A value in words where its object has words for it, and as a number otherwise. whole_size: where these are only its first bytes."""
+        entry, size = self.objects.get(place), len(data) if whole_size is None else whole_size
+        value = int.from_bytes(data, 'little')
         if entry and entry.is_text:
             return words.text(data)
         if not entry or entry.size != size:
@@ -308,6 +342,8 @@ class Decoder:
     def parameter_text(self, place: Place, value: int) -> Optional[str]:
         """The parameters of PDOs; none for other objects."""
         index, sub = place
+        if index not in can.PARAMETERS:
+            return None
         if can.is_parameter(index, can.COMMUNICATION) and sub == 1:
             return f'{value:08X}h ' + ('not valid' if value & can.NOT_VALID else f'on {value & 0x7FF:03X}h')
         if can.is_parameter(index, can.COMMUNICATION) and sub == 2:
@@ -333,17 +369,17 @@ class Decoder:
         self.status = status
 
 
-def event_texts(event: Event) -> tuple:
-    """Service, no frame, and details of an event's row."""
+@lru_cache(MOST_KEPT)
+def event_text(event: Event) -> str:
     values = events.values_of(event)
     if values is None:
-        return 'event', None, [f'number {event.number}, arguments {event.arguments.hex(" ").upper() or "none"}']
+        return f'number {event.number}, arguments {event.arguments.hex(" ").upper() or "none"}'
     kind = events.KINDS[event.number]
     if kind.word == 'fault':
         code, register = (int(value, 16) for value in values)
-        return 'event', None, [f'fault {words.emergency(code)}; error register gains {words.error_register(register)}']
+        return f'fault {words.emergency(code)}; error register gains {words.error_register(register)}'
     named = [value if argument.form == 'flag' else f'{argument.name} {value}' for argument, value in zip(kind.arguments, values)]
-    return 'event', None, [f"{kind.word} {', '.join(named)}".rstrip()]
+    return f"{kind.word} {', '.join(named)}".rstrip()
 
 
 def nmt_text(data: bytes) -> str:

@@ -41,7 +41,7 @@ def load(path: Path = FILE) -> Objects:
         with open(path, encoding='utf-8', errors='replace') as file:
             parser.read_file(file)
     except configparser.Error as wrong:
-        raise BadInput(f'{path}: {wrong}') from None
+        raise BadInput(f'{path}: {" ".join(str(wrong).split())[:300]}') from None
     objects: Objects = {}
     for title in parser.sections():
         place = re.fullmatch(r'([0-9A-Fa-f]{4})(?:sub([0-9A-Fa-f]{1,2}))?', title)

@@ -1,4 +1,5 @@
 """The amplifier's events in words, both ways: `feedback 1200 0` and its number with argument bytes."""
+import re
 from typing import NamedTuple, Optional
 
 from .records import Event
@@ -28,6 +29,7 @@ KINDS = {
     9: Kind('voltage', (Argument('flag', 1, 'flag'),)),
 }
 NUMBERS = {kind.word: number for number, kind in KINDS.items()}
+NUMBERS_OF = {'signed': re.compile('[+-]?[0-9]{1,30}'), 'hex': re.compile('(?:0x)?[0-9A-Fa-f]{1,30}')}
 FLAGS = {'off': 0, 'on': 1, '0': 0, '1': 1}  # of each value, the first word is the one written
 
 
@@ -72,13 +74,15 @@ def from_words(word: str, values: list[str]) -> Event:
 
 
 def value_bytes(argument: Argument, text: str) -> bytes:
-    signed = argument.form == 'signed'
     try:
-        if argument.form == 'flag':
-            value = FLAGS[text]
-        else:
-            value = int(text, 10 if signed else 16)
-        return value.to_bytes(argument.size, 'little', signed=signed)
+        value = FLAGS[text] if argument.form == 'flag' else number_of(text, argument.form)
+        return value.to_bytes(argument.size, 'little', signed=argument.form == 'signed')
     except (KeyError, ValueError, OverflowError):
         wanted = {'signed': 'a signed decimal number', 'hex': 'a hexadecimal number', 'flag': 'on or off'}[argument.form]
-        raise ValueError(f"{argument.name} '{text}' is not {wanted} of {argument.size} byte(s)") from None
+        raise ValueError(f"{argument.name} '{text[:60]}' is not {wanted} of {argument.size} byte(s)") from None
+
+
+def number_of(text: str, form: str) -> int:
+    if not NUMBERS_OF[form].fullmatch(text):
+        raise ValueError(f'not {form}')
+    return int(text, 10 if form == 'signed' else 16)

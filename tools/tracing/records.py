@@ -1,12 +1,15 @@
 """Bench records as bytes: payload length (2), kind (2), little-endian, payload."""
 import struct
 from dataclasses import dataclass
-from typing import Union
+from functools import lru_cache
+from typing import Iterable, Iterator, Union
 
 FRAME, EVENT, POWER_UP = 1, 2, 3
 LOAD, MOST_LOAD = 4, 0xFFFF  # what the C program of tests/c/loads.c has besides, and the bytes of its longest file
 HEAD = struct.Struct('<HH')
 PAYLOADS = {FRAME: range(2, 17), EVENT: range(1, 17), POWER_UP: range(1, 2)}  # the payload lengths of each kind
+LONGEST = HEAD.size + 16  # bytes of a record
+MOST_KEPT = 4096  # frames and the like that are not made anew when they come again
 
 
 class BadInput(Exception):
@@ -64,20 +67,31 @@ def encode_one(record: Record) -> bytes:
 
 
 def decode(stream: bytes, file: str, keep_damage: bool) -> list[Record]:
-    """The records of a stream. A bad one is an error, or with keep_damage the last record."""
-    records: list[Record] = []
-    place = 0
-    while place < len(stream):
-        wrong = what_is_wrong(stream, place)
-        if wrong and not keep_damage:
-            raise BadInput(f'{file}, record {len(records) + 1} (byte {place}): {wrong}')
-        if wrong:
-            return records + [Damage(stream[place:])]
-        length, kind = HEAD.unpack_from(stream, place)
-        start = place + HEAD.size
-        place = start + length
-        records.append(decode_payload(kind, stream[start:place]))
-    return records
+    return list(decoded([stream], file, keep_damage))
+
+
+def decoded(pieces: Iterable[bytes], file: str, keep_damage: bool) -> Iterator[Record]:
+    """The records of a stream, as its pieces come. A bad one is an error, or with keep_damage the last record."""
+    source, held = iter(pieces), b''
+    number, passed = 1, 0  # of the record that is due, and the bytes before those that are held
+    piece = next(source, b'')
+    while held or piece:
+        held, place = held + piece, 0
+        while place < len(held) and (len(held) - place >= LONGEST or not piece):
+            wrong = what_is_wrong(held, place)
+            if wrong and not keep_damage:
+                nor_log = ', and no log begins so' if number == 1 else ''
+                raise BadInput(f'{file}, record {number} (byte {passed + place}): {wrong}{nor_log}')
+            if wrong:
+                yield Damage(held[place:] + b''.join(source))
+                return
+            length, kind = HEAD.unpack_from(held, place)
+            start = place + HEAD.size
+            place = start + length
+            number += 1
+            yield decode_payload(kind, held[start:place])
+        held, passed = held[place:], passed + place
+        piece = next(source, b'')
 
 
 def what_is_wrong(stream: bytes, place: int) -> str:
@@ -96,6 +110,7 @@ def what_is_wrong(stream: bytes, place: int) -> str:
     return ''
 
 
+@lru_cache(MOST_KEPT)
 def decode_payload(kind: int, payload: bytes) -> Record:
     if kind == FRAME:
         return Frame(int.from_bytes(payload[:2], 'little'), payload[2:])

@@ -5,6 +5,7 @@ from .eds import Place
 
 DOWNLOAD, UPLOAD = 'download', 'upload'
 ROOM = 7  # data bytes of a segment
+MOST_HELD = 64  # bytes of a transfer: more than any number has, or than are shown
 
 
 class Segment(NamedTuple):
@@ -26,7 +27,8 @@ class Transfer(NamedTuple):
     direction: str
     place: Place
     count: int = 0  # of the segments so far
-    data: bytes = b''  # what they carried
+    size: int = 0  # of what they carried
+    data: bytes = b''  # the first bytes of it
 
     @property
     def toggle(self) -> int:
@@ -39,4 +41,4 @@ class Transfer(NamedTuple):
 
     def with_data(self, data: bytes) -> 'Transfer':
         """The transfer behind one more segment."""
-        return self._replace(count=self.count + 1, data=self.data + data)
+        return self._replace(count=self.count + 1, size=self.size + len(data), data=(self.data + data)[:MOST_HELD])

@@ -1,11 +1,13 @@
-"""A whole trace, from its start to its end, as rows."""
+"""A whole trace as rows, from its start to its end, as it comes."""
 import re
-from typing import Iterator, NamedTuple, Optional, Union
+from collections import deque
+from contextlib import closing
+from typing import Callable, Iterable, Iterator, NamedTuple, Optional, Union
 
 from .bench import Answer
 from .decode import Decoder, Row
-from .log import TICK, Entry, Heading, Note
-from .records import BadInput, Frame, PowerUp, Record
+from .log import Entry, Heading, Note, is_tick
+from .records import BadInput, Event, Frame, PowerUp, Record
 
 Line = Union[Row, Heading, Note]
 ASKING = ('SDO read', 'SDO write', 'SDO segment')  # services that have an answer
@@ -19,58 +21,128 @@ class Step(NamedTuple):
     sent: list[Row]
 
 
+Item = Union[Entry, Row]  # a row is a frame that was recorded, and goes to nobody
+Answered = tuple[Item, Optional[Answer]]  # a record has its answer, all else has none
+
+
+def is_record(item: Item) -> bool:
+    return isinstance(item, Entry) and not isinstance(item.what, (Heading, Note))
+
+
 def records_of(entries: list[Entry]) -> list[Record]:
-    return [entry.what for entry in entries if not isinstance(entry.what, (Heading, Note))]
+    return [entry.what for entry in entries if is_record(entry)]
 
 
-def steps(entries: list[Entry], answers: list[Answer], decoder: Decoder, file: str) -> Iterator[Union[Step, Heading, Note]]:
-    """Every record with its answer, headings and notes between them."""
-    due = len(records_of(entries))
-    if due != len(answers):
-        raise BadInput(f'{file}: answers to {len(answers)} records, where there are {due}')
-    coming = iter(answers)
+# records and their answers
+
+def with_answers(entries: Iterable[Entry], answers: Iterator[Answer], file: str) -> Iterator[Answered]:
+    """The entries with the answers of an output."""
+    count = 0
     for entry in entries:
-        if isinstance(entry.what, (Heading, Note)):
-            yield entry.what
+        answer = next(answers, None) if is_record(entry) else None
+        if is_record(entry) and answer is None:
+            raise BadInput(f'{file}: answers to {count} records, where there are more')
+        count += answer is not None
+        yield entry, answer
+    more = sum(1 for _ in answers)
+    if more:
+        raise miscounted(file, count + more, count)
+
+
+def miscounted(file: str, answers: int, records: int) -> BadInput:
+    return BadInput(f'{file}: answers to {answers} records, where there are {records}')
+
+
+def answered(items: Iterable[Item], answer: Callable[[Iterator[Record]], Iterator[Answer]], source: str) -> Iterator[Answered]:
+    """The items with what they are answered, in order. Records are taken ahead of their answers, as many as are under way."""
+    coming, waiting = iter(items), deque()
+    count = 0
+
+    def records() -> Iterator[Record]:
+        for item in coming:
+            waiting.append(item)
+            if is_record(item):
+                yield item.what
+
+    with closing(answer(records())) as answers:
+        for one in answers:
+            while waiting and not is_record(waiting[0]):
+                yield waiting.popleft(), None
+            if not waiting:
+                raise BadInput(f'{source}: more answers than records')
+            count += 1
+            yield waiting.popleft(), one
+    waiting.extend(coming)
+    left = sum(map(is_record, waiting))
+    if left:
+        raise miscounted(source, count, count + left)
+    yield from ((item, None) for item in waiting)
+
+
+def steps(pairs: Iterable[Answered], decoder: Decoder) -> Iterator[Union[Step, Row, Heading, Note]]:
+    """Every record with its answer, and what stands between them."""
+    for item, answer in pairs:
+        if answer is None:
+            yield item.what if isinstance(item, Entry) else item
             continue
-        answer = next(coming)
-        given = decoder.put_in(entry, answer.refusal == 0)
-        sent = [decoder.put_out(frame, entry) for frame in answer.frames]
+        given = decoder.put_in(item, answer.refusal == 0)
+        sent = [decoder.put_out(frame, item) for frame in answer.frames]
         if given.service in ASKING and not any(row.service.startswith('SDO') for row in sent):
             given.details.append('not answered')
-        yield Step(entry, answer, given, sent)
+        yield Step(item, answer, given, sent)
 
 
-def rows_with_answers(entries: list[Entry], answers: list[Answer], decoder: Decoder, file: str, show_ticks: bool) -> list[Line]:
+def rows_with_answers(pairs: Iterable[Answered], decoder: Decoder, show_ticks: bool) -> Iterator[Line]:
     """The readable trace of records and their answers. A tick is shown where asked for, and where it is refused."""
-    lines: list[Line] = []
     status = 0
-    for step in steps(entries, answers, decoder, file):
+    for step in steps(pairs, decoder):
         if not isinstance(step, Step):
-            lines.append(step)
+            yield step
             continue
-        if show_ticks or step.entry.what != TICK or step.answer.refusal:
-            lines.append(step.given)
+        if show_ticks or step.answer.refusal or not is_tick(step.entry.what):
+            yield step.given
         if step.answer.refusal:
-            lines.append(decoder.refusal_row(step.entry, step.answer))
-        lines.extend(step.sent)
+            yield decoder.refusal_row(step.entry, step.answer)
+        yield from step.sent
         if step.answer.status != status and all(row.shows_status != step.answer.status for row in step.sent):
-            lines.append(decoder.status_row(step.entry.time, step.answer.status))
+            yield decoder.status_row(step.entry.time, step.answer.status)
         status = step.answer.status
-    return lines
 
 
-def rows_as_recorded(entries: list[Entry], decoder: Decoder, show_ticks: bool) -> list[Line]:
+# logs as they were recorded
+
+def rows_as_recorded(entries: Iterable[Entry], decoder: Decoder, show_ticks: bool) -> Iterator[Line]:
     """The readable trace of a log alone: frames on the node's own identifiers are those it sent."""
-    lines: list[Line] = []
-    for place, entry in enumerate(entries):
-        if isinstance(entry.what, (Heading, Note)):
-            lines.append(entry.what)
-        elif is_own(entry, decoder):
-            lines.append(decoder.put_out(entry.what, entry))
-        elif show_ticks or entry.what != TICK:
-            lines.append(decoder.put_in(entry, not is_refused(entries, place)))
-    return lines
+    for entry in without_refused(entries, decoder):
+        what = entry.what
+        if isinstance(what, Frame):
+            yield decoder.put_out(what, entry) if decoder.node.sends_on(what.identifier) else decoder.put_in(entry)
+        elif isinstance(what, (Heading, Note)):
+            yield what
+        elif show_ticks or not is_tick(what):
+            yield decoder.put_in(entry)
+
+
+def split(entries: Iterable[Entry], decoder: Decoder) -> Iterator[Item]:
+    """A recorded log as what the node was given, and the rows of what it sent."""
+    for entry in without_refused(entries, decoder):
+        what = entry.what
+        if isinstance(what, Frame) and decoder.node.sends_on(what.identifier):
+            yield decoder.put_out(what, entry)
+            continue
+        if not isinstance(what, (Event, Heading, Note)):  # an event tells nothing about the node
+            decoder.put_in(entry)
+        yield entry
+
+
+def without_refused(entries: Iterable[Entry], decoder: Decoder) -> Iterator[Entry]:
+    """The entries, of which the decoder takes back what the log notes as refused right behind it."""
+    last: Optional[Entry] = None
+    for entry in entries:
+        if isinstance(entry.what, Note) and last and is_refusal(entry.what):
+            decoder.take_back(last)
+        yield entry
+        last = entry
 
 
 def refusal_note(refusal: int) -> Note:
@@ -78,38 +150,14 @@ def refusal_note(refusal: int) -> Note:
     return Note(f'refused {refusal}')
 
 
-def is_refused(entries: list[Entry], place: int) -> bool:
-    """Whether the log has such a note there."""
-    behind = entries[place + 1].what if place + 1 < len(entries) else None
-    return isinstance(behind, Note) and re.fullmatch(r'refused [0-9]+', behind.text) is not None
+def is_refusal(note: Note) -> bool:
+    return re.fullmatch(r'refused [0-9]+', note.text) is not None
 
 
-def is_own(entry: Entry, decoder: Decoder) -> bool:
-    """Whether this is a frame that the node sent, as far as its identifier tells."""
-    return isinstance(entry.what, Frame) and decoder.node.sends_on(entry.what.identifier)
-
-
-def split(entries: list[Entry], decoder: Decoder) -> tuple[list[Entry], list[Row]]:
-    """A recorded log as what the node was given, and the rows of what it sent."""
-    given: list[Entry] = []
-    sent: list[Row] = []
-    for place, entry in enumerate(entries):
-        if is_own(entry, decoder):
-            sent.append(decoder.put_out(entry.what, entry))
-            continue
-        given.append(entry)
-        if not isinstance(entry.what, (Heading, Note)):
-            decoder.put_in(entry, not is_refused(entries, place))
-    return given, sent
-
-
-def with_power_up(entries: list[Entry], number: Optional[int]) -> list[Entry]:
-    """The entries behind a power-up, where a number is given."""
-    if number is None:
-        return entries
-    first = entries[0] if entries else Entry(0, 0, PowerUp(number))
-    return [Entry(first.line, first.time, PowerUp(number))] + entries
-
-
-def has_power_up(entries: list[Entry]) -> bool:
-    return any(isinstance(entry.what, PowerUp) for entry in entries)
+def with_power_up(entries: Iterator[Entry], number: int) -> Iterator[Entry]:
+    """The entries behind a power-up."""
+    first = next(entries, None)
+    yield Entry(first.line, first.time, PowerUp(number)) if first else Entry(0, 0, PowerUp(number))
+    if first:
+        yield first
+    yield from entries

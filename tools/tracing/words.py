@@ -55,10 +55,16 @@ EMERGENCIES = {
     0x3220: 'DC link under-voltage',
     0x4310: 'drive too hot',
     0x7121: 'motor blocked',
+    0x8110: 'CAN overrun: frames lost',
+    0x8120: 'CAN error passive',
+    0x8130: 'life guard or heartbeat error',
+    0x8140: 'recovered from bus-off',
+    0x8150: 'CAN identifier collision',
     0x8200: 'PDO dropped: a value not allowed',
     0x8210: 'PDO dropped: too short',
     0x8220: 'PDO too long',
     0x8240: 'SYNC of unexpected length',
+    0x8250: 'RPDO timeout',
     0x8611: 'following error',
 }
 EMERGENCY_CLASSES = {  # by the high byte, else by its high digit
