@@ -311,8 +311,8 @@ def add_records(kinds) -> None:
 
 def add_run(kinds) -> None:
     text = 'a trace through the node: what the bench program prints for it'
-    after = (f'It needs {bench.NEEDS}\nThat program prints what the bench program would, and under a load what it answered, and the dictionary after it.\n\n'
-             f'{STATUS}')
+    after = (f'It needs {bench.NEEDS}\nThat program prints what the bench program would, and under a load what it answered, and the '
+             f'dictionary after it.\n\n{STATUS}')
     one = add(kinds, 'run', command_run, text, after)
     one.add_argument('trace', metavar='TRACE', help='records, or a log')
     one.add_argument('-o', dest='out', metavar='FILE', help='where the output goes (default: standard output)')
