@@ -70,9 +70,9 @@ struct node_hooks {
     /* in the main loop */
     void (*refused)(uint32_t refusal, const char *call, uint32_t number);  /* to the log: `number` is the identifier, event or node-ID */
     void (*loaded)(uint32_t refusal, uint32_t entry, uint32_t abort_code); /* refusal 0: it is loaded; else the node keeps its defaults */
-    void (*reached)(void);                                                 /* the axis rests on the active set-point's target, and the node was told */
+    void (*reached)(void);                                                 /* the axis rests on the active target, and the node was told */
     void (*stop_safely)(void);                                             /* the output stage off, now */
-    void (*bus_off)(void);                                                 /* the controller is off the bus: start its recovery, now or after a pause */
+    void (*bus_off)(void);                                                 /* the controller is off the bus: start its recovery, at once or later */
     void (*filter)(const uint16_t *identifiers, uint32_t count);           /* the identifiers that the node serves now: for the acceptance filters */
     void (*withdraw)(void);                                                /* abort what waits in mailboxes: it is of the node's last life */
     /* in the main loop or in an interrupt that calls node_transmit, never in both at once; it calls nothing of the main loop's */
@@ -155,8 +155,8 @@ void node_receive(struct node *node, const struct node_frame *frame);
 /*
  * CAN transmit, whenever a mailbox gets free: what waits goes into mailboxes (hooks->transmit) until none is free. The main loop does the same behind
  * each answer of the node, so that nothing waits for an interrupt that does not come. Only one sends at a time: a call that finds another one at it
- * leaves word and returns, and the other goes round once more. So it may be called from interrupts of any priority, and from threads; but where threads
- * share a core, from none that the main loop's thread can interrupt, for that one waits until the other is done.
+ * leaves word and returns, and the other goes round once more. So it may be called from interrupts of any priority, and from threads; but where
+ * threads share a core, from none that the main loop's thread can interrupt, for that one waits until the other is done.
  */
 void node_transmit(struct node *node);
 

@@ -3,8 +3,8 @@
 #include <string.h>
 
 /*
- * The first byte of a request and of a reply (CiA 301). An expedited one tells in bits 3-2 how many of its four data bytes hold nothing. A segment has
- * its toggle in bit 4, tells in bits 3-1 how many of its seven bytes hold nothing, and in bit 0 that it is the last.
+ * The first byte of a request and of a reply (CiA 301). An expedited one tells in bits 3-2 how many of its four data bytes hold nothing. A segment
+ * has its toggle in bit 4, tells in bits 3-1 how many of its seven bytes hold nothing, and in bit 0 that it is the last.
  */
 enum {
     READ = 0x40,
