@@ -12,7 +12,7 @@ use output::OUTPUT_LENGTH;
 
 // Between two batches: how many bytes of a record that is not whole yet stand at the input's start, the next record's number, and whether
 // there is no next batch.
-#[derive(Drop)]
+#[derive(Clone, Copy)]
 pub struct Place {
     pub kept: usize,
     pub number: u64,
@@ -21,7 +21,7 @@ pub struct Place {
 
 // The whole records of an input: the bytes that they took, where the text of their lines ends, the next record's number, and whether the last
 // of them is the last of all.
-#[derive(Drop)]
+#[derive(Clone, Copy)]
 struct Gathered {
     taken: usize,
     end: usize,

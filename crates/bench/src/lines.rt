@@ -20,7 +20,7 @@ const TEXT_PER_BYTE: usize = 54;
 pub const TEXT_LENGTH: usize = TEXT_PER_BYTE * INPUT_LENGTH;
 
 // Where the text ends, and whether all that was to be laid into it is there.
-#[derive(Drop)]
+#[derive(Clone, Copy)]
 pub struct Laid {
     pub end: usize,
     pub is_whole: bool,

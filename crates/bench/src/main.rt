@@ -1,6 +1,8 @@
 // The bench program of document 01: records from standard input to the node, its answers as lines on standard output.
 // What is read and written is libc's; every call of the node is one of crate cendurak. docs/BENCH.md says how to use it.
 
+#![tactic(auto)]
+
 mod batches; // what one read brings
 mod lines; // the lines of an answer
 mod records; // one record

@@ -23,7 +23,7 @@ pub const BAD: u32 = 8;
 pub const BAD_RECORD: u32 = BAD * 256;
 
 // How many bytes of the input a record took, and the answer. It took none where it is not whole yet.
-#[derive(Drop)]
+#[derive(Clone, Copy)]
 pub struct Served {
     pub taken: usize,
     pub status: u32,

@@ -5,6 +5,8 @@
 // Each stands upon the same call on a state that stays in its bytes (`power_up_in`, `frame_in`, `event_in`, `load_in`), which `powering`, `opened`
 // and `loadable` test first: there each service reads what it needs of the state and puts what it changes, and nothing else is copied.
 
+#![tactic(auto)]
+
 mod opens; // the refusals that need no more than what is lent
 mod served; // a frame, by its identifier
 mod settling; // 6041h and 6061h
@@ -41,21 +43,21 @@ use tpdo::IDLE;
 const LAST_IDENTIFIER: u32 = 0x7FF;
 
 // Whether a call is refused, and why.
-#[derive(Drop)]
+#[derive(Clone, Copy)]
 pub struct Opening {
     pub refused: bool,
     pub why: Refusal,
 }
 
 // What a call answers beside the lent bytes, its state's among them.
-#[derive(Drop)]
+#[derive(Clone, Copy)]
 pub struct Given {
     pub refusal: Refusal,
     pub frames: u8,
 }
 
 // What a load answers beside the lent bytes: with the refusal of an entry which one it is, from 1, and its abort code; else zeros.
-#[derive(Drop)]
+#[derive(Clone, Copy)]
 pub struct LoadGiven {
     pub refusal: Refusal,
     pub entry: u16,
@@ -63,7 +65,7 @@ pub struct LoadGiven {
 }
 
 // The same, with the state by value.
-#[derive(Drop)]
+#[derive(Clone, Copy)]
 pub struct LoadAnswer {
     pub refusal: Refusal,
     pub entry: u16,

@@ -2,6 +2,8 @@
 // returns the refusal times 256 plus the number of frames, a load the refusal, the entry that failed and its abort code. None asks anything of its
 // caller; include/cendurak.h declares them.
 
+#![tactic(auto)]
+
 mod answering; // the answer as a number
 
 ghost use Rattle.std.specs.Prelude.{◌≡◌};

@@ -1,5 +1,7 @@
 // The object dictionary: values in its bytes, the flat table of its rows, its defaults.
 
+#![tactic(auto)]
+
 pub mod places; // where the values stand
 pub mod objects; // the objects that the node itself reads and writes
 pub mod records; // the records of the PDOs
@@ -15,14 +17,14 @@ pub use table::{find, seek};
 pub use values::{read, read1, read2, read4, write, write1, write2, write4};
 
 // A row of the table as a look-up finds it: its line, and where its value stands.
-#[derive(Drop)]
+#[derive(Clone, Copy)]
 pub struct Spot {
     line: u32,
     pub place: u16,
 }
 
 // A row taken apart: where its value stands and what it may be.
-#[derive(Drop)]
+#[derive(Clone, Copy)]
 pub struct Entry {
     pub place: u16,
     pub size: u8,
@@ -33,7 +35,7 @@ pub struct Entry {
 }
 
 // What a look-up finds.
-#[derive(Drop)]
+#[derive(Clone, Copy)]
 pub enum Found {
     Row(Spot),
     DeviceName,
@@ -42,7 +44,7 @@ pub enum Found {
 }
 
 // Whether it finds anything.
-#[derive(Drop)]
+#[derive(Clone, Copy)]
 pub enum Presence {
     Listed,
     NoObject,

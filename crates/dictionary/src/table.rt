@@ -193,7 +193,7 @@ const ROWS: [u32; ENTRIES] = [
 ];
 
 // What rows stand one after another in: the node's part, a PDO's communication or mapping record, the drive's part.
-#[derive(Drop)]
+#[derive(Clone, Copy)]
 enum Room {
     Node,
     Communication(u8),

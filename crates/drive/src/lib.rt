@@ -3,6 +3,8 @@
 // status: 6041h.
 // words: what the integers of the rules are in words of 32 bits.
 
+#![tactic(auto)]
+
 pub mod set_points;
 pub mod states;
 pub mod status;
@@ -12,7 +14,7 @@ pub mod words;
 use rules_dictionary::Mode;
 
 // The drive states, in the order in which document 01 lists their status words.
-#[derive(Drop)]
+#[derive(Clone, Copy)]
 pub enum DriveState {
     NotReady,
     SwitchOnDisabled,
@@ -25,7 +27,7 @@ pub enum DriveState {
 }
 
 // What a control word asks of the drive.
-#[derive(Drop)]
+#[derive(Clone, Copy)]
 pub enum Command {
     None,
     FaultReset,
@@ -37,7 +39,7 @@ pub enum Command {
 }
 
 // What is taken at one rising edge of bit 4. The target is a word of 32 bits, as 607Ah holds it.
-#[derive(Drop)]
+#[derive(Clone, Copy)]
 pub struct SetPoint {
     pub target: u32,
     pub velocity: u32,
@@ -46,7 +48,7 @@ pub struct SetPoint {
 }
 
 // The set-point store: nothing, the target at rest, one set-point, or two.
-#[derive(Drop)]
+#[derive(Clone, Copy)]
 pub enum Store {
     Empty,
     Rested(u32),
@@ -56,7 +58,7 @@ pub enum Store {
 
 // The drive: its state and mode, the set-point store, the taken and the limit mark, whether a fault's cause is present, and the ticks that the
 // position has been inside the window of the active target, or of the target at rest.
-#[derive(Drop)]
+#[derive(Clone, Copy)]
 pub struct Drive {
     pub state: DriveState,
     pub mode: Mode,
@@ -68,14 +70,14 @@ pub struct Drive {
 }
 
 // The drive after a control word, and whether that word reset a fault.
-#[derive(Drop)]
+#[derive(Clone, Copy)]
 pub struct Controlled {
     pub drive: Drive,
     pub reset: bool,
 }
 
 // Where a set-point is aimed: at a target, as a word, or outside the limits.
-#[derive(Drop)]
+#[derive(Clone, Copy)]
 pub enum Aim {
     At(u32),
     Outside,

@@ -1,6 +1,8 @@
 // The label feeder: a list of lengths, each fed once, as relative set-points, up to two ahead. At each step it is told the status word and gives the
 // next control word and target. The list is lent at each call; what is kept is one position in it, by value. No call asks anything of its caller.
 
+#![tactic(auto)]
+
 mod for_c; // the exported calls, which include/feeder.h declares
 
 ghost use Rattle.std.specs.Prelude.{◌≡◌, ◌<◌};
@@ -9,7 +11,7 @@ ghost use Rattle.drive.specs.StatusWord.{ack_shown};
 ghost use Rattle.feeder.specs.Feeder.{most_lengths, wait_word, feed_word, moved, started, step, refused};
 
 // Why a list or a step is refused.
-#[derive(Drop)]
+#[derive(Clone, Copy)]
 pub enum Refusal {
     Accepted,
     ListTooLong,
@@ -17,14 +19,14 @@ pub enum Refusal {
 }
 
 // How many lengths of the list were taken or are on their way.
-#[derive(Drop)]
+#[derive(Clone, Copy)]
 pub struct Feeder {
     pub position: u32,
 }
 
 // What a step answers: the feeder for the next step, the control word and the target to be written, target first. A refused one is zero but for its
 // refusal.
-#[derive(Drop)]
+#[derive(Clone, Copy)]
 pub struct Answer {
     pub refusal: Refusal,
     pub feeder: Feeder,

@@ -6,7 +6,7 @@ ghost use Rattle.files.specs.Listings.{listing_of, StandsAt};
 
 use crate::{Listing, entries};
 
-#[derive(Drop)]
+#[derive(Clone, Copy)]
 pub struct Cursor<'a> {
     pub file: &'a [u8],
     pub at: usize,

@@ -1,4 +1,7 @@
 // Ticket 6: concise DCF files, read through a cursor. Proved against specs/ConciseDcf.antt.
+
+#![tactic(auto)]
+
 ghost use Rattle.std.specs.Prelude.{◌≡◌, true, ◌≤◌, eqb, length};
 ghost use Rattle.rules_dictionary.specs.Numbers.{any};
 ghost use Rattle.files.specs.ConciseDcf.{Entry, count_size, count_in, reading_of, is_whole, entries_in};
@@ -14,7 +17,7 @@ use dictionary::read4;
 pub const COUNT_SIZE: usize = 4;
 
 // An entry as it stands in a file: index and subindex, how many bytes of data it has, and the first four of these, zero where it has fewer.
-#[derive(Drop)]
+#[derive(Clone, Copy)]
 pub struct Listing {
     pub index: u16,
     pub subindex: u8,

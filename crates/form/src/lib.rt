@@ -2,6 +2,8 @@
 // node: the node's part. transfers: the transfer's. axis_drive: the drive's. pdos: plans, data and what is kept for each PDO.
 // own: which bytes are a form's. putting: one part put into bytes that hold a state. layout: where the parts stand.
 
+#![tactic(auto)]
+
 mod axis_drive;
 pub mod layout;
 mod node;

@@ -1,5 +1,7 @@
 // Ticket 6, 'Load the customer's configuration': the entries of a file as downloads, all of them or none.
 
+#![tactic(auto)]
+
 mod copying; // bytes saved and put back
 mod trying; // entries tried on the dictionary, in order
 mod acting; // what follows once all of them are taken
@@ -11,7 +13,7 @@ use state::Refusal;
 
 // What a load comes to: the refusal, with the refusal of an entry which one it is, from 1, and its abort code, and else zeros; and what is left to do
 // at the call's end.
-#[derive(Drop)]
+#[derive(Clone, Copy)]
 pub struct Loading {
     pub refusal: Refusal,
     pub entry: u16,
@@ -21,7 +23,7 @@ pub struct Loading {
 
 // What is noted of the entries that were tried: how many, the abort code of the last one, 0 where it was taken, and whether 1017h, 6060h or a PDO's
 // mapping was written.
-#[derive(Drop)]
+#[derive(Clone, Copy)]
 struct Tally {
     tried: u16,
     code: u32,

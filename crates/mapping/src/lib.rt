@@ -1,6 +1,8 @@
 // The mappings of the PDOs: transfer plans and ready frames, tested against the dictionary and worked afresh from it, and what stands packed
 // in a received frame by its plan.
 
+#![tactic(auto)]
+
 mod words; // the move that a mapping word names
 mod frames; // the data of a PDO, compared
 mod plans; // the plan that a PDO's mapping gives

@@ -1,6 +1,8 @@
 // What a service leaves: the frames that it lays into the output, and what is left to do at the call's end. The state it leaves in its bytes.
 // Proved against specs/Laying.antt and specs/Leaves.antt; proofs/Frames.antt ties the first to the output of document 01.
 
+#![tactic(auto)]
+
 ghost use Rattle.std.specs.Prelude.{◌≡◌, [], ◌∷◌, ◌≤◌, length};
 ghost use Rattle.rules.specs.Outcome.{frame_size, sent_into};
 ghost use Rattle.output.specs.Laying.{IsData, frame_of};
@@ -25,7 +27,7 @@ pub const OUTPUT_LENGTH: usize = MOST_FRAMES * FRAME_LENGTH;
 
 // What a service leaves beside the lent bytes: how many frames it laid, whether an object that may be mapped to transmit was written, whether a
 // PDO's mapping was, what the call is to its own end, and whether nothing is left to do there.
-#[derive(Drop)]
+#[derive(Clone, Copy)]
 pub struct Done {
     pub frames: usize,
     pub touched: bool,

@@ -61,6 +61,7 @@ rest_before y xs {x} h i = go (same x y) (all_in (λ z. not (same z y)) i h)
 
 -- each ends within their bytes
 ends_within : (xs : List Row) {x : Row} → all_differ xs ≡ true → In x xs → bytes_before x xs + size_of x ≤ total xs
+ends_within [] h i = elim i [ ]
 ends_within (x ∷ xs) h here = rw (first_before x xs) (omega arith)
 ends_within (y ∷ xs) {x} h (there i) =
     let before = rest_before y xs (and_left (all (λ z. not (same z y)) xs) (all_differ xs) h) i in
@@ -86,6 +87,7 @@ Apart xs x y = (bytes_before x xs + size_of x ≤ bytes_before y xs) ⊎ (bytes_
 
 -- any two are one, or apart
 one_or_apart : (xs : List Row) {x y : Row} → all_differ xs ≡ true → In x xs → In y xs → (x ≡ y) ⊎ Apart xs x y
+one_or_apart [] h i j = elim i [ ]
 one_or_apart (x ∷ xs) h here here = inl refl
 one_or_apart (x ∷ xs) {y = y} h here (there j) =
     let before = rest_before x xs (and_left (all (λ z. not (same z x)) xs) (all_differ xs) h) j in

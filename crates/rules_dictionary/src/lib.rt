@@ -1,11 +1,13 @@
 // Document 01, 'The node' and 'The dictionary', and what of 'SDO' and 'PDO traffic' follows from the dictionary alone: definitions and
 // their laws, in specs/ and proofs/. Here stand the types that they are about.
 
+#![tactic(auto)]
+
 ghost use Rattle.std.specs.Prelude.{◌≡◌};
 ghost use Rattle.rules_dictionary.specs.Legal.{mode_number};
 
 // The modes of operation, ..
-#[derive(Drop)]
+#[derive(Clone, Copy)]
 pub enum Mode {
     NoMode,
     ProfilePosition,
@@ -33,7 +35,7 @@ impl Mode {
 }
 
 // Who writes a row's value: nobody, the node, or an SDO or PDO too.
-#[derive(Drop)]
+#[derive(Clone, Copy)]
 pub enum Access {
     Constant,
     NodeWritten,
@@ -41,7 +43,7 @@ pub enum Access {
 }
 
 // What further rule a row's value obeys; of a PDO's rows also which PDO, 0 to 7.
-#[derive(Drop)]
+#[derive(Clone, Copy)]
 pub enum Role {
     Plain,
     ModeOfOperation,
@@ -54,21 +56,21 @@ pub enum Role {
 }
 
 // A mapped object: its place and size in the dictionary. A spare slot is all zero.
-#[derive(Drop)]
+#[derive(Clone, Copy)]
 pub struct Move {
     pub place: u16,
     pub size: u8,
 }
 
 // The transfer plan of a PDO: its moves in order, then spare slots.
-#[derive(Drop)]
+#[derive(Clone, Copy)]
 pub struct Plan {
     pub count: u8,
     pub moves: [Move; 8],
 }
 
 // The data of a PDO: its length, its bytes in order, then zeros. As a held frame, length 0 is none.
-#[derive(Drop)]
+#[derive(Clone, Copy)]
 pub struct PdoData {
     pub length: u8,
     pub bytes: [u8; 8],

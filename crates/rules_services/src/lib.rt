@@ -2,10 +2,12 @@
 // they are about. A service's meaning is an effect: the state's own parts after it, what it writes, what it sends. What follows from an
 // effect (6041h, 6061h, plans, ready frames, transmit PDOs) is worked out once, in the crate `rules`.
 
+#![tactic(auto)]
+
 use state::Pace;
 
 // What a request of the SDO client asks.
-#[derive(Drop)]
+#[derive(Clone, Copy)]
 pub enum SdoCommand {
     Download,
     DownloadBySegments,
@@ -17,14 +19,14 @@ pub enum SdoCommand {
 }
 
 // What is decided of one transmit PDO at a call's end: whether it is sent, and what is kept of it.
-#[derive(Drop)]
+#[derive(Clone, Copy)]
 pub struct Paced {
     pub send: bool,
     pub kept: Pace,
 }
 
 // What happens in the amplifier. A fault has its code and register, feedback the position and the velocity.
-#[derive(Drop)]
+#[derive(Clone, Copy)]
 pub enum Event {
     Started,
     QuickStopDone,
@@ -38,7 +40,7 @@ pub enum Event {
 }
 
 // What an event call tells: an event, or none that there is.
-#[derive(Drop)]
+#[derive(Clone, Copy)]
 pub enum Told {
     Happened(Event),
     Bad,

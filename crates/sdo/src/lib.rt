@@ -1,5 +1,7 @@
 // Document 01, 'SDO', and ticket 1: the server, expedited and by segments.
 
+#![tactic(auto)]
+
 pub mod aborts; // the abort codes
 mod identifiers; // what the identifier of a PDO may be
 mod mappings; // what the mapping of a PDO may be
@@ -19,7 +21,7 @@ pub use offers::{offer_verdict, offered};
 pub use server::serve;
 
 // What a download brings, whatever the object: how many bytes, where it tells that, and the first four of them.
-#[derive(Drop)]
+#[derive(Clone, Copy)]
 pub struct Brought {
     pub told: bool,
     pub count: u8,
@@ -27,7 +29,7 @@ pub struct Brought {
 }
 
 // What it offers an entry: how many bytes, and the value of as many as the entry has.
-#[derive(Drop)]
+#[derive(Clone, Copy)]
 pub struct Offer {
     pub size: u8,
     pub value: u32,

@@ -19,7 +19,7 @@ const TRANSMIT: u32 = 0x4000_0000;
 const ILLEGAL: u32 = 0x1000;
 
 // The keys of the four PDOs of a direction.
-#[derive(Drop)]
+#[derive(Clone, Copy)]
 struct Keys {
     a: u32,
     b: u32,

@@ -1,6 +1,8 @@
 // Whether a state's bytes and a dictionary are sound: document 01, 'Calls and refusals', the paragraph that begins "Sound:". It is tested
 // at every call, where the bytes stand and in one pass.
 
+#![tactic(auto)]
+
 mod rows; // constants and ranges, by row
 mod identifiers; // the PDO identifiers, each alone and against the others
 mod legal; // the dictionary's own clauses

@@ -3,6 +3,8 @@
 //
 // The axis's part stands apart from the node's, so that a second axis can stand beside the first.
 
+#![tactic(auto)]
+
 ghost use Rattle.std.specs.Prelude.{◌≡◌};
 ghost use Rattle.state.specs.NmtStates.{is_pre_operational, is_operational, is_stopped};
 ghost use Rattle.state.specs.Occasions.{is_synced, is_ticked};
@@ -11,7 +13,7 @@ use drive::Drive;
 use rules_dictionary::{PdoData, Plan};
 
 // The NMT states.
-#[derive(Drop)]
+#[derive(Clone, Copy)]
 pub enum NmtState {
     PreOperational,
     Operational,
@@ -51,14 +53,14 @@ impl NmtState {
 }
 
 // What is kept of one transmit PDO: the SYNCs since it was last sent, and whether the next SYNC sends it.
-#[derive(Drop)]
+#[derive(Clone, Copy)]
 pub struct Pace {
     pub count: u8,
     pub due: bool,
 }
 
 // One axis. PDO 0 to 3 receive and 4 to 7 transmit; `held` is by receive PDO, `ready` and `paces` are by transmit PDO.
-#[derive(Drop)]
+#[derive(Clone, Copy)]
 pub struct Axis {
     pub drive: Drive,
     pub plans: [Plan; 8],
@@ -68,7 +70,7 @@ pub struct Axis {
 }
 
 // What a call is to its own end: a SYNC that is served, a tick of 1 ms, or any other.
-#[derive(Drop)]
+#[derive(Clone, Copy)]
 pub enum Occasion {
     Plain,
     Synced,
@@ -103,7 +105,7 @@ pub const FIRST_NODE: u32 = 1;
 pub const LAST_NODE: u32 = 127;
 
 // What is the node's: its node-ID, NMT state, the voltage flag, and the ticks since the last heartbeat.
-#[derive(Drop)]
+#[derive(Clone, Copy)]
 pub struct Node {
     pub id: u8,
     pub nmt: NmtState,
@@ -114,7 +116,7 @@ pub struct Node {
 // What a download by segments has brought so far: its object, by the three bytes of index and subindex as the request has them; the toggle of the
 // segment that is due; how many bytes came, and the first four of them, zero where none came yet. No object has more than four, so that the count
 // stops at five.
-#[derive(Drop)]
+#[derive(Clone, Copy)]
 pub struct Receipt {
     pub low: u8,
     pub high: u8,
@@ -128,7 +130,7 @@ pub struct Receipt {
 }
 
 // The transfer in progress: an upload of the device name, by the segment that is due, from 0; or a download.
-#[derive(Drop)]
+#[derive(Clone, Copy)]
 pub enum Transfer {
     NoTransfer,
     Uploading(u8),
@@ -136,7 +138,7 @@ pub enum Transfer {
 }
 
 // The state that a call takes and hands back: what is the node's, the transfer of its SDO server too, and what is the axis's.
-#[derive(Drop)]
+#[derive(Clone, Copy)]
 pub struct State {
     pub node: Node,
     pub transfer: Transfer,
@@ -144,7 +146,7 @@ pub struct State {
 }
 
 // The refusals of a call, lowest first.
-#[derive(Drop)]
+#[derive(Clone, Copy)]
 pub enum Refusal {
     Accepted,
     DictionaryLength,
@@ -163,7 +165,7 @@ pub enum Refusal {
 }
 
 // What a call answers, beside the lent bytes.
-#[derive(Drop)]
+#[derive(Clone, Copy)]
 pub struct Answer {
     pub refusal: Refusal,
     pub frames: u8,

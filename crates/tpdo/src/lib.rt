@@ -1,6 +1,8 @@
 // Document 01, 'PDO traffic': the transmit PDOs at the end of a call.
 // Each function takes the parts of the state that it looks at, and no more: a whole state would be copied at every call.
 
+#![tactic(auto)]
+
 mod pacing; // when one is sent
 mod sending; // all of them, one after another
 
@@ -14,7 +16,7 @@ pub const IDLE: Pace = Pace {
 };
 
 // What is kept of the transmit PDOs at a call's end, and how many frames stand in the output then.
-#[derive(Drop)]
+#[derive(Clone, Copy)]
 pub struct Sent {
     pub paces: [Pace; 4],
     pub frames: u8,
