@@ -45,4 +45,4 @@ pub on_ways : (f : Bool → DriveState → Command → Bool) → all (λ s. all 
     (b : Bool) (s : DriveState) (c : Command) → f b s c ≡ true
 on_ways f h b s c =
     let k = all_in (λ c. f true s c && f false s c) (command_in_lem c) (all_in (λ s. all (λ c. f true s c && f false s c) commands) (state_in s) h) in
-    elim b [ true ↦ and_left (f true s c) (f false s c) k | false ↦ and_right (f true s c) (f false s c) k ]
+    elim b as (λ x. f x s c ≡ true) [ true ↦ and_left (f true s c) (f false s c) k | false ↦ and_right (f true s c) (f false s c) k ]

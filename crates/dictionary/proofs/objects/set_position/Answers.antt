@@ -1,0 +1,13 @@
+-- The place in code is the row's, by computation. Assumes nothing.
+use borrow.Author.Rules.{rules}
+use Rattle.rules_dictionary.specs.Table.{open_table}
+use Rattle.rules_dictionary.specs.Values.{store}
+use Rattle.dictionary.proofs.objects.set_position.Goals as goal
+
+pub write4-requires : goal.write4-requires
+unfolding open_table store
+write4-requires c = search rules
+
+pub returns : goal.returns
+unfolding open_table store
+returns c = search rules

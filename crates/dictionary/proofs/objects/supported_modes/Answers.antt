@@ -1,0 +1,13 @@
+-- The place in code is the row's, by computation. Assumes nothing.
+use borrow.Author.Rules.{rules}
+use Rattle.rules_dictionary.specs.Table.{open_table}
+use Rattle.rules_dictionary.specs.Values.{read}
+use Rattle.dictionary.proofs.objects.supported_modes.Goals as goal
+
+pub read4-requires : goal.read4-requires
+unfolding open_table read
+read4-requires c = search rules
+
+pub returns : goal.returns
+unfolding open_table read
+returns c = search rules

@@ -1,0 +1,18 @@
+-- So many records on from the first of the direction. Assumes nothing.
+use native.Mathlib.Omega.{arith}
+use borrow.Author.Rules.{rules}
+use Rattle.rules_dictionary.specs.Table.{communication_place, communication_length, open_table}
+use Rattle.rules_dictionary.proofs.Packing.{regular}
+use Rattle.rules_dictionary.proofs.Members.{pdo_in}
+use Rattle.dictionary.proofs.Regular.{receives, transmits}
+use Rattle.dictionary.proofs.records.communication_place.Goals as goal
+
+pub returns-then-p-lt-EACH_WAY : goal.returns-then-p-lt-EACH_WAY
+unfolding open_table
+returns-then-p-lt-EACH_WAY c = (receives communication_place communication_length _ (regular (pdo_in _ c.requires)).communication c.if-p-lt-EACH_WAY.true, omega arith)
+
+pub returns : goal.returns
+unfolding open_table
+returns c =
+    let i = pdo_in _ c.requires in
+    (transmits communication_place communication_length _ (regular i).communication (omega arith) c.requires, omega arith)
