@@ -3,6 +3,4 @@ pub mod Heads
 pub mod Readings
 pub mod Places
 pub mod Naming
-pub mod Handing
-pub mod Opening
 pub mod Edges

@@ -1,0 +1,11 @@
+-- Four bytes of the head.
+-- Assumes nothing.
+use mathlib.Core.Path.{◌∙◌, sym}
+use borrow.Author.Rules.{rules}
+use Rattle.files.proofs.Heads.{size_there}
+use Rattle.files.proofs.entries.size_at.Goals as goal
+
+pub returns : goal.returns
+returns c =
+    let a = c.args in
+    c.read4.ensures ∙ sym (size_there a.at a.file.now)
