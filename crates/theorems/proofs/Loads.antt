@@ -232,7 +232,7 @@ own_size x r m d v =
     ]
 
 of_a_type : (t : ValueType) → is_few (size t) ≡ true
-of_a_type t = elim t [ u8 ↦ refl | u16 ↦ refl | u32 ↦ refl | i8 ↦ refl | i32 ↦ refl ]
+of_a_type t = elim t as (λ (x : ValueType). is_few (size x) ≡ true) [ u8 ↦ refl | u16 ↦ refl | u32 ↦ refl | i8 ↦ refl | i32 ↦ refl ]
 
 own_few : (x : Entry) (r : Row) → length x.content ≡ size_of r → is_requestable x ≡ true
 own_few x r same = rw same (of_a_type r.type)

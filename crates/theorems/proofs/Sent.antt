@@ -328,7 +328,7 @@ abbrev pub SpeaksAs : ℕ → Effect → Type 0
 SpeaksAs n e = (e.state.node.id ≡ n) × Says n e.sent
 
 byte_small : (m : NmtState) → state_byte m < 256
-byte_small m = elim m [ PreOperational ↦ omega arith | Operational ↦ omega arith | Stopped ↦ omega arith ]
+byte_small m = elim m as (λ (x : NmtState). state_byte x < 256) [ PreOperational ↦ omega arith | Operational ↦ omega arith | Stopped ↦ omega arith ]
 
 module _ {K : Type 0} {s : State} {d : List ℕ} (k : K) (b : are_bytes d ≡ true) (l : length d ≡ dictionary_length) where
   -- what may stand behind 8220h, behind what goes before it

@@ -236,7 +236,7 @@ module _ (K : Type 0) (s : State) (d : List ℕ) where
     segment_served (Downloading g) kept = taken_serves g kept
 
     uploaded_small : (t : ValueType) → uploaded t < 256
-    uploaded_small t = elim t [ u8 ↦ omega arith | u16 ↦ omega arith | u32 ↦ omega arith | i8 ↦ omega arith | i32 ↦ omega arith ]
+    uploaded_small t = elim t as (λ (x : ValueType). uploaded x < 256) [ u8 ↦ omega arith | u16 ↦ omega arith | u32 ↦ omega arith | i8 ↦ omega arith | i32 ↦ omega arith ]
 
     module _ (long : length rq ≡ request_length) where
       object : K → IsObject (object_of rq)

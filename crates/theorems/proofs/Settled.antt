@@ -107,7 +107,7 @@ register_in = found_in 0x1001 0 refl
 -- ---- 6041h and 6061h made
 
 pub mode_fits : (m : Mode) → mode_number m < 256 ^ 1
-mode_fits m = elim m [ NoMode ↦ omega arith | ProfilePosition ↦ omega arith | ProfileVelocity ↦ omega arith ]
+mode_fits m = elim m as (λ (x : Mode). mode_number x < 256 ^ 1) [ NoMode ↦ omega arith | ProfilePosition ↦ omega arith | ProfileVelocity ↦ omega arith ]
 
 pub settled_apart : (s : State) (d : List ℕ) (y : Row) → apart status_word y ≡ true → apart mode_display y ≡ true → read (settled s d) y ≡ read d y
 unfolding settled

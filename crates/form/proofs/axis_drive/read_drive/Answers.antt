@@ -1,0 +1,9 @@
+use Rattle.form.specs.Form.{state_of, drive_at}
+use borrow.Author.Rules.{rules}
+use Rattle.form.proofs.axis_drive.read_drive.Goals as goal
+
+pub returns : goal.returns
+unfolding state_of drive_at
+returns c =
+    rw (c.read2.ensures, c.flag_of-3.ensures, c.flag_of-2.ensures, c.flag_of.ensures)
+    (rw (c.read_store-store.ensures, c.mode_of-mode.ensures, c.drive_state_of-state.ensures))

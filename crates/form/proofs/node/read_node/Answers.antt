@@ -1,0 +1,7 @@
+use Rattle.form.specs.Form.{state_of, node_at}
+use borrow.Author.Rules.{rules}
+use Rattle.form.proofs.node.read_node.Goals as goal
+
+pub returns : goal.returns
+unfolding state_of node_at
+returns c = rw (c.read2.ensures, c.flag_of.ensures, c.nmt_of-nmt.ensures)

@@ -1,0 +1,12 @@
+use native.Mathlib.Omega.{arith}
+use borrow.Author.Rules.{rules}
+use Rattle.form.specs.Form.{word_length, word_at}
+use Rattle.form.specs.Own.{is_zero, every_word}
+use Rattle.form.proofs.Tested.{Tested, none_yet, one_more, all_tested, or-zero}
+use Rattle.form.proofs.own.bits_of_words.Given as goal
+
+abbrev pub invariant-loop-left : goal.invariant-loop-left
+invariant-loop-left l = Tested (λ i. is_zero (word_at i l.bytes)) l.count l.place word_length (is_zero l.bits) l.at l.left
+
+abbrev pub decreases-loop-left : goal.decreases-loop-left
+decreases-loop-left l = l.left

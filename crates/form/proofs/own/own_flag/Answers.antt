@@ -1,0 +1,5 @@
+use borrow.Author.Rules.{rules}
+use Rattle.form.proofs.own.own_flag.Goals as goal
+
+pub returns : goal.returns
+returns c = cc

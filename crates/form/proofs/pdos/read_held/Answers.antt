@@ -1,0 +1,7 @@
+use Rattle.form.specs.Form.{state_of}
+use borrow.Author.Rules.{rules}
+use Rattle.form.proofs.pdos.read_held.Goals as goal
+
+pub returns : goal.returns
+unfolding state_of
+returns c = c.read_frames.ensures

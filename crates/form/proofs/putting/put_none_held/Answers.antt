@@ -1,0 +1,8 @@
+use borrow.Author.Rules.{rules}
+use Rattle.form.proofs.Holding.{put_held_lem}
+use Rattle.form.proofs.putting.put_none_held.Goals as goal
+
+pub returns : goal.returns
+returns c =
+    let w = c.write_frames.ensures in
+    λ s h. rw w.0 (put_held_lem h _ w.1)

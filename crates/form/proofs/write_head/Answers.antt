@@ -1,0 +1,25 @@
+use mathlib.Core.List.{[]}
+use Rattle.form.specs.Form.{with_plans}
+use Rattle.form.specs.Typed.{HeadTyped}
+use Rattle.form.proofs.Rows.{head_written}
+use borrow.Author.Rules.{rules}
+use Rattle.form.proofs.write_head.Goals as goal
+
+pub returns : goal.returns
+returns c =
+    let a = c.args in
+    let s = with_plans [] a.node a.transfer a.drive a.ready a.held a.paces in
+    let typed : HeadTyped s =
+    record {
+      heartbeat = c.write_node.ensures.1;
+      stay = c.write_drive.ensures.1.0;
+      store = c.write_drive.ensures.1.1;
+      ready = c.write_frames.ensures.1;
+      held = c.write_frames-2.ensures.1;
+      paces = c.write_paces.ensures.1;
+    } in (
+      rw (c.write_paces.ensures.0, c.write_frames-2.ensures.0, c.write_frames.ensures.0)
+          (rw (c.write_drive.ensures.0, c.write_transfer.ensures, c.write_node.ensures.0)
+          (head_written a.bytes.now s c.requires typed)),
+      typed,
+    )
