@@ -38,7 +38,7 @@ use Rattle.state.specs.declared.State.{State}
 use Rattle.rules_dictionary.proofs.Rows.{value_bytes}
 use Rattle.form.specs.Form.{word_length, word_at, numbers_behind, set_point_words, due_offset, pace_length, pace_form, pace_at}
 use Rattle.form.specs.Form.{flag_number, flag_of, nmt_number, nmt_of}
-use Rattle.form.specs.Form.{state_number, drive_state_of, each, joined, node_form, node_at, set_point_form, set_point_at, store_kind, first_firing, second_of}
+use Rattle.form.specs.Form.{state_number, drive_state_of, each, joined, node_form, node_at, set_point_form, set_point_at, store_kind, first_set_point, second_of}
 use Rattle.form.specs.Form.{store_form, store_at, drive_form, drive_at, data_form, data_at, half, move_form, move_at, plan_form, plan_at, head_form, form}
 use Rattle.form.specs.Form.{state_of, nmt_offset, voltage_offset, heartbeat_offset, node_length, velocity_offset, acceleration_offset}
 use Rattle.form.specs.Form.{deceleration_offset, set_point_length, mode_offset, taken_offset, limit_offset, cause_offset, stay_offset, store_offset}
@@ -83,7 +83,7 @@ transfer_of NoTransfer k n g e f h = rw e
 transfer_of (Uploading x) k n g e f h = rw (e, f)
 transfer_of (Downloading x) k n g e f h = rw (e, h)
 
-store_of : (s : Store) (k t : ℕ) (a b : SetPoint) → k ≡ store_kind s → t ≡ (first_firing s).target → a ≡ first_firing s → b ≡ second_of s →
+store_of : (s : Store) (k t : ℕ) (a b : SetPoint) → k ≡ store_kind s → t ≡ (first_set_point s).target → a ≡ first_set_point s → b ≡ second_of s →
     cond (eqb k 0) Empty (cond (eqb k 1) (Rested t) (cond (eqb k 2) (Moving a) (Queued a b))) ≡ s
 store_of Empty k t a b e f g h = rw e
 store_of (Rested x) k t a b e f g h = rw (e, f)
@@ -196,7 +196,7 @@ module _ (bs : List ℕ) where
 
   -- what a kind of store does not use is zero
   unused_back : (place : ℕ) (s : Store) (rest : List ℕ) → get_or bs place 0 ≡ store_kind s →
-      drop (place + 1) bs ≡ (set_point_form (first_firing s) ++ set_point_form (second_of s)) ++ rest → store_own place bs ≡ true
+      drop (place + 1) bs ≡ (set_point_form (first_set_point s) ++ set_point_form (second_of s)) ++ rest → store_own place bs ≡ true
   unfolding store_own set_point_form bytes
   unused_back place Empty rest k e = rw k (zeros_back (2 * set_point_words) (place + 1) rest e)
   unused_back place (Rested t) rest k e =
@@ -209,13 +209,13 @@ module _ (bs : List ℕ) where
       (store_at place bs ≡ s) × (store_own place bs ≡ true)
   unfolding store_form store_at
   store_back place s rest t e =
-      let a = set_point_form (first_firing s) in
+      let a = set_point_form (first_set_point s) in
       let b = set_point_form (second_of s) in
       let e1 : drop (place + 1) bs ≡ (a ++ b) ++ rest = behind place 1 (store_kind s ∷ []) e refl in
       let e2 : drop (place + 1) bs ≡ a ++ (b ++ rest) = e1 ∙ append_assoc a b rest in
       let kind : get_or bs place 0 ≡ store_kind s = rw add-zero at (byte_at place 0 e) in
-      let first = set_point_back (place + 1) (first_firing s) _ t.first e2 in
-      let e3 = behind (place + 1) set_point_length a e2 (length_set_point (first_firing s)) in
+      let first = set_point_back (place + 1) (first_set_point s) _ t.first e2 in
+      let e3 = behind (place + 1) set_point_length a e2 (length_set_point (first_set_point s)) in
       let second = set_point_back (place + 1 + set_point_length) (second_of s) rest t.second e3 in
       (store_of s _ _ _ _ kind (target_of (place + 1) first) first second, unused_back place s rest kind e1)
 

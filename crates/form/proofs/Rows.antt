@@ -22,7 +22,7 @@ use Rattle.state.specs.declared.Node.{Node}
 use Rattle.state.specs.declared.Pace.{Pace}
 use Rattle.state.specs.declared.Transfer.{Transfer}
 use Rattle.state.specs.declared.State.{State}
-use Rattle.form.specs.Form.{each, joined, node_form, set_point_form, store_kind, first_firing, second_of, store_form, drive_form, data_form}
+use Rattle.form.specs.Form.{each, joined, node_form, set_point_form, store_kind, first_set_point, second_of, store_form, drive_form, data_form}
 use Rattle.form.specs.Form.{pace_form, move_form, plan_form, head_form, form, with_plans, form_over, HoldsPlans, node_length, word_length}
 use Rattle.form.specs.Form.{velocity_offset, acceleration_offset, deceleration_offset, set_point_length, drive_length}
 use Rattle.form.specs.Form.{receipt_form, transfer_form, transfer_length, data_length, pace_length, move_length}
@@ -85,6 +85,7 @@ module _ {A : Type 0} {f : A → List ℕ} {P : A → Type 0} {width : ℕ} {z :
 
 -- what is read for one of them
 pub each_at : {A : Type 0} (n place width : ℕ) (f : ℕ → A) (z : A) (p : ℕ) → p < n → get_or (each n place width f) p z ≡ f (place + width * p)
+each_at zero place width f z p h = elim h [ ]
 each_at (suc n) place width f z zero h = let e : place + width * 0 ≡ place = omega arith in rw e
 each_at (suc n) place width f z (suc p) h =
     let e : place + width + width * p ≡ place + width * suc p = omega arith in
@@ -140,13 +141,13 @@ plan_written d place p = sets_behind d place p.count (joined move_form p.moves)
 
 -- a store's kind and its two set-points
 pub store_written : (d : List ℕ) (place : ℕ) (s : Store) →
-    sets (sets (set d place (store_kind s)) (place + 1) (set_point_form (first_firing s))) (place + 1 + set_point_length) (set_point_form (second_of s))
+    sets (sets (set d place (store_kind s)) (place + 1) (set_point_form (first_set_point s))) (place + 1 + set_point_length) (set_point_form (second_of s))
     ≡ sets d place (store_form s)
 unfolding store_form
 store_written d place s =
-    let l = length_set_point (first_firing s) in
-    sym (sets_append (set d place (store_kind s)) (set_point_form (first_firing s)) (set_point_form (second_of s)) (place + 1) _ (omega arith))
-    ∙ sets_behind d place (store_kind s) (set_point_form (first_firing s) ++ set_point_form (second_of s))
+    let l = length_set_point (first_set_point s) in
+    sym (sets_append (set d place (store_kind s)) (set_point_form (first_set_point s)) (set_point_form (second_of s)) (place + 1) _ (omega arith))
+    ∙ sets_behind d place (store_kind s) (set_point_form (first_set_point s) ++ set_point_form (second_of s))
 
 -- ---- lengths of the parts
 

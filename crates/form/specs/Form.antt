@@ -232,11 +232,11 @@ store_kind (Queued a b) = 3
 abbrev pub resting : ℕ → SetPoint
 resting t = record { target = t; velocity = 0; acceleration = 0; deceleration = 0 }
 
-abbrev pub first_firing : Store → SetPoint
-first_firing Empty = resting 0
-first_firing (Rested t) = resting t
-first_firing (Moving a) = a
-first_firing (Queued a b) = a
+abbrev pub first_set_point : Store → SetPoint
+first_set_point Empty = resting 0
+first_set_point (Rested t) = resting t
+first_set_point (Moving a) = a
+first_set_point (Queued a b) = a
 
 abbrev pub second_of : Store → SetPoint
 second_of Empty = resting 0
@@ -245,7 +245,7 @@ second_of (Moving a) = resting 0
 second_of (Queued a b) = b
 
 unfoldable pub store_form : Store → List ℕ
-store_form s = store_kind s ∷ set_point_form (first_firing s) ++ set_point_form (second_of s)
+store_form s = store_kind s ∷ set_point_form (first_set_point s) ++ set_point_form (second_of s)
 
 unfoldable pub store_at : ℕ → List ℕ → Store
 store_at place bs =

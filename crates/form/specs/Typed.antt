@@ -10,7 +10,7 @@ use Rattle.state.specs.declared.Pace.{Pace}
 use Rattle.state.specs.declared.State.{State}
 use Rattle.rules_dictionary.specs.Table.{each_way, most_moves}
 use Rattle.rules.specs.Outcome.{most_data}
-use Rattle.form.specs.Form.{half, first_firing, second_of}
+use Rattle.form.specs.Form.{half, first_set_point, second_of}
 
 -- so many, and a fact of each
 pub data Many {A : Type 0} (P : A → Type 0) : ℕ → List A → Type 0 where
@@ -24,7 +24,7 @@ pub record SetPointTyped (p : SetPoint) : Type 0 where
   pub deceleration : p.deceleration < 2 ^ 32
 
 pub record StoreTyped (s : Store) : Type 0 where
-  pub first : SetPointTyped (first_firing s)
+  pub first : SetPointTyped (first_set_point s)
   pub second : SetPointTyped (second_of s)
 
 pub record DataTyped (r : PdoData) : Type 0 where

@@ -7,7 +7,7 @@ ghost use Rattle.rules_dictionary.specs.Table.{dictionary_length};
 ghost use Rattle.drive.specs.SetPoints.{mode_of};
 ghost use Rattle.drive.specs.Window.{inside};
 ghost use Rattle.form.specs.Form.{drive_state_of, set_point_length, set_point_at, store_at, drive_place, store_place, state_length, state_of};
-ghost use Rattle.form.specs.Form.{state_number, set_point_form, store_kind, resting, first_of, second_of, store_form, drive_form, half};
+ghost use Rattle.form.specs.Form.{state_number, set_point_form, store_kind, resting, first_set_point, second_of, store_form, drive_form, half};
 ghost use Rattle.form.specs.Typed.{SetPointTyped, StoreTyped};
 ghost use Rattle.form.specs.Own.{store_own, drive_own};
 
@@ -144,7 +144,7 @@ fn resting(target: u32) -> SetPoint
 
 // What stands in the first set-point's bytes.
 fn first_of(store: Store) -> SetPoint
-    ensures { result ≡ first_of store }
+    ensures { result ≡ first_set_point store }
 {
     match store {
         Store::Empty => resting(0),

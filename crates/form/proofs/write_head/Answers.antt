@@ -17,9 +17,10 @@ returns c =
       ready = c.write_frames.ensures.1;
       held = c.write_frames-2.ensures.1;
       paces = c.write_paces.ensures.1;
-    } in (
-      rw (c.write_paces.ensures.0, c.write_frames-2.ensures.0, c.write_frames.ensures.0)
+    } in record {
+      bytes_after =
+          rw (c.write_paces.ensures.0, c.write_frames-2.ensures.0, c.write_frames.ensures.0)
           (rw (c.write_drive.ensures.0, c.write_transfer.ensures, c.write_node.ensures.0)
-          (head_written a.bytes.now s c.requires typed)),
-      typed,
-    )
+          (head_written a.bytes.now s c.requires typed));
+      head_typed = typed;
+    }

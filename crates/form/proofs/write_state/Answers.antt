@@ -10,8 +10,8 @@ returns c =
     let p = c.write_plans.ensures in
     let s = c.args.s in
     let x = s.axis in
-    let held : HoldsPlans c.write_plans.new.0 x.plans =
+    let held : HoldsPlans c.write_plans.new.bytes x.plans =
     rw p.0 (plans_written c.args.bytes.now x.plans c.requires p.1) in (
-      h.0 ∙ head_over _ x.plans s.node s.transfer x.drive x.ready x.held x.paces held,
-      typed_whole x.plans s.node s.transfer x.drive x.ready x.held x.paces h.1 p.1,
+      h.bytes_after ∙ head_over _ x.plans s.node s.transfer x.drive x.ready x.held x.paces held,
+      typed_whole x.plans s.node s.transfer x.drive x.ready x.held x.paces h.head_typed p.1,
     )

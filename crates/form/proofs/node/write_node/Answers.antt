@@ -13,4 +13,4 @@ pub write2-requires : goal.write2-requires
 write2-requires c = simp length-set (omega arith)
 
 pub shape_of-bytes : goal.shape_of-bytes
-shape_of-bytes c = omega (arith, simp length-set at c.write2.auto.0)
+shape_of-bytes c = omega (arith, simp length-set at c.write2.auto.d)

@@ -9,8 +9,8 @@ use Rattle.form.proofs.pdos.write_frame.Goals as goal
 pub returns : goal.returns
 returns c =
     let a = c.args in
-    let few : length a.t3.bytes ≡ most_data = search rules in
-    (frame_written a.bytes.now a.place a.t3 few, record { size = few })
+    let few : length a.frame.bytes ≡ most_data = search rules in
+    (frame_written a.bytes.now a.place a.frame few, record { size = few })
 
 pub bounds-bytes-data : goal.bounds-bytes-data
 bounds-bytes-data c = simp length-set (omega arith)

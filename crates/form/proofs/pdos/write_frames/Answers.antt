@@ -12,7 +12,7 @@ use Rattle.form.proofs.pdos.write_frames.Goals as goal
 
 pub loop-k-preserved : goal.loop-k-preserved
 loop-k-preserved c =
-    let few : length c.args.t3 ≡ each_way = search rules in
+    let few : length c.args.frames ≡ each_way = search rules in
     let w = c.write_frame.ensures in
     one_more c.loop-k.invariant (omega arith) (length_data _ w.1) w.1 w.0
 

@@ -11,7 +11,7 @@ use Rattle.form.proofs.Rows.{Row, none_yet, one_more, all_written, length_data}
 use Rattle.form.proofs.pdos.write_frames.Given as goal
 
 abbrev pub invariant-loop-k : goal.invariant-loop-k
-invariant-loop-k l = Row data_form DataTyped data_length (record { length = 0; l.bytes = [] }) l.frames l.initial.bytes l.initial.at l.bytes l.at l.k
+invariant-loop-k l = Row data_form DataTyped data_length (record { length = 0; bytes = [] }) l.frames l.initial.bytes l.initial.at l.bytes l.at l.k
 
 abbrev pub decreases-loop-k : goal.decreases-loop-k
 decreases-loop-k l = each_way - l.k

@@ -11,7 +11,7 @@ use Rattle.form.proofs.pdos.write_moves.Goals as goal
 
 pub loop-k-preserved : goal.loop-k-preserved
 loop-k-preserved c =
-    let few : length c.args.t3 ≡ most_moves = search rules in
+    let few : length c.args.moves ≡ most_moves = search rules in
     let w = c.write_move.ensures in
     one_more c.loop-k.invariant (omega arith) (length_move _) w.1 w.0
 

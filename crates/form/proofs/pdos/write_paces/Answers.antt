@@ -12,7 +12,7 @@ use Rattle.form.proofs.pdos.write_paces.Goals as goal
 
 pub loop-k-preserved : goal.loop-k-preserved
 loop-k-preserved c =
-    let few : length c.args.t2 ≡ each_way = search rules in
+    let few : length c.args.paces ≡ each_way = search rules in
     let w = c.write_pace.ensures in
     one_more c.loop-k.invariant (omega arith) (length_pace _) tt w
 

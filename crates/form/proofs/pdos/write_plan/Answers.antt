@@ -15,4 +15,4 @@ pub write_moves-requires : goal.write_moves-requires
 write_moves-requires c = simp length-set (omega arith)
 
 pub shape_of-bytes : goal.shape_of-bytes
-shape_of-bytes c = omega (arith, simp length-set at c.write_moves.auto.0)
+shape_of-bytes c = omega (arith, simp length-set at c.write_moves.auto.bytes)

@@ -12,7 +12,7 @@ use Rattle.form.proofs.pdos.write_plans.Goals as goal
 
 pub loop-k-preserved : goal.loop-k-preserved
 loop-k-preserved c =
-    let few : length c.args.t2 ≡ (2 * each_way) = search rules in
+    let few : length c.args.plans ≡ (2 * each_way) = search rules in
     let w = c.write_plan.ensures in
     one_more c.loop-k.invariant (omega arith) (length_plan _ w.1) w.1 w.0
 
