@@ -1,0 +1,9 @@
+-- `emergency::acting::fault_reset` meets its contract. Assumes nothing.
+use borrow.Author.Rules.{rules}
+use Rattle.emergency.proofs.acting.fault_reset.Goals as goal
+
+pub returns : goal.returns
+returns c =
+    let set-error-register = c.before.before.before.before.before.before.before in
+    let e = c.emergency-frames.ensures in
+    record { done = rw e.0; dictionary = set-error-register.set-error-register.ensures; output = e.1 }

@@ -1,0 +1,10 @@
+-- `emergency::emergencies::emergency_data` meets its contract. Assumes nothing.
+use mathlib.Core.Path.{refl}
+use Rattle.rules_dictionary.specs.Numbers.{bytes}
+use Rattle.rules_dictionary.specs.Plans.{pdo_data}
+use borrow.Author.Rules.{rules}
+use Rattle.emergency.proofs.emergencies.emergency_data.Goals as goal
+
+pub returns : goal.returns
+unfolding pdo_data bytes
+returns c = refl
