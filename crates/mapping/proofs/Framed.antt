@@ -11,6 +11,8 @@ use lib.Bits.{bit_or}
 use lib.Dec.{eqb, ltb}
 use lib.ListN.{length, take, drop, get_or}
 use lib.Seq.{drop-cons, drop-drop}
+use mir.Val.{Fits}
+use mir.Syntax.{w8}
 use Rattle.rules_dictionary.specs.Numbers.{value, part, are_bytes, padded}
 use Rattle.rules_dictionary.specs.Table.{dictionary_length}
 use Rattle.rules_dictionary.specs.Plans.{pdo_data}
@@ -23,7 +25,7 @@ use Rattle.form.specs.Own.{is_zero}
 use Rattle.form.proofs.Tested.{or-zero}
 use Rattle.mapping.specs.Moves.{joined_moves, ready_by, MovesFit}
 use Rattle.mapping.proofs.Joining.{same_value}
-use Rattle.mapping.proofs.Assembly.{joined_room}
+use Rattle.mapping.proofs.Assembly.{joined_room, are_bytes_lem}
 use Rattle.mapping.proofs.Steps.{left_at, bytes_left, sized_part, Reached, none_reached, none_joined, further, move_fits}
 use Rattle.mapping.proofs.Steps.{joined_step, value_sized, longer}
 
@@ -149,6 +151,17 @@ pub record Comparable (d bs : List ℕ) (frame : ℕ) : Type 0 where
   pub inside : frame + data_length ≤ length bs
   pub values : are_bytes d ≡ true
   pub contents : are_bytes bs ≡ true
+
+-- lent bytes can be compared
+pub comparable : (d bs : List ℕ) (frame : ℕ) → length d ≡ dictionary_length → frame + data_length ≤ length bs →
+    ((i : ℕ) → Fits w8 (get_or d i 0)) → ((i : ℕ) → Fits w8 (get_or bs i 0)) → Comparable d bs frame
+comparable d bs frame full inside ds cs =
+    record {
+      full = full;
+      inside = inside;
+      values = are_bytes_lem d (λ i h. omega (arith, ds i));
+      contents = are_bytes_lem bs (λ i h. omega (arith, cs i));
+    }
 
 module _ {d bs : List ℕ} {frame place : ℕ} (g : Comparable d bs frame) {word at k : ℕ} (c : Compared d bs frame place word at k) where
   abbrev verdict : Bool

@@ -8,6 +8,8 @@ use mathlib.Core.Bool.{true}
 use mathlib.Core.List.{List, [], ◌∷◌, ◌++◌}
 use lib.ListN.{length, take, drop, get_or, set}
 use lib.Seq.{sets, set-set, set_comm, length-sets, drop-drop, drop-set-lt, get_or-drop, get_or-set_same}
+use mir.Val.{Fits}
+use mir.Syntax.{w8}
 use Rattle.rules_dictionary.specs.declared.Plan.{Plan}
 use Rattle.rules_dictionary.specs.declared.PdoData.{PdoData}
 use Rattle.state.specs.declared.State.{State}
@@ -24,7 +26,7 @@ use Rattle.form.proofs.Rows.{sets_append}
 use Rattle.form.proofs.OneForm.{plan_stands, ready_stands}
 use Rattle.form.proofs.Holding.{held_state, put_one_ready}
 use Rattle.mapping.specs.Moves.{joined_moves, ready_by, MovesFit}
-use Rattle.mapping.proofs.Assembly.{joined_room}
+use Rattle.mapping.proofs.Assembly.{joined_room, are_bytes_lem}
 use Rattle.mapping.proofs.Steps.{left_at, bytes_left, Reached, none_reached, none_joined, further, move_fits, joined_step, value_sized, longer}
 
 -- ---- what stands behind what is written stays
@@ -83,6 +85,12 @@ pub record Layable (d start : List ℕ) (first place : ℕ) : Type 0 where
   pub before : first + 8 ≤ place
   pub inside : place ≤ length start
   pub values : are_bytes d ≡ true
+
+-- lent bytes can be laid
+pub layable : (d start : List ℕ) (first place : ℕ) → length d ≡ dictionary_length → first + 8 ≤ place → place ≤ length start →
+    ((i : ℕ) → Fits w8 (get_or d i 0)) → Layable d start first place
+layable d start first place full before inside ds =
+    record { full = full; before = before; inside = inside; values = are_bytes_lem d (λ i h. omega (arith, ds i)) }
 
 module _ {d start bs : List ℕ} {first place word at k : ℕ} (g : Layable d start first place) (c : Laying d start bs first place word at k) where
   -- the next move, by the word that the code reads and takes apart

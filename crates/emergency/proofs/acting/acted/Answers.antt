@@ -8,27 +8,17 @@ use Rattle.emergency.proofs.acting.acted.Goals as goal
 
 pub returns-then-control : goal.returns-then-control
 returns-then-control c =
-    let control-acted = c.before.before.before.before.before.before in
-    let mode-acted = control-acted.before.before.before.before in
-    let read-drive = mode-acted.before.before in
-    let first = read-drive.before.before in
-    let start = first.before.before.before.before in
-    let a = start.args in
-    let acts = control-acted.control-acted.ensures in
-    let drive = rw read-drive.read-drive.ensures at mode-acted.mode-acted.ensures in
-    (as_effect (acts_on a.old a.mode a.control _ a.d.now _ drive first.if1.true) acts.0, acts.1)
+    let a = c.args in
+    let acts = c.control_acted.ensures in
+    let drive = rw c.read_drive.ensures at c.mode_acted-drive.ensures in
+    (as_effect (acts_on a.old a.mode a.control _ a.d.now _ drive c.if-control.true) acts.0, acts.1)
 
 pub returns-then-mode : goal.returns-then-mode
 returns-then-mode c =
-    let mode-written = c.before.before.before.before in
-    let read-drive2 = mode-written.before.before.before in
-    let second = read-drive2.before.before in
-    let first = second.before in
-    let start = first.before.before.before.before in
-    let a = start.args in
-    let held = c.put_drive.ensures _ start.requires.own in
-    let drive = rw read-drive2.read-drive2.ensures at mode-written.mode-written.ensures in
-    let acts = acts_mode a.old a.mode a.control _ a.d.now _ drive first.if1.false second.if2.true in
+    let a = c.args in
+    let held = c.put_drive.ensures _ c.requires.own in
+    let drive = rw c.read_drive-drive.ensures at c.mode_written.ensures in
+    let acts = acts_mode a.old a.mode a.control _ a.d.now _ drive c.if-control.false c.if-mode.true in
     rw c.nothing_done.ensures (as_effect acts (left_as _ _ false a.d.now a.output.now held), refl)
 
 pub returns : goal.returns

@@ -4,6 +4,5 @@ use Rattle.emergency.proofs.acting.fault_reset.Goals as goal
 
 pub returns : goal.returns
 returns c =
-    let set-error-register = c.before.before.before.before.before.before.before in
     let e = c.emergency-frames.ensures in
-    record { done = rw e.0; dictionary = set-error-register.set-error-register.ensures; output = e.1 }
+    record { done = rw e.0; dictionary = c.set_error_register.ensures; output = e.1 }

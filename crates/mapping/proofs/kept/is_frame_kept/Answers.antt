@@ -5,7 +5,7 @@ use borrow.Author.Rules.{rules}
 use borrow.Author.Tests.{not-true, not-false}
 use Rattle.mapping.proofs.Assembly.{are_bytes_lem}
 use Rattle.mapping.proofs.Steps.{none_reached}
-use Rattle.mapping.proofs.Framed.{Compared, none_compared, Comparable, value_within, value_room}
+use Rattle.mapping.proofs.Framed.{Compared, none_compared, comparable, value_within, value_room}
 use Rattle.mapping.proofs.Framed.{one_more, other_value}
 use Rattle.mapping.proofs.Framed.{zeros_room, other_length, zeros_left}
 use Rattle.mapping.proofs.kept.is_frame_kept.Goals as goal
@@ -17,16 +17,6 @@ overflow_cast-count-2 c =
 pub loop-k-init : goal.loop-k-init
 loop-k-init c =
     none_compared c.args.d.now c.args.state.now c.args.frame c.args.plan c.requires.d_len.1
-
-comparable : (c : goal.At-loop-k) →
-    let a = c.args in Comparable a.d.now a.state.now a.frame
-comparable c =
-    record {
-      full = c.requires.d_len.0;
-      inside = c.requires.data_length_in_bounds.0;
-      values = are_bytes_lem c.args.d.now (λ i h. omega (arith, c.shared_slice_known-2-1.given i));
-      contents = are_bytes_lem c.args.state.now (λ i h. omega (arith, c.shared_slice_known-1.given i));
-    }
 
 pub overflow_cast-moves : goal.overflow_cast-moves
 overflow_cast-moves c =
@@ -42,26 +32,22 @@ overflow_cast-at c =
 
 pub is_value-requires : goal.is_value-requires
 is_value-requires c =
-    let l = c.before.before.before.before in
-    value_room (comparable l) c.loop-k.invariant c.loop-k-test.true c.read4-word.ensures c.place_of.ensures c.size_of-size.ensures
+    value_room (comparable c.args.d.now c.args.state.now c.args.frame c.requires.d_len.0 c.requires.data_length_in_bounds.0 c.type_inv.d c.type_inv.state) c.loop-k.invariant c.loop-k-test.true c.read4-word.ensures c.place_of.ensures c.size_of-size.ensures
 
 pub returns-then-not-is_value : goal.returns-then-not-is_value
 returns-then-not-is_value c =
-    let l = c.before.before.before.before.before.before in
-    other_value (comparable l) c.loop-k.invariant c.loop-k-test.true c.read4-word.ensures c.place_of.ensures c.size_of-size.ensures
+    other_value (comparable c.args.d.now c.args.state.now c.args.frame c.requires.d_len.0 c.requires.data_length_in_bounds.0 c.type_inv.d c.type_inv.state) c.loop-k.invariant c.loop-k-test.true c.read4-word.ensures c.place_of.ensures c.size_of-size.ensures
     (sym c.is_value.ensures ∙ c.if-not-is_value.true)
 
 pub overflow_add-at : goal.overflow_add-at
 overflow_add-at c =
-    let l = c.before.before.before.before.before.before in
     let t = c.loop-k-test.true in
-    let r = value_within (comparable l) c.loop-k.invariant t c.read4-word.ensures c.place_of.ensures c.size_of-size.ensures in
+    let r = value_within (comparable c.args.d.now c.args.state.now c.args.frame c.requires.d_len.0 c.requires.data_length_in_bounds.0 c.type_inv.d c.type_inv.state) c.loop-k.invariant t c.read4-word.ensures c.place_of.ensures c.size_of-size.ensures in
     omega (arith, r, c.requires.frame_bound.0)
 
 pub loop-k-preserved : goal.loop-k-preserved
 loop-k-preserved c =
-    let l = c.before.before.before.before.before.before in
-    one_more (comparable l) c.loop-k.invariant c.loop-k-test.true c.read4-word.ensures c.place_of.ensures c.size_of-size.ensures
+    one_more (comparable c.args.d.now c.args.state.now c.args.frame c.requires.d_len.0 c.requires.data_length_in_bounds.0 c.type_inv.d c.type_inv.state) c.loop-k.invariant c.loop-k-test.true c.read4-word.ensures c.place_of.ensures c.size_of-size.ensures
     (sym c.is_value.ensures ∙ c.if-not-is_value.false)
 
 pub overflow_cast-state : goal.overflow_cast-state
@@ -70,16 +56,13 @@ overflow_cast-state c =
 
 pub returns-then-state-frame : goal.returns-then-state-frame
 returns-then-state-frame c =
-    let l = c.before.before.before in
-    other_length (comparable l) c.loop-k.invariant (omega arith) c.if-state-frame.true
+    other_length (comparable c.args.d.now c.args.state.now c.args.frame c.requires.d_len.0 c.requires.data_length_in_bounds.0 c.type_inv.d c.type_inv.state) c.loop-k.invariant (omega arith) c.if-state-frame.true
 
 pub are_zero-requires : goal.are_zero-requires
 are_zero-requires c =
-    let l = c.before.before.before in
-    let r = zeros_room (comparable l) c.loop-k.invariant (omega arith) in
+    let r = zeros_room (comparable c.args.d.now c.args.state.now c.args.frame c.requires.d_len.0 c.requires.data_length_in_bounds.0 c.type_inv.d c.type_inv.state) c.loop-k.invariant (omega arith) in
     (r.0, (omega arith, omega (arith, r.1, c.requires.frame_bound.0)))
 
 pub returns : goal.returns
 returns c =
-    let l = c.before.before.before.before in
-    c.are_zero.ensures ∙ zeros_left (comparable l) c.loop-k.invariant (omega arith) c.if-state-frame.false
+    c.are_zero.ensures ∙ zeros_left (comparable c.args.d.now c.args.state.now c.args.frame c.requires.d_len.0 c.requires.data_length_in_bounds.0 c.type_inv.d c.type_inv.state) c.loop-k.invariant (omega arith) c.if-state-frame.false

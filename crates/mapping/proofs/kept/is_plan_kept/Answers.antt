@@ -25,8 +25,8 @@ returns-then-state-plan c =
     let count = get_or a.d.now a.map 0 in
     rw (le-leb count most_moves (search rules), ne_eqb (get_or a.state.now a.plan 0) count c.if-state-plan.true)
 
-pub are_mapped-requires : goal.are_mapped-requires
-are_mapped-requires c = (c.requires.named_value, search rules)
+pub are_mapped-requires-clause-named_value : goal.are_mapped-requires-clause-named_value
+are_mapped-requires-clause-named_value c = c.requires.named_value
 
 pub returns-then-not-are_mapped : goal.returns-then-not-are_mapped
 unfolding plan_kept_at

@@ -18,7 +18,7 @@ whole : (c : goal.After-slice_known-4-1) →
     let a = c.args in
     Whole a.d.now a.state.now c.lay_values-end.new.state a.frame a.plan c.lay_values-end.result
 whole c =
-    laid_whole _ _ _ _ c.requires.data_length_bound.0 c.requires.d_len.1 _ _ _ (rw c.write4.ensures at c.write4-2.ensures) c.lay_values-end.ensures
+    laid_whole _ _ _ _ c.requires.data_length_bound.0 c.requires.d_len.1 _ _ _ (rw c.write4.ensures at c.write4-2.ensures) (c.lay_values-end.ensures.state_after, c.lay_values-end.ensures.value)
 
 pub overflow_sub-state : goal.overflow_sub-state
 overflow_sub-state c = (whole c).begun

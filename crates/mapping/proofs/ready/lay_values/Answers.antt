@@ -3,7 +3,7 @@ use native.Mathlib.Omega.{arith}
 use borrow.Author.Rules.{rules}
 use Rattle.mapping.proofs.Assembly.{are_bytes_lem}
 use Rattle.mapping.proofs.Steps.{count_at}
-use Rattle.mapping.proofs.Laid.{Laying, none_laid, Layable, laid_within, laid_room, one_laid, all_laid}
+use Rattle.mapping.proofs.Laid.{Laying, none_laid, layable, laid_within, laid_room, one_laid, all_laid}
 use Rattle.mapping.proofs.ready.lay_values.Goals as goal
 
 pub overflow_cast-count-2 : goal.overflow_cast-count-2
@@ -13,16 +13,6 @@ overflow_cast-count-2 c =
 pub loop-k-init : goal.loop-k-init
 loop-k-init c =
     none_laid c.args.d.now c.args.state.now c.args.first c.args.plan c.requires.d_len.1
-
-layable : (c : goal.At-loop-k) →
-    let a = c.args in Layable a.d.now a.state.now a.first a.plan
-layable c =
-    record {
-      full = c.requires.d_len.0;
-      before = c.requires.most_data_bound.0;
-      inside = omega (arith, c.requires.most_data_bound.1.0);
-      values = are_bytes_lem c.args.d.now (λ i h. omega (arith, c.shared_slice_known-1.given i));
-    }
 
 pub overflow_cast-spot : goal.overflow_cast-spot
 overflow_cast-spot c =
@@ -39,31 +29,31 @@ overflow_cast-at c =
 
 pub read-requires : goal.read-requires
 read-requires c =
-    let l = c.before.before.before.before.before.before in
-    (laid_room (layable l) c.loop-k.invariant c.loop-k-test.true c.read4-word.ensures c.place_of.ensures c.size_of-size.ensures).1
+    (laid_room (layable c.args.d.now c.args.state.now c.args.first c.args.plan c.requires.d_len.0 c.requires.most_data_bound.0 (omega (arith, c.requires.most_data_bound.1.0)) c.type_inv.d) c.loop-k.invariant c.loop-k-test.true c.read4-word.ensures c.place_of.ensures c.size_of-size.ensures).1
 
 pub write-requires : goal.write-requires
 write-requires c =
-    let l = c.before.before.before.before.before.before.before in
     let t = c.loop-k-test.true in
-    let r = laid_room (layable l) c.loop-k.invariant t c.read4-word.ensures c.place_of.ensures c.size_of-size.ensures in
+    let r = laid_room (layable c.args.d.now c.args.state.now c.args.first c.args.plan c.requires.d_len.0 c.requires.most_data_bound.0 (omega (arith, c.requires.most_data_bound.1.0)) c.type_inv.d) c.loop-k.invariant t c.read4-word.ensures c.place_of.ensures c.size_of-size.ensures in
     (r.0, r.1.1)
 
 pub overflow_add-at : goal.overflow_add-at
 overflow_add-at c =
-    let l = c.before.before.before.before.before.before.before.before.before.before in
     let t = c.loop-k-test.true in
-    let r = laid_within (layable l) c.loop-k.invariant t c.read4-word.ensures c.place_of.ensures c.size_of-size.ensures in
+    let r = laid_within (layable c.args.d.now c.args.state.now c.args.first c.args.plan c.requires.d_len.0 c.requires.most_data_bound.0 (omega (arith, c.requires.most_data_bound.1.0)) c.type_inv.d) c.loop-k.invariant t c.read4-word.ensures c.place_of.ensures c.size_of-size.ensures in
     omega (arith, r, c.requires.most_data_bound)
 
 pub loop-k-preserved : goal.loop-k-preserved
 loop-k-preserved c =
-    let l = c.before.before.before.before.before.before.before.before.before.before in
-    one_laid (layable l) c.loop-k.invariant c.loop-k-test.true c.read4-word.ensures c.place_of.ensures c.size_of-size.ensures
+    one_laid (layable c.args.d.now c.args.state.now c.args.first c.args.plan c.requires.d_len.0 c.requires.most_data_bound.0 (omega (arith, c.requires.most_data_bound.1.0)) c.type_inv.d) c.loop-k.invariant c.loop-k-test.true c.read4-word.ensures c.place_of.ensures c.size_of-size.ensures
     c.read.ensures c.write.ensures
 
 pub shape_of-state : goal.shape_of-state
 shape_of-state c = c.loop-k.invariant.long
 
 pub returns : goal.returns
-returns c = all_laid (layable c.before) c.loop-k.invariant (omega arith)
+returns c =
+    let g = layable c.args.d.now c.args.state.now c.args.first c.args.plan c.requires.d_len.0 c.requires.most_data_bound.0
+    (omega (arith, c.requires.most_data_bound.1.0)) c.type_inv.d in
+    let r = all_laid g c.loop-k.invariant (omega arith) in
+    record { state_after = r.0; value = r.1 }

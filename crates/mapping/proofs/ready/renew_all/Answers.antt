@@ -19,12 +19,12 @@ renew-requires c =
 pub loop-t-preserved : goal.loop-t-preserved
 loop-t-preserved c =
     let p = c.requires in
-    one_renewed p.0 p.1.0 p.1.1 c.loop-t.invariant c.loop-t-test.true c.renew.ensures
+    one_renewed p.0 p.1.0 p.1.1 c.loop-t.invariant c.loop-t-test.true (c.renew.ensures.holds_2, c.renew.ensures.value)
 
 pub returns : goal.returns
 returns c =
     let p = c.requires in
-    all_renewed p.0 p.1.0 p.1.1 c.loop-t.invariant (omega arith)
+    let r = all_renewed p.0 p.1.0 p.1.1 c.loop-t.invariant (omega arith) in record { holds = r.0; value = r.1 }
 
 pub shape_of-state : goal.shape_of-state
 shape_of-state c = held_length c.loop-t.invariant.holds ∙ sym (held_length c.requires.0)
