@@ -1,0 +1,13 @@
+-- `events::acts::fed_back` meets its contract. Assumes nothing.
+use mathlib.Core.Path.{refl, ◌∙◌, ap}
+use Rattle.rules_dictionary.specs.Table.{velocity}
+use Rattle.rules_dictionary.specs.Values.{store}
+use borrow.Author.Rules.{rules}
+use Rattle.events.proofs.acts.fed_back.Goals as goal
+
+pub returns : goal.returns
+returns c =
+    record {
+      done = refl;
+      dictionary = c.set_velocity.ensures ∙ ap (store velocity _) c.set_position.ensures;
+    }
