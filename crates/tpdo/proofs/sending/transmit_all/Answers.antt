@@ -11,13 +11,8 @@ use Rattle.form.specs.Form.{state_of}
 use Rattle.output.proofs.Frames.{lent_back}
 use Rattle.tpdo.proofs.Rounds.{operational, one_at_most, count_below, ready_data, ready_default, Reached, none_yet, one_more}
 use Rattle.tpdo.proofs.Rounds.{in_operational, Over, all_done, at_rest}
+use Rattle.tpdo.proofs.sending.transmit_all.Goals.{then-is_operational+else-loop-t-test, else-is_operational}
 use Rattle.tpdo.proofs.sending.transmit_all.Goals as goal
-
-changed-long : (c : goal.Start) → length c.args.changed ≡ each_way
-changed-long c = search rules
-
-paces-long : (c : goal.Start) → length c.args.paces ≡ each_way
-paces-long c = search rules
 
 pub loop-t-init : goal.loop-t-init
 loop-t-init c =
@@ -59,13 +54,12 @@ loop-t-smaller c = omega (arith, c.loop-t.invariant.far)
 
 pub loop-t-preserved : goal.loop-t-preserved
 loop-t-preserved c =
-    let start = c.before.before.before.before.before.before.before.before.before.before.before.before.before.before.before in
     let a = c.args in
     let ready = (state_of a.state.now).axis.ready in
     let t = c.loop-t-test.true in
     let is = c.pace-paced.ensures
     ∙ in_operational a.was a.occasion Operational a.changed a.paces a.d.now ready refl t
-    (changed-long start) (paces-long start) _ _ _ c.is_new-new.ensures in
+    (search rules) (search rules) _ _ _ c.is_new-new.ensures in
     one_more a.was a.occasion Operational a.changed a.paces a.d.now ready c.loop-t.invariant t c.requires.output_length_in_bounds.1 c.requires.output_length_in_bounds.0
     c.pace-paced.result is _ (ready_default a.state.now t)
     c.transmit-sent.result c.transmit-sent.ensures.0 _
@@ -82,14 +76,14 @@ over c =
     let a = c.args in
     let ready = (state_of a.state.now).axis.ready in
     let asked = c.is_operational.ensures in
-    ⊎_elim
-    (λ w.
-    rw (w.3, w.4, w.5, operational a.nmt (sym asked ∙ w.0.taken))
-    (all_done a.was a.occasion Operational a.changed a.paces a.d.now ready w.1.inv w.2.left))
-    (λ w.
-    rw (w.1, w.2, w.3)
-    (at_rest a.was a.occasion a.nmt a.changed a.paces a.d.now ready a.n a.output.now (sym asked ∙ w.0.left)))
-    c.if-is_operational.branch
+    elim c.if-is_operational.branch [
+      | then-is_operational+else-loop-t-test w ↦
+          rw (w.output-is, w.next-is, w.sent-is, operational a.nmt (sym asked ∙ w.if-is_operational.true))
+          (all_done a.was a.occasion Operational a.changed a.paces a.d.now ready w.loop-t.invariant w.loop-t-test.false)
+      | else-is_operational w ↦
+          rw (w.output-is, w.next-is, w.sent-is)
+          (at_rest a.was a.occasion a.nmt a.changed a.paces a.d.now ready a.n a.output.now (sym asked ∙ w.if-is_operational.false))
+    ]
 
 pub overflow_cast-result : goal.overflow_cast-result
 overflow_cast-result c = let h = over c in omega (arith, h.few, c.requires.output_length_in_bounds.1)

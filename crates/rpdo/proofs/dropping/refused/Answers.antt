@@ -1,0 +1,14 @@
+-- `rpdo::dropping::refused` meets its contract. Assumes nothing.
+use Rattle.rpdo.proofs.Leaving.{left_said}
+use borrow.Author.Rules.{rules}
+use Rattle.rpdo.proofs.dropping.refused.Goals as goal
+
+pub emergency-requires : goal.emergency-requires
+emergency-requires c =
+    let k = c.requires in
+    rw c.read_node.ensures (k.long, (k.room, k.id))
+
+pub returns : goal.returns
+returns c =
+    rw c.nothing_done-done.ensures
+    (left_said c.args.code c.requires.own (rw c.read_node.ensures at c.emergency.ensures))

@@ -1,0 +1,16 @@
+-- `rpdo::receiving::leading` meets its contract: so far the bytes are the leading ones and zeros. Assumes nothing.
+use Prim.Native.Nat.{◌-◌, ◌≤◌}
+use native.Mathlib.Omega.{arith}
+use mathlib.Core.Path.{◌≡◌, sym, ◌∙◌}
+use borrow.Author.Rules.{rules}
+use lib.ListN.{length, take, length-set, length-take}
+use lib.Seq.{take_all}
+use Rattle.rules_dictionary.specs.Numbers.{padded}
+use Rattle.rpdo.proofs.Frames.{all_leading, next_zero}
+use Rattle.rpdo.proofs.receiving.leading.Given as goal
+
+abbrev pub invariant-loop-k : goal.invariant-loop-k
+invariant-loop-k l = ((l.n ≤ l.k) × ((l.k ≤ 8) × (length l.bytes ≡ 8))) × (take l.k l.bytes ≡ padded 0 l.k (take l.n l.initial.bytes))
+
+abbrev pub decreases-loop-k : goal.decreases-loop-k
+decreases-loop-k l = 8 - l.k

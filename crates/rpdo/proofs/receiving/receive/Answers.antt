@@ -1,0 +1,87 @@
+use Prim.Native.Nat.{◌-◌, ◌≤◌}
+use native.Mathlib.Omega.{arith}
+use mathlib.Core.Path.{◌≡◌, refl, sym, ◌∙◌, ap}
+use mathlib.Core.Bool.{true}
+use borrow.Author.Rules.{rules}
+use borrow.Author.Tests.{not-true, not-false}
+use lib.ListN.{length, drop}
+use Rattle.state.specs.NmtStates.{is_operational}
+use Rattle.rules_dictionary.specs.Table.{each_way, receive_pdos}
+use Rattle.form.specs.Form.{state_of}
+use Rattle.output.specs.Laying.{data_of}
+use Rattle.rpdo.proofs.Hearing.{receiver, outcome, not_served, for_it, for_others, for_none}
+use Rattle.rpdo.proofs.Leaving.{renamed, left_still}
+use Rattle.rpdo.proofs.receiving.receive.Goals as goal
+
+pub returns-then-not-is_operational : goal.returns-then-not-is_operational
+returns-then-not-is_operational c =
+    let off = sym (rw c.read_node-node.ensures at c.is_operational.ensures) ∙ c.if-not-is_operational.true in
+    renamed (not_served c.args.identifier _ _ c.args.d.now off receive_pdos)
+    (left_still c.requires.0.lent.own c.nothing_done.ensures)
+
+-- past the test of the NMT state the node is Operational
+operational : (c : goal.Else-not-is_operational) →
+    is_operational (state_of c.args.state.now).node.nmt ≡ true
+operational c = sym (rw c.read_node-node.ensures at c.is_operational.ensures) ∙ c.if-not-is_operational.false
+
+pub hears-requires : goal.hears-requires
+hears-requires c =
+    (ap length c.loop-p.invariant.2 ∙ c.requires.0.lent.long, c.loop-p-test.true)
+
+pub received-requires : goal.received-requires
+received-requires c =
+    let x = c.loop-p.invariant in
+    let t = c.loop-p-test.true in
+    let s = c.requires in
+    rw (x.1, x.2, x.3)
+    (record { lent = s.0.lent; number = t; receives = s.0.plans _ (receiver _ t).0 }, s.1)
+
+pub shape_of-state-then-hears : goal.shape_of-state-then-hears
+shape_of-state-then-hears c =
+    c.received.auto.state ∙ ap length c.loop-p.invariant.1
+
+pub shape_of-d-then-hears : goal.shape_of-d-then-hears
+shape_of-d-then-hears c =
+    c.received.auto.d.0 ∙ ap length c.loop-p.invariant.2
+
+pub shape_of-output-then-hears : goal.shape_of-output-then-hears
+shape_of-output-then-hears c =
+    c.received.auto.d.1.0 ∙ ap length c.loop-p.invariant.3
+
+pub returns-then-hears : goal.returns-then-hears
+returns-then-hears c =
+    let x = c.loop-p.invariant in
+    let o = c.before.before.before.before.before.before.before.before.before.before.before.before.before.before.before in
+    let a = c.args in
+    let h = rw x.2 at c.hears.ensures in
+    let it = for_it a.identifier _ _ a.d.now (operational o) c.loop-p-test.true h c.if-hears.true in
+    renamed (sym x.4 ∙ it) (rw (x.1, x.2, x.3) at c.received.ensures)
+
+pub loop-p-preserved : goal.loop-p-preserved
+loop-p-preserved c =
+    let x = c.loop-p.invariant in
+    let o = c.before.before.before.before.before in
+    let a = c.args in
+    let h = rw x.2 at c.hears.ensures in
+    let past = for_others a.identifier _ _ a.d.now (operational o) c.loop-p-test.true h c.if-hears.false in
+    (omega (arith, c.loop-p-test.true), x.1, x.2, x.3, sym past ∙ x.4)
+
+pub returns : goal.returns
+returns c =
+    let x = c.loop-p in
+    let a = c.args in
+    let z : x.p ≡ each_way = omega (arith, c.loop-p-test.false, x.invariant.0) in
+    let none = sym (rw z at x.invariant.4) ∙ for_none a.identifier _ _ a.d.now in
+    rw (x.invariant.1, x.invariant.2, x.invariant.3) (renamed none (left_still c.requires.0.lent.own c.nothing_done-2.ensures))
+
+pub loop-p-init : goal.loop-p-init
+loop-p-init c = (omega arith, refl, refl, refl, refl)
+
+pub shape_of-state : goal.shape_of-state
+shape_of-state c = ap length c.loop-p.invariant.1
+
+pub shape_of-d : goal.shape_of-d
+shape_of-d c = ap length c.loop-p.invariant.2
+
+pub shape_of-output : goal.shape_of-output
+shape_of-output c = ap length c.loop-p.invariant.3

@@ -1,0 +1,6 @@
+-- By its bytes. Assumes nothing.
+use borrow.Author.Rules.{rules}
+use Rattle.sdo.proofs.replies.abort.Goals as goal
+
+pub returns : goal.returns
+returns c = λ d. rw c.reply_to.ensures at (c.answer.ensures d)

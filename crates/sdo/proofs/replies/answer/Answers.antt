@@ -1,0 +1,7 @@
+-- The transfer put, and the rest said. Assumes nothing.
+use borrow.Author.Rules.{rules}
+use Rattle.sdo.proofs.Answering.{spoken}
+use Rattle.sdo.proofs.replies.answer.Goals as goal
+
+pub returns : goal.returns
+returns c = spoken c.requires.own c.put_transfer.ensures (rw c.read_node-node.ensures at c.say_alone.ensures)
