@@ -14,7 +14,7 @@ returns-then-not-is_valid c =
       ← c.ill_formed.ensures,
       c.if-ill_formed.false,
       ← c.is_valid.ensures,
-      not-true c.is_valid.result c.if-not-is_valid.true,
+      c.if-not-is_valid.true,
     )
 
 pub returns-then-outside-is_taken : goal.returns-then-outside-is_taken
@@ -24,7 +24,7 @@ returns-then-outside-is_taken c =
       ← c.ill_formed.ensures,
       c.if-ill_formed.false,
       ← c.is_valid.ensures,
-      not-false c.is_valid.result c.if-not-is_valid.false,
+      c.if-not-is_valid.false,
       ← c.outside.ensures,
       ← c.is_taken.ensures,
       c.if-outside-is_taken.true,
@@ -37,7 +37,7 @@ returns c =
       ← c.ill_formed.ensures,
       c.if-ill_formed.false,
       ← c.is_valid.ensures,
-      not-false c.is_valid.result c.if-not-is_valid.false,
+      c.if-not-is_valid.false,
       ← c.outside.ensures,
       ← c.is_taken.ensures,
       c.if-outside-is_taken.false,

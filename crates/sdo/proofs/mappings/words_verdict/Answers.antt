@@ -8,14 +8,17 @@ use Rattle.mapping.specs.Slots.{words_from}
 use Rattle.sdo.specs.Verdicts.{verdict_code, words_verdict}
 use Rattle.sdo.proofs.Maps.{left, at_first, at_zero, at-word, over, fitting}
 use borrow.Author.Rules.{rules}
+use Rattle.sdo.proofs.mappings.words_verdict.Goals.{then-n-lt-MOST_WORDS, else-n-lt-MOST_WORDS}
 use Rattle.sdo.proofs.mappings.words_verdict.Goals as goal
 
 pub loop-k-init : goal.loop-k-init
 loop-k-init c =
     let a = c.args in (
       at_first a.n a.first a.d.now,
-      ⊎_elim (λ w. (search rules, (search rules, (search rules, (omega arith, (omega arith, inl (omega arith)))))))
-          (λ w. (search rules, (search rules, (search rules, (omega arith, (omega arith, inr (omega arith))))))) c.if-n-lt-MOST_WORDS.branch,
+      elim c.if-n-lt-MOST_WORDS.branch [
+        | then-n-lt-MOST_WORDS w ↦ (search rules, (search rules, (search rules, (omega arith, (omega arith, inl (omega arith))))))
+        | else-n-lt-MOST_WORDS w ↦ (search rules, (search rules, (search rules, (omega arith, (omega arith, inr (omega arith))))))
+      ],
     )
 
 pub returns-then-word-eq0 : goal.returns-then-word-eq0

@@ -9,4 +9,4 @@ use Rattle.sdo.proofs.name_segments.is_last_of.Goals as goal
 pub returns : goal.returns
 returns c =
     let k = c.args.k in let e : suc k * segment_size ≡ k * segment_size + segment_size = omega arith in
-    rw (c.first_firing.ensures, e)
+    rw (c.first_of.ensures, e)

@@ -18,5 +18,5 @@ returns c =
       c.name_at-2.ensures,
       c.name_at.ensures,
       c.segment_byte.ensures,
-      c.first_firing.ensures,
+      c.first_of-first.ensures,
     ) (segment_made (segment_byte k) (k * segment_size) device_name)
