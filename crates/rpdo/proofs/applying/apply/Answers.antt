@@ -3,7 +3,6 @@ use mathlib.Core.Path.{◌∙◌}
 use Rattle.rules_dictionary.specs.Table.{open_table}
 use Rattle.output.proofs.Left.{lent}
 use Rattle.rpdo.proofs.Applied.{applied_by}
-use borrow.Author.Rules.{rules}
 use Rattle.rpdo.proofs.applying.apply.Goals as goal
 
 pub acted-requires : goal.acted-requires

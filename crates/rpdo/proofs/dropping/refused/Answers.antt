@@ -1,6 +1,5 @@
 -- `rpdo::dropping::refused` meets its contract. Assumes nothing.
 use Rattle.rpdo.proofs.Leaving.{left_said}
-use borrow.Author.Rules.{rules}
 use Rattle.rpdo.proofs.dropping.refused.Goals as goal
 
 pub emergency-requires : goal.emergency-requires

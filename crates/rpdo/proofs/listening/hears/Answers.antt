@@ -2,7 +2,6 @@
 use mathlib.Core.Path.{◌∙◌}
 use native.Mathlib.Omega.{arith}
 use Rattle.rpdo.proofs.Hearing.{for_another, heard}
-use borrow.Author.Rules.{rules}
 use Rattle.rpdo.proofs.listening.hears.Goals as goal
 
 pub returns-then-identifier : goal.returns-then-identifier

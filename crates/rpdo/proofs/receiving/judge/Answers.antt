@@ -1,8 +1,6 @@
 -- `rpdo::receiving::judge` meets its contract. Assumes nothing.
 use mathlib.Core.Path.{refl}
 use mathlib.Core.Bool.{true}
-use borrow.Author.Rules.{rules}
-use borrow.Author.Tests.{not-true, not-false}
 use Rattle.output.proofs.Left.{left_as, resting}
 use Rattle.rpdo.proofs.Leaving.{renamed}
 use Rattle.rpdo.proofs.Frames.{fits_in, refuses, applies, holds}

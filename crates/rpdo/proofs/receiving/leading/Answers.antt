@@ -1,10 +1,9 @@
-use Prim.Native.Nat.{◌-◌, ◌≤◌}
+use Prim.Native.Nat.{◌≤◌}
 use native.Mathlib.Omega.{arith}
 use mathlib.Core.Path.{◌≡◌, sym, ◌∙◌}
 use borrow.Author.Rules.{rules}
 use lib.ListN.{length, take, length-set, length-take}
 use lib.Seq.{take_all}
-use Rattle.rules_dictionary.specs.Numbers.{padded}
 use Rattle.rpdo.proofs.Frames.{all_leading, next_zero}
 use Rattle.rpdo.proofs.receiving.leading.Goals as goal
 

@@ -1,12 +1,8 @@
 -- `rpdo::receiving::leading` meets its contract: so far the bytes are the leading ones and zeros. Assumes nothing.
 use Prim.Native.Nat.{◌-◌, ◌≤◌}
-use native.Mathlib.Omega.{arith}
-use mathlib.Core.Path.{◌≡◌, sym, ◌∙◌}
-use borrow.Author.Rules.{rules}
-use lib.ListN.{length, take, length-set, length-take}
-use lib.Seq.{take_all}
+use mathlib.Core.Path.{◌≡◌}
+use lib.ListN.{length, take}
 use Rattle.rules_dictionary.specs.Numbers.{padded}
-use Rattle.rpdo.proofs.Frames.{all_leading, next_zero}
 use Rattle.rpdo.proofs.receiving.leading.Given as goal
 
 abbrev pub invariant-loop-k : goal.invariant-loop-k

@@ -1,15 +1,11 @@
-use Prim.Native.Nat.{◌-◌, ◌≤◌}
 use native.Mathlib.Omega.{arith}
 use mathlib.Core.Path.{◌≡◌, refl, sym, ◌∙◌, ap}
 use mathlib.Core.Bool.{true}
-use borrow.Author.Rules.{rules}
-use borrow.Author.Tests.{not-true, not-false}
-use lib.ListN.{length, drop}
+use lib.ListN.{length}
 use Rattle.state.specs.NmtStates.{is_operational}
 use Rattle.rules_dictionary.specs.Table.{each_way, receive_pdos}
 use Rattle.form.specs.Form.{state_of}
-use Rattle.output.specs.Laying.{data_of}
-use Rattle.rpdo.proofs.Hearing.{receiver, outcome, not_served, for_it, for_others, for_none}
+use Rattle.rpdo.proofs.Hearing.{receiver, not_served, for_it, for_others, for_none}
 use Rattle.rpdo.proofs.Leaving.{renamed, left_still}
 use Rattle.rpdo.proofs.receiving.receive.Goals as goal
 
@@ -18,11 +14,6 @@ returns-then-not-is_operational c =
     let off = sym (rw c.read_node-node.ensures at c.is_operational.ensures) ∙ c.if-not-is_operational.true in
     renamed (not_served c.args.identifier _ _ c.args.d.now off receive_pdos)
     (left_still c.requires.0.lent.own c.nothing_done.ensures)
-
--- past the test of the NMT state the node is Operational
-operational : (c : goal.Else-not-is_operational) →
-    is_operational (state_of c.args.state.now).node.nmt ≡ true
-operational c = sym (rw c.read_node-node.ensures at c.is_operational.ensures) ∙ c.if-not-is_operational.false
 
 pub hears-requires : goal.hears-requires
 hears-requires c =
@@ -42,28 +33,32 @@ shape_of-state-then-hears c =
 
 pub shape_of-d-then-hears : goal.shape_of-d-then-hears
 shape_of-d-then-hears c =
-    c.received.auto.d.0 ∙ ap length c.loop-p.invariant.2
+    c.received.auto.d ∙ ap length c.loop-p.invariant.2
 
 pub shape_of-output-then-hears : goal.shape_of-output-then-hears
 shape_of-output-then-hears c =
-    c.received.auto.d.1.0 ∙ ap length c.loop-p.invariant.3
+    c.received.auto.output ∙ ap length c.loop-p.invariant.3
 
 pub returns-then-hears : goal.returns-then-hears
 returns-then-hears c =
     let x = c.loop-p.invariant in
-    let o = c.before.before.before.before.before.before.before.before.before.before.before.before.before.before.before in
+    -- past the test of the NMT state the node is Operational
+    let on : is_operational (state_of c.args.state.now).node.nmt ≡ true =
+    sym (rw c.read_node-node.ensures at c.is_operational.ensures) ∙ c.if-not-is_operational.false in
     let a = c.args in
     let h = rw x.2 at c.hears.ensures in
-    let it = for_it a.identifier _ _ a.d.now (operational o) c.loop-p-test.true h c.if-hears.true in
+    let it = for_it a.identifier _ _ a.d.now on c.loop-p-test.true h c.if-hears.true in
     renamed (sym x.4 ∙ it) (rw (x.1, x.2, x.3) at c.received.ensures)
 
 pub loop-p-preserved : goal.loop-p-preserved
 loop-p-preserved c =
     let x = c.loop-p.invariant in
-    let o = c.before.before.before.before.before in
+    -- past the test of the NMT state the node is Operational
+    let on : is_operational (state_of c.args.state.now).node.nmt ≡ true =
+    sym (rw c.read_node-node.ensures at c.is_operational.ensures) ∙ c.if-not-is_operational.false in
     let a = c.args in
     let h = rw x.2 at c.hears.ensures in
-    let past = for_others a.identifier _ _ a.d.now (operational o) c.loop-p-test.true h c.if-hears.false in
+    let past = for_others a.identifier _ _ a.d.now on c.loop-p-test.true h c.if-hears.false in
     (omega (arith, c.loop-p-test.true), x.1, x.2, x.3, sym past ∙ x.4)
 
 pub returns : goal.returns

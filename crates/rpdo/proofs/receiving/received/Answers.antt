@@ -1,7 +1,6 @@
 -- `rpdo::receiving::received` meets its contract: the emergency is one frame at the most. Assumes nothing.
 use native.Mathlib.Omega.{arith}
 use mathlib.Core.Path.{◌≡◌, ◌∙◌}
-use borrow.Author.Rules.{rules}
 use lib.ListN.{take, length-take, length-drop}
 use Rattle.rules_services.specs.Emergency.{pdo_too_long}
 use Rattle.form.specs.Form.{state_of}
@@ -29,13 +28,13 @@ overflow_mul-n c =
 pub slice_bounds-judge-count : goal.slice_bounds-judge-count
 slice_bounds-judge-count c =
     let few = one_frame pdo_too_long c.read_node.result c.args.d.now in
-    omega (arith, c.emergency-n.auto.1.1.1.0, c.requires.0.lent.room, c.emergency-n.ensures.0)
+    omega (arith, c.emergency-n.auto.output, c.requires.0.lent.room, c.emergency-n.ensures.0)
 
 pub judge-done-requires : goal.judge-done-requires
 judge-done-requires c =
     let k = c.requires in
     let few = one_frame pdo_too_long c.read_node.result c.args.d.now in (
-      lends k.0 (simp (length-take, length-drop) (omega (arith, c.emergency-n.auto.1.1.1.0, k.0.lent.room, c.emergency-n.ensures.0))),
+      lends k.0 (simp (length-take, length-drop) (omega (arith, c.emergency-n.auto.output, k.0.lent.room, c.emergency-n.ensures.0))),
       (
         used_data k.0 k.1 c.length_of-needed.ensures c.if-needed-content.true c.leading.ensures,
         c.length_of-needed.ensures ∙ length_is k.0.receives,

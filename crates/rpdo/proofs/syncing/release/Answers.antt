@@ -1,5 +1,4 @@
 -- `rpdo::syncing::release` meets its contract. Assumes nothing.
-use borrow.Author.Rules.{rules}
 use Rattle.rpdo.proofs.Leaving.{renamed, left_still}
 use Rattle.rpdo.proofs.Frames.{fits_in}
 use Rattle.rpdo.proofs.Releases.{still_serves, none_held_lem, one_held}

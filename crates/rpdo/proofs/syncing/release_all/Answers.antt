@@ -1,14 +1,11 @@
-use Prim.Native.Nat.{◌-◌}
 use native.Mathlib.Omega.{arith}
 use mathlib.Core.Path.{◌≡◌, refl, sym, ◌∙◌, ap}
-use borrow.Author.Rules.{rules}
 use lib.ListN.{length, length-take, length-drop}
 use Rattle.rules_dictionary.specs.Table.{each_way}
 use Rattle.rules_dictionary.proofs.Rows.{length_stored}
-use Rattle.form.specs.Form.{state_of}
 use Rattle.form.proofs.Holding.{held_length}
 use Rattle.output.proofs.Left.{loud}
-use Rattle.rpdo.proofs.Releases.{synced, Underway, none_yet, serves, room, one_more, all_done}
+use Rattle.rpdo.proofs.Releases.{synced, none_yet, serves, room, one_more, all_done}
 use Rattle.rpdo.proofs.syncing.release_all.Goals as goal
 
 pub overflow_mul-frames : goal.overflow_mul-frames
@@ -29,13 +26,13 @@ pub overflow_add-frames : goal.overflow_add-frames
 overflow_add-frames c =
     let t = c.loop-p-test.true in
     let k = c.requires in
-    let u = one_more k t c.loop-p.invariant c.release-done.ensures c.release-done.auto.d.1.0 refl in
+    let u = one_more k t c.loop-p.invariant c.release-done.ensures c.release-done.auto.output refl in
     omega (arith, t, u.leaves.frames, u.keeps.few)
 
 pub loop-p-preserved : goal.loop-p-preserved
 loop-p-preserved c =
     let k = c.requires in
-    one_more k c.loop-p-test.true c.loop-p.invariant c.release-done.ensures c.release-done.auto.d.1.0 c.either-touched.ensures
+    one_more k c.loop-p-test.true c.loop-p.invariant c.release-done.ensures c.release-done.auto.output c.either-touched.ensures
 
 pub shape_of-state : goal.shape_of-state
 shape_of-state c = held_length c.loop-p.invariant.leaves.state ∙ sym c.requires.lent.whole

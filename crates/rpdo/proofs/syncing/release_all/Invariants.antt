@@ -2,16 +2,9 @@
 -- start, less what is done.
 -- Assumes nothing.
 use Prim.Native.Nat.{◌-◌}
-use native.Mathlib.Omega.{arith}
-use mathlib.Core.Path.{◌≡◌, refl, sym, ◌∙◌, ap}
-use borrow.Author.Rules.{rules}
-use lib.ListN.{length, length-take, length-drop}
 use Rattle.rules_dictionary.specs.Table.{each_way}
-use Rattle.rules_dictionary.proofs.Rows.{length_stored}
 use Rattle.form.specs.Form.{state_of}
-use Rattle.form.proofs.Holding.{held_length}
-use Rattle.output.proofs.Left.{loud}
-use Rattle.rpdo.proofs.Releases.{synced, Underway, none_yet, serves, room, one_more, all_done}
+use Rattle.rpdo.proofs.Releases.{synced, Underway}
 use Rattle.rpdo.proofs.syncing.release_all.Given as goal
 
 abbrev pub invariant-loop-p : goal.invariant-loop-p

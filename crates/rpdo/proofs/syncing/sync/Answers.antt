@@ -1,7 +1,6 @@
 -- `rpdo::syncing::sync` meets its contract. Assumes nothing.
 use mathlib.Core.Path.{◌≡◌, refl, sym, ◌∙◌}
 use mathlib.Core.Bool.{true, false, and-false, false≢true}
-use borrow.Author.Rules.{rules}
 use borrow.Author.Tests.{eq-eqb, ne_eqb}
 use Rattle.state.specs.declared.NmtState.{NmtState}
 use Rattle.state.specs.declared.NmtState.TheVariants.{PreOperational, Operational, Stopped}
@@ -24,28 +23,30 @@ returns-then-is_stopped c =
     rw (stopped, not_served _ stopped)
     (left_still c.requires.lent.own c.nothing_done.ensures)
 
--- past the test of the NMT state the node is not Stopped
-served : (c : goal.Else-is_stopped) → is_stopped (state_of c.args.state.now).node.nmt ≡ false
-served c = sym (rw c.read_node-node.ensures at c.is_stopped.ensures) ∙ c.if-is_stopped.false
-
 pub returns-then-length-ne0 : goal.returns-then-length-ne0
 unfolding sync_of
 returns-then-length-ne0 c =
-    let n = c.before.before.before.before.before.before.before in
+    -- past the test of the NMT state the node is not Stopped
+    let served : is_stopped (state_of c.args.state.now).node.nmt ≡ false =
+    sym (rw c.read_node-node.ensures at c.is_stopped.ensures) ∙ c.if-is_stopped.false in
     let a = c.args in
-    rw (served n, ne_eqb a.length 0 c.if-length-ne0.true, and-false) c.refused.ensures
+    rw (served, ne_eqb a.length 0 c.if-length-ne0.true, and-false) c.refused.ensures
 
 pub returns-then-is_operational : goal.returns-then-is_operational
 unfolding sync_of
 returns-then-is_operational c =
-    let n = c.before.before.before.before.before.before.before.before.before.before.before.before.before in
+    -- past the test of the NMT state the node is not Stopped
+    let served : is_stopped (state_of c.args.state.now).node.nmt ≡ false =
+    sym (rw c.read_node-node.ensures at c.is_stopped.ensures) ∙ c.if-is_stopped.false in
     let a = c.args in
     let on = sym (rw c.read_node-node.ensures at c.is_operational.ensures) ∙ c.if-is_operational.true in
-    rw (served n, eq-eqb a.length 0 c.if-length-ne0.false, on) c.release_all.ensures
+    rw (served, eq-eqb a.length 0 c.if-length-ne0.false, on) c.release_all.ensures
 
 pub returns : goal.returns
 unfolding sync_of
 returns c =
-    let n = c.before.before.before.before in
+    -- past the test of the NMT state the node is not Stopped
+    let served : is_stopped (state_of c.args.state.now).node.nmt ≡ false =
+    sym (rw c.read_node-node.ensures at c.is_stopped.ensures) ∙ c.if-is_stopped.false in
     let off = sym (rw c.read_node-node.ensures at c.is_operational.ensures) ∙ c.if-is_operational.false in
-    rw (served n, eq-eqb c.args.length 0 c.if-length-ne0.false, off) (left_still c.requires.lent.own c.nothing_done-2.ensures)
+    rw (served, eq-eqb c.args.length 0 c.if-length-ne0.false, off) (left_still c.requires.lent.own c.nothing_done-2.ensures)
