@@ -5,7 +5,7 @@ use Prim.Native.Nat.{ℕ, ◌+◌, ◌-◌}
 use mathlib.Core.Path.{◌≡◌, refl}
 use mathlib.Core.Bool.{Bool, true, false}
 use mathlib.Core.List.{List, [], ◌∷◌, ◌++◌, map}
-use lib.ListN.{replicate, length}
+use lib.ListN.{replicate}
 use Rattle.state.specs.declared.NmtState.TheVariants.{PreOperational, Operational}
 use Rattle.rules_dictionary.specs.declared.Mode.TheVariants.{ProfilePosition}
 use Rattle.drive.specs.declared.DriveState.TheVariants.{OperationEnabled}
@@ -17,7 +17,7 @@ use Rattle.state.specs.declared.Pace.{Pace}
 use Rattle.rules_dictionary.specs.TheNode.{first_node, last_node}
 use Rattle.rules_dictionary.specs.Table.{table, device_type, position_window, transmission_type, map_entry, identifier, status_word, mode_display, mode}
 use Rattle.rules_dictionary.specs.Table.{control_word, heartbeat_time, position, dictionary_length, open_table}
-use Rattle.rules_dictionary.specs.Values.{Write, write, store, stored, packed_defaults}
+use Rattle.rules_dictionary.specs.Values.{Write, write, stored, packed_defaults}
 use Rattle.drive.specs.SetPoints.{with_store, with_marks, with_cause}
 use Rattle.rules_services.specs.Effects.{frame, writes, becomes, with_node, with_drive, with_held, with_paces, with_nmt, with_heartbeat}
 use Rattle.rules_services.specs.PdoTraffic.{no_data, idle, all_idle}

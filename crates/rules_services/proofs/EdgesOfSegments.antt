@@ -7,7 +7,6 @@ use mathlib.Core.Bool.{true, false}
 use mathlib.Core.List.{List, [], ◌∷◌, ◌++◌, map}
 use lib.ListN.{replicate}
 use Rattle.state.specs.declared.NmtState.TheVariants.{PreOperational, Operational}
-use Rattle.state.specs.declared.Transfer.{Transfer}
 use Rattle.state.specs.declared.Transfer.TheVariants.{NoTransfer, Uploading}
 use Rattle.state.specs.declared.State.{State}
 use Rattle.state.specs.declared.Occasion.TheVariants.{Plain}

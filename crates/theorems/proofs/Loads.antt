@@ -23,7 +23,7 @@ use Rattle.state.specs.declared.Axis.{Axis}
 use Rattle.state.specs.declared.Node.{Node}
 use Rattle.state.specs.declared.Occasion.TheVariants.{Plain}
 use Rattle.state.specs.Occasions.{is_ticked}
-use Rattle.rules_dictionary.specs.Numbers.{are_bytes, is_byte, value, bytes, padded, all, bit}
+use Rattle.rules_dictionary.specs.Numbers.{are_bytes, is_byte, bytes, padded, all, bit}
 use Rattle.rules_dictionary.specs.Table.{Row, table, size_of, size, dictionary_length, status_word, mode, heartbeat_time, lookup, Found, found, the_name}
 use Rattle.rules_dictionary.specs.Table.{no_object, no_subindex, ValueType, u8, u16, u32, i8, i32, open_table}
 use Rattle.rules_dictionary.specs.Values.{Write, read, stored}

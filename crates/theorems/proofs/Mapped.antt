@@ -1,7 +1,7 @@
 -- What a legal mapping maps: rows of its direction, and eight bytes at the most; of a receive PDO no row of a PDO, no limit and no constant.
 -- Assumes nothing.
 use Rattle.theorems.proofs.Words.{ℕ, ◌*◌, ◌^◌, ◌<◌, ◌≤◌, arith, ◌≡◌, refl, ◌∙◌, ap, subst, ◌⊎◌, inl, inr, Bool, true, false, not, ◌&&◌, ◌||◌}
-use Rattle.theorems.proofs.Words.{and-eq-true_iff, Bool·not-not, List, [], ◌∷◌, map, eqb-true, ltb-true, ltb-false, eqb, ltb, length, take, In}
+use Rattle.theorems.proofs.Words.{and-eq-true_iff, Bool·not-not, List, [], ◌∷◌, map, eqb-true, ltb-true, ltb-false, eqb, ltb, take, In}
 use Rattle.theorems.proofs.Words.{and_left, and_right, none_in, all_in, each_in, in_left, by_match, false_not, clash, implied, or_false_left}
 use Rattle.theorems.proofs.Words.{or_false_right, not-true, is_good_lem, all_leading}
 use Rattle.rules_dictionary.proofs.Plans.{mapped_in}

@@ -23,7 +23,7 @@ use Rattle.rules_dictionary.proofs.Defaults.{defaults_in_range}
 use Rattle.drive.specs.DriveStates.{next, is_not_ready, is_quick_stop, is_faulty}
 use Rattle.drive.specs.SetPoints.{enters, with_cause}
 use Rattle.rules_services.specs.{Effects.Effect, Effects.with_nmt, Effects.with_heartbeat, Effects.with_drive, Effects.without_transfer}
-use Rattle.rules_services.specs.{PdoTraffic.none_held, PdoTraffic.idle, PdoTraffic.all_idle, Nmt.left, Nmt.voltage_disabled, Nmt.heartbeat, Nmt.power_up}
+use Rattle.rules_services.specs.{PdoTraffic.none_held, PdoTraffic.idle, PdoTraffic.all_idle, Nmt.left, Nmt.voltage_disabled, Nmt.power_up}
 use Rattle.rules_services.specs.{Nmt.fresh_state, declared.Event.TheVariants.Fault, Events.faulted, Events.generic_error}
 use Rattle.rules_services.specs.PdoTraffic.{works, type_of}
 use Rattle.rules.specs.Sound.{sound, drive_sound, store_in_place, taken_in_place, cause_in_place, heartbeat_sound, count_sound, held_sound}

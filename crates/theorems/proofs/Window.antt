@@ -28,7 +28,7 @@ use Rattle.rules_services.specs.Events.{faulted}
 use Rattle.rules_services.specs.Effects.{Effect, and_then, with_held, with_transfer}
 use Rattle.rules.specs.Outcome.{drive_at_end, ended, status_of}
 use Rattle.rules.specs.Sound.{stay_sound}
-use Rattle.rules.specs.Calls.{Call, Decision, refuses, refused, accepted, answered, answer}
+use Rattle.rules.specs.Calls.{Call, Decision, refused, accepted, answered, answer}
 use Rattle.theorems.specs.Promises.{Step, Stand, after, AllOctets, Run, begun, reached, is_accepted}
 use Rattle.theorems.specs.PromisesOfWindow.{AimsAt, StandsNear, tells_tick, Past, past_of, StaysNear, KnifeWaits}
 use Rattle.drive.specs.SetPoints as SetPoints

@@ -1,10 +1,9 @@
-use Prim.Native.Nat.{ℕ, ◌≤◌, ◌-◌}
+use Prim.Native.Nat.{ℕ, ◌-◌}
 use mathlib.Core.Path.{◌≡◌, refl, ◌∙◌, sym, ap}
 use native.Mathlib.Omega.{arith}
 use borrow.Author.Rules.{rules}
-use borrow.Author.Tests.{not-true, not-false}
-use lib.ListN.{length, drop}
-use Rattle.files.specs.ConciseDcf.{reading, is_whole, reading_of}
+use lib.ListN.{drop}
+use Rattle.files.specs.ConciseDcf.{reading, is_whole}
 use Rattle.files.proofs.Heads.{all_inside}
 use Rattle.files.proofs.Places.{ends, stands, cut_short, goes_on}
 use Rattle.files.proofs.is_whole.Goals as goal

@@ -1,14 +1,9 @@
 -- The loop's invariant: what is still to be read, from this place on, is whole where the file is. The measure is what is left.
 -- Assumes nothing.
-use Prim.Native.Nat.{ℕ, ◌≤◌, ◌-◌}
-use mathlib.Core.Path.{◌≡◌, refl, ◌∙◌, sym, ap}
-use native.Mathlib.Omega.{arith}
-use borrow.Author.Rules.{rules}
-use borrow.Author.Tests.{not-true, not-false}
+use Prim.Native.Nat.{◌≤◌}
+use mathlib.Core.Path.{◌≡◌}
 use lib.ListN.{length, drop}
 use Rattle.files.specs.ConciseDcf.{reading, is_whole, reading_of}
-use Rattle.files.proofs.Heads.{all_inside}
-use Rattle.files.proofs.Places.{ends, stands, cut_short, goes_on}
 use Rattle.files.proofs.is_whole.Given as goal
 
 abbrev pub invariant-loop-left : goal.invariant-loop-left

@@ -1,11 +1,9 @@
 use Prim.Native.Nat.{ℕ, ◌-◌}
 use mathlib.Core.Path.{◌≡◌, refl, ◌∙◌, sym, ap}
-use mathlib.Core.Bool.{true}
 use native.Mathlib.Omega.{arith}
-use borrow.Author.Rules.{rules}
 use borrow.Author.Tests.{eq-eqb, ne_eqb}
 use lib.ListN.{drop}
-use Rattle.files.specs.ConciseDcf.{reading, is_whole, entries_of, entries_in, entry_at}
+use Rattle.files.specs.ConciseDcf.{reading, entries_of, entry_at}
 use Rattle.files.specs.declared.Listing.{Listing}
 use Rattle.files.proofs.Readings.{none_left}
 use Rattle.files.proofs.Places.{next_stands, rest_whole}

@@ -1,18 +1,11 @@
 -- The loop's invariant: what is still to be read, from this place on, is whole, and has an entry of the index where the file has one. The measure
 -- is what is left.
 -- Assumes nothing.
-use Prim.Native.Nat.{ℕ, ◌-◌}
-use mathlib.Core.Path.{◌≡◌, refl, ◌∙◌, sym, ap}
+use mathlib.Core.Path.{◌≡◌}
 use mathlib.Core.Bool.{true}
-use native.Mathlib.Omega.{arith}
-use borrow.Author.Rules.{rules}
-use borrow.Author.Tests.{eq-eqb, ne_eqb}
 use lib.ListN.{drop}
-use Rattle.files.specs.ConciseDcf.{reading, is_whole, entries_of, entries_in, entry_at}
-use Rattle.files.specs.declared.Listing.{Listing}
-use Rattle.files.proofs.Readings.{none_left}
-use Rattle.files.proofs.Places.{next_stands, rest_whole}
-use Rattle.files.proofs.Naming.{is_named, found, passed}
+use Rattle.files.specs.ConciseDcf.{reading, is_whole, entries_of, entries_in}
+use Rattle.files.proofs.Naming.{is_named}
 use Rattle.files.proofs.names.Given as goal
 
 abbrev pub invariant-loop-left : goal.invariant-loop-left

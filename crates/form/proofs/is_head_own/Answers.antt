@@ -1,5 +1,4 @@
 use Rattle.form.specs.Own.{head_own}
-use borrow.Author.Rules.{rules}
 use Rattle.form.proofs.is_head_own.Goals as goal
 
 pub returns : goal.returns

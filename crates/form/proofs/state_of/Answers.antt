@@ -1,4 +1,3 @@
-use borrow.Author.Rules.{rules}
 use Rattle.form.proofs.state_of.Goals as goal
 
 pub returns : goal.returns

@@ -2,7 +2,6 @@ use mathlib.Core.List.{[]}
 use Rattle.form.specs.Form.{with_plans}
 use Rattle.form.specs.Typed.{HeadTyped}
 use Rattle.form.proofs.Rows.{head_written}
-use borrow.Author.Rules.{rules}
 use Rattle.form.proofs.write_head.Goals as goal
 
 pub returns : goal.returns

@@ -1,7 +1,6 @@
 use mathlib.Core.Path.{◌∙◌}
 use Rattle.form.specs.Form.{HoldsPlans}
 use Rattle.form.proofs.Rows.{plans_written, head_over, typed_whole}
-use borrow.Author.Rules.{rules}
 use Rattle.form.proofs.write_state.Goals as goal
 
 pub returns : goal.returns

@@ -1,9 +1,8 @@
-use Prim.Native.Nat.{◌-◌, ◌≤◌}
 use native.Mathlib.Omega.{arith}
 use mathlib.Core.Path.{◌≡◌, refl, ◌∙◌}
 use borrow.Author.Rules.{rules}
 use lib.ListN.{length, length-set}
-use lib.Seq.{paste, paste-zero}
+use lib.Seq.{paste-zero}
 use Rattle.rules.specs.Outcome.{most_data}
 use Rattle.output.specs.Laying.{head_size}
 use Rattle.output.proofs.Frames.{headed, one_more_byte, head_and_data, laid_is_sent}

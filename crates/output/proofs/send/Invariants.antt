@@ -1,14 +1,11 @@
 -- The invariant of the copy: behind the head stand as many data bytes as are counted, and the rest is as before.
 -- Assumes nothing.
 use Prim.Native.Nat.{◌-◌, ◌≤◌}
-use native.Mathlib.Omega.{arith}
-use mathlib.Core.Path.{◌≡◌, refl, ◌∙◌}
-use borrow.Author.Rules.{rules}
-use lib.ListN.{length, length-set}
-use lib.Seq.{paste, paste-zero}
+use mathlib.Core.Path.{◌≡◌}
+use lib.ListN.{length}
+use lib.Seq.{paste}
 use Rattle.rules.specs.Outcome.{most_data}
 use Rattle.output.specs.Laying.{head_size}
-use Rattle.output.proofs.Frames.{headed, one_more_byte, head_and_data, laid_is_sent}
 use Rattle.output.proofs.send.Given as goal
 
 abbrev pub invariant-loop-i : goal.invariant-loop-i

@@ -1,7 +1,6 @@
 -- The three modes. Assumes nothing.
 use mathlib.Core.Path.{◌≡◌, refl}
 use mathlib.Core.Bool.{Bool, true, false, ◌||◌}
-use borrow.Author.Rules.{rules}
 use lib.Dec.{eqb}
 use Rattle.dictionary.proofs.choices.is_mode.Goals as goal
 

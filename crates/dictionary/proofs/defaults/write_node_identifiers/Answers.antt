@@ -1,5 +1,4 @@
 -- 1014h, then the identifiers of either direction. Assumes nothing.
-use borrow.Author.Rules.{rules}
 use Rattle.dictionary.proofs.Filled.{by_direction_lem}
 use Rattle.dictionary.proofs.defaults.write_node_identifiers.Goals as goal
 

@@ -1,6 +1,5 @@
 -- The name in code is the definitions', by computation; behind it nothing stands. Assumes nothing.
 use native.Mathlib.Omega.{arith}
-use borrow.Author.Rules.{rules}
 use mathlib.Core.Path.{sym}
 use lib.ListN.{get_or-eq_default}
 use Rattle.rules_dictionary.specs.DeviceName.{device_name}

@@ -1,6 +1,5 @@
 -- So many records on from the first of the direction. Assumes nothing.
 use native.Mathlib.Omega.{arith}
-use borrow.Author.Rules.{rules}
 use Rattle.rules_dictionary.specs.Table.{communication_place, communication_length, open_table}
 use Rattle.rules_dictionary.proofs.Packing.{regular}
 use Rattle.rules_dictionary.proofs.Members.{pdo_in}

@@ -1,6 +1,5 @@
 -- Behind the count. Assumes nothing.
 use native.Mathlib.Omega.{arith}
-use borrow.Author.Rules.{rules}
 use Rattle.rules_dictionary.proofs.Packing.{regular, within, short}
 use Rattle.rules_dictionary.proofs.Members.{pdo_in, count_in_lem}
 use Rattle.dictionary.proofs.records.words_place.Goals as goal

@@ -3,7 +3,6 @@ use mathlib.Core.Path.{refl, ap₂}
 use Prim.Native.Nat.{◌+◌, ◌-◌}
 use native.Mathlib.Omega.{arith}
 use borrow.Author.Tests.{lt-ltb, le-ltb}
-use borrow.Author.Rules.{rules}
 use Rattle.rules_dictionary.specs.Table.{open_table}
 use Rattle.dictionary.specs.Lines.{drive_rank, middle_rank, drive_place}
 use Rattle.dictionary.proofs.Lines.{left-fits}

@@ -1,10 +1,10 @@
-use Prim.Native.Nat.{suc, ◌≤◌, ◌<◌, ◌+◌, ◌/◌}
+use Prim.Native.Nat.{suc, ◌<◌, ◌+◌, ◌/◌}
 use mathlib.Core.Path.{◌≡◌, refl}
 use native.Mathlib.Omega.{arith}
 use borrow.Author.Rules.{rules}
 use lib.Dec.{lit<}
-use Rattle.rules_dictionary.specs.Table.{entries, row_at, key, table}
-use Rattle.dictionary.proofs.Lines.{lines_length, few, key_at, Power, halved, at_least_one}
+use Rattle.rules_dictionary.specs.Table.{entries, table}
+use Rattle.dictionary.proofs.Lines.{lines_length, few, key_at, halved, at_least_one}
 use Rattle.dictionary.proofs.table.last_up_to.Goals as goal
 
 -- on from the row in the middle, or up to it

@@ -1,12 +1,8 @@
 -- The invariant of the halving: the row of the rank is not above the key, unless it is the first; the row that many ranks on is, unless
 -- none is there. Assumes nothing.
-use Prim.Native.Nat.{suc, ◌≤◌, ◌<◌, ◌+◌, ◌/◌}
-use mathlib.Core.Path.{◌≡◌, refl}
-use native.Mathlib.Omega.{arith}
-use borrow.Author.Rules.{rules}
-use lib.Dec.{lit<}
-use Rattle.rules_dictionary.specs.Table.{entries, row_at, key, table}
-use Rattle.dictionary.proofs.Lines.{lines_length, few, key_at, Power, halved, at_least_one}
+use Prim.Native.Nat.{◌≤◌, ◌<◌, ◌+◌}
+use Rattle.rules_dictionary.specs.Table.{entries, row_at, key}
+use Rattle.dictionary.proofs.Lines.{Power}
 use Rattle.dictionary.proofs.table.last_up_to.Given as goal
 
 abbrev pub invariant-loop-width : goal.invariant-loop-width

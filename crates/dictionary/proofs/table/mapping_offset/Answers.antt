@@ -2,7 +2,6 @@
 use lib.Dec.{lit<}
 use native.Mathlib.Omega.{arith}
 use borrow.Author.Tests.{ne_eqb}
-use borrow.Author.Rules.{rules}
 use Rattle.dictionary.specs.Lines.{mapping_offset}
 use Rattle.dictionary.proofs.table.mapping_offset.Goals as goal
 

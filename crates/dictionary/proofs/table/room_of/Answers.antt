@@ -1,7 +1,6 @@
 -- By the first index of four. Assumes nothing.
 use native.Mathlib.Omega.{arith}
 use borrow.Author.Tests.{ne_eqb, lt-ltb, le-ltb}
-use borrow.Author.Rules.{rules}
 use Rattle.rules_dictionary.specs.Table.{last_communication}
 use Rattle.dictionary.specs.Lines.{first_index}
 use Rattle.dictionary.proofs.table.room_of.Goals as goal

@@ -1,6 +1,5 @@
 -- What was found, told from its number. Assumes nothing.
 use native.Mathlib.Omega.{arith}
-use borrow.Author.Rules.{rules}
 use Rattle.dictionary.proofs.Spots.{tells_listed, tells_no_object, tells_no_subindex}
 use Rattle.dictionary.proofs.table.seek.Goals as goal
 

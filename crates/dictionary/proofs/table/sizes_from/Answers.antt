@@ -1,9 +1,7 @@
-use Prim.Native.Nat.{◌≤◌, ◌+◌, ◌-◌, ◌*◌}
+use Prim.Native.Nat.{◌+◌, ◌-◌}
 use mathlib.Core.Path.{◌≡◌}
 use native.Mathlib.Omega.{arith}
 use borrow.Author.Rules.{rules}
-use Rattle.rules_dictionary.specs.Table.{entries}
-use Rattle.dictionary.specs.Lines.{sizes_from}
 use Rattle.dictionary.proofs.Lines.{lines_length, few, size_step, nothing_left}
 use Rattle.dictionary.proofs.table.sizes_from.Goals as goal
 

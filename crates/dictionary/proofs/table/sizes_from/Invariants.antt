@@ -1,11 +1,8 @@
 -- The sum so far, and what is left of it. Assumes nothing.
 use Prim.Native.Nat.{◌≤◌, ◌+◌, ◌-◌, ◌*◌}
 use mathlib.Core.Path.{◌≡◌}
-use native.Mathlib.Omega.{arith}
-use borrow.Author.Rules.{rules}
 use Rattle.rules_dictionary.specs.Table.{entries}
 use Rattle.dictionary.specs.Lines.{sizes_from}
-use Rattle.dictionary.proofs.Lines.{lines_length, few, size_step, nothing_left}
 use Rattle.dictionary.proofs.table.sizes_from.Given as goal
 
 abbrev pub invariant-loop-k : goal.invariant-loop-k

@@ -1,6 +1,5 @@
 -- The device name stands beside the table; the table in code is the definitions', by one computed test. Assumes nothing.
 use mathlib.Core.Path.{refl}
-use borrow.Author.Rules.{rules}
 use Rattle.rules_dictionary.specs.Table.{table}
 use Rattle.rules_dictionary.proofs.LookUp.{is_name, no_name, elsewhere}
 use Rattle.dictionary.proofs.table.spot_of.Goals as goal

@@ -1,6 +1,5 @@
 -- By the size. Assumes nothing.
 use native.Mathlib.Omega.{arith}
-use borrow.Author.Rules.{rules}
 use Rattle.dictionary.proofs.Bytes.{is_four}
 use Rattle.dictionary.proofs.values.read.Goals as goal
 

@@ -1,6 +1,5 @@
 -- Two bytes. Assumes nothing.
 use native.Mathlib.Omega.{arith}
-use borrow.Author.Rules.{rules}
 use Rattle.dictionary.proofs.Bytes.{value_step, value_none}
 use Rattle.dictionary.proofs.values.read2.Goals as goal
 

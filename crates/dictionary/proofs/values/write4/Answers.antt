@@ -2,7 +2,6 @@
 use lib.ListN.{length-set}
 use native.Mathlib.Omega.{arith}
 use native.Mathlib.Numerals.{add-one}
-use borrow.Author.Rules.{rules}
 use Rattle.rules_dictionary.specs.Numbers.{bytes}
 use Rattle.dictionary.proofs.values.write4.Goals as goal
 

@@ -1,7 +1,6 @@
 -- `drive::Drive::holds` meets its contract. Assumes nothing.
 use mathlib.Core.Path.{◌∙◌, ap}
 use mathlib.Core.Bool.{true, false}
-use borrow.Author.Rules.{rules}
 use Rattle.drive.specs.SetPoints.{with_marks}
 use Rattle.drive.proofs.Drive.holds.Goals as goal
 

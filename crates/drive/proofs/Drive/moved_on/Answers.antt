@@ -1,6 +1,5 @@
 -- `drive::Drive::moved_on` meets its contract. Assumes nothing.
 use mathlib.Core.Path.{◌∙◌, sym, ap}
-use borrow.Author.Rules.{rules}
 use Rattle.drive.specs.SetPoints.{with_store, with_stay}
 use Rattle.drive.proofs.Ways.{second_next, none_next}
 use Rattle.drive.proofs.Drive.moved_on.Goals as goal

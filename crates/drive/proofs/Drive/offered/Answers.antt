@@ -1,6 +1,5 @@
 -- `drive::Drive::offered` meets its contract. Assumes nothing.
 use mathlib.Core.Path.{◌∙◌, sym, ap}
-use borrow.Author.Rules.{rules}
 use Rattle.drive.specs.SetPoints.{with_taken}
 use Rattle.drive.proofs.Ways.{offered_full, offered_at, offered_outside}
 use Rattle.drive.proofs.Drive.offered.Goals as goal

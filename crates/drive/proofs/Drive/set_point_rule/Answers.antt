@@ -1,7 +1,5 @@
 -- `drive::Drive::set_point_rule` meets its contract. Assumes nothing.
 use mathlib.Core.Path.{◌∙◌, sym}
-use borrow.Author.Tests.{not-true, not-false}
-use borrow.Author.Rules.{rules}
 use Rattle.drive.proofs.Tempting.{held_bit_takes_nothing}
 use Rattle.drive.proofs.Ways.{rule_falls, rule_offers, rule_idle}
 use Rattle.drive.proofs.Drive.set_point_rule.Goals as goal

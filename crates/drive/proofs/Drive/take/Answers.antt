@@ -1,7 +1,6 @@
 -- `drive::Drive::take` meets its contract. Assumes nothing.
 use mathlib.Core.Path.{◌∙◌, sym, ap}
 use mathlib.Core.Bool.{true, false}
-use borrow.Author.Rules.{rules}
 use Rattle.drive.specs.SetPoints.{with_marks, with_store, with_stay}
 use Rattle.drive.proofs.Ways.{take_at_once, take_behind, take_next}
 use Rattle.drive.proofs.Drive.take.Goals as goal

@@ -1,5 +1,4 @@
 -- `drive::Store::behind` meets its contract. Assumes nothing.
-use borrow.Author.Rules.{rules}
 use Rattle.drive.proofs.Store.behind.Goals as goal
 
 pub returns-in-Empty : goal.returns-in-Empty

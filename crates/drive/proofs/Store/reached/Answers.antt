@@ -1,5 +1,4 @@
 -- `drive::Store::reached` meets its contract. Assumes nothing.
-use borrow.Author.Rules.{rules}
 use Rattle.drive.proofs.Store.reached.Goals as goal
 
 pub returns-in-Moving : goal.returns-in-Moving

@@ -1,6 +1,5 @@
 -- `drive::set_points::aim_of` meets its contract. Assumes nothing.
 use mathlib.Core.Path.{◌∙◌}
-use borrow.Author.Rules.{rules}
 use Rattle.drive.proofs.Ways.{aim_of_words}
 use Rattle.drive.proofs.set_points.aim_of.Goals as goal
 

@@ -1,6 +1,5 @@
 -- `drive::set_points::base` meets its contract. Assumes nothing.
 use mathlib.Core.Path.{◌∙◌}
-use borrow.Author.Rules.{rules}
 use Rattle.drive.proofs.Ways.{where_true}
 use Rattle.drive.proofs.set_points.base.Goals as goal
 

@@ -1,6 +1,5 @@
 -- `drive::status::halts` meets its contract. Assumes nothing.
 use mathlib.Core.Path.{◌∙◌, ap}
-use borrow.Author.Rules.{rules}
 use Rattle.rules_dictionary.specs.Numbers.{bit}
 use Rattle.drive.specs.StatusWord.{halt_bit}
 use Rattle.drive.proofs.status.halts.Goals as goal

@@ -1,6 +1,5 @@
 -- `drive::status::is_position_reached` meets its contract. Assumes nothing.
-use mathlib.Core.Path.{◌∙◌, sym}
-use borrow.Author.Rules.{rules}
+use mathlib.Core.Path.{◌∙◌}
 use Rattle.drive.proofs.Shown.{reached_at_zero, reached_early, reached_late}
 use Rattle.drive.proofs.status.is_position_reached.Goals as goal
 

@@ -1,7 +1,6 @@
 -- `drive::status::status` meets its contract. Assumes nothing.
 use mathlib.Core.Path.{◌∙◌, sym}
 use native.Mathlib.Omega.{arith}
-use borrow.Author.Rules.{rules}
 use Rattle.drive.proofs.Shown.{shown_most, state_word_most, enabled_most, status_enabled, status_other}
 use Rattle.drive.proofs.status.status.Goals as goal
 

@@ -1,6 +1,5 @@
 -- `drive::window::one_more` meets its contract. Assumes nothing.
 use native.Mathlib.Omega.{arith}
-use borrow.Author.Rules.{rules}
 use borrow.Author.Tests.{lt-ltb, le-ltb}
 use Rattle.drive.proofs.window.one_more.Goals as goal
 

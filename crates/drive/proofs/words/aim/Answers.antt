@@ -1,6 +1,5 @@
 -- `drive::words::aim` meets its contract. Assumes nothing.
 use native.Mathlib.Omega.{arith}
-use borrow.Author.Rules.{rules}
 use Rattle.drive.proofs.Raised.{aim_below, aim_above, aim_at}
 use Rattle.drive.proofs.words.aim.Goals as goal
 

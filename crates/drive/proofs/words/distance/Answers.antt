@@ -1,6 +1,5 @@
 -- `drive::words::distance` meets its contract. Assumes nothing.
 use native.Mathlib.Omega.{arith}
-use borrow.Author.Rules.{rules}
 use Rattle.drive.proofs.Raised.{words_distance}
 use Rattle.drive.proofs.words.distance.Goals as goal
 

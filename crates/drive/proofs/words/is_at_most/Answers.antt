@@ -1,7 +1,6 @@
 -- `drive::words::is_at_most` meets its contract. Assumes nothing.
 use mathlib.Core.Path.{sym}
 use native.Mathlib.Omega.{arith}
-use borrow.Author.Rules.{rules}
 use Rattle.drive.proofs.Raised.{words_order}
 use Rattle.drive.proofs.words.is_at_most.Goals as goal
 

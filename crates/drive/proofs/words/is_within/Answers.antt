@@ -1,5 +1,4 @@
 -- `drive::words::is_within` meets its contract. Assumes nothing.
-use borrow.Author.Rules.{rules}
 use Rattle.drive.proofs.words.is_within.Goals as goal
 
 pub returns : goal.returns

@@ -3,7 +3,6 @@ use mathlib.Core.Path.{refl}
 use mathlib.Core.Bool.{false}
 use Rattle.output.proofs.Left.{left_as, as_effect}
 use Rattle.emergency.proofs.Written.{acts_on, acts_mode, acts_not}
-use borrow.Author.Rules.{rules}
 use Rattle.emergency.proofs.acting.acted.Goals as goal
 
 pub returns-then-control : goal.returns-then-control

@@ -5,7 +5,6 @@ use Rattle.state.specs.declared.State.{State}
 use Rattle.form.proofs.Holding.{held_state}
 use Rattle.output.proofs.Left.{left_as, as_effect}
 use Rattle.emergency.proofs.Written.{control_resets, control_moves, reset_left}
-use borrow.Author.Rules.{rules}
 use Rattle.emergency.proofs.acting.control_acted.Goals as goal
 
 pub fault_reset-requires : goal.fault_reset-requires

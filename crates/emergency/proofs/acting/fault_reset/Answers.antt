@@ -1,5 +1,4 @@
 -- `emergency::acting::fault_reset` meets its contract. Assumes nothing.
-use borrow.Author.Rules.{rules}
 use Rattle.emergency.proofs.acting.fault_reset.Goals as goal
 
 pub returns : goal.returns

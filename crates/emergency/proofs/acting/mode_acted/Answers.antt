@@ -1,6 +1,5 @@
 -- `emergency::acting::mode_acted` meets its contract. Assumes nothing.
 use Rattle.emergency.proofs.Written.{mode_acts_lem}
-use borrow.Author.Rules.{rules}
 use Rattle.emergency.proofs.acting.mode_acted.Goals as goal
 
 pub returns-then-written : goal.returns-then-written

@@ -2,7 +2,6 @@
 use mathlib.Core.Path.{refl}
 use Rattle.rules_dictionary.specs.Numbers.{bytes}
 use Rattle.rules_dictionary.specs.Plans.{pdo_data}
-use borrow.Author.Rules.{rules}
 use Rattle.emergency.proofs.emergencies.emergency_data.Goals as goal
 
 pub returns : goal.returns

@@ -17,7 +17,6 @@ use Rattle.form.specs.Holding.{Holds}
 use Rattle.output.specs.Leaves.{keeping, Leaves}
 use Rattle.output.proofs.Left.{loud}
 use Rattle.emergency.specs.Emergencies.{emergency_of}
-use borrow.Author.Rules.{rules}
 use Rattle.events.proofs.acts.faulted.Goals as goal
 
 leaves : (code register before k : ℕ) (s : State) (d o d' d'' o' : List ℕ) {bs : List ℕ} → before ≡ read d error_register →

@@ -2,7 +2,6 @@
 use mathlib.Core.Path.{refl, ◌∙◌, ap}
 use Rattle.rules_dictionary.specs.Table.{velocity}
 use Rattle.rules_dictionary.specs.Values.{store}
-use borrow.Author.Rules.{rules}
 use Rattle.events.proofs.acts.fed_back.Goals as goal
 
 pub returns : goal.returns

@@ -5,7 +5,6 @@ use Rattle.rules_services.specs.Events.{happens}
 use Rattle.rules.specs.Outcome.{sent_into}
 use Rattle.output.proofs.Left.{loud}
 use Rattle.nmt.proofs.Commanding.{restated}
-use borrow.Author.Rules.{rules}
 use Rattle.events.proofs.acts.happens.Goals as goal
 
 pub returns-in-Started : goal.returns-in-Started

@@ -1,5 +1,4 @@
 -- `events::acts::reaction_from` meets its contract. Assumes nothing.
-use borrow.Author.Rules.{rules}
 use Rattle.events.proofs.acts.reaction_from.Goals as goal
 
 pub returns-then-is_faulty : goal.returns-then-is_faulty

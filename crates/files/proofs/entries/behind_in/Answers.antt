@@ -1,7 +1,6 @@
 -- Nothing of the entry lies behind the end of the file, so no sum wraps.
 -- Assumes nothing.
 use native.Mathlib.Omega.{arith}
-use borrow.Author.Rules.{rules}
 use Rattle.files.proofs.Heads.{all_inside}
 use Rattle.files.proofs.entries.behind_in.Goals as goal
 

@@ -1,6 +1,5 @@
 -- The four bytes, each by itself.
 -- Assumes nothing.
-use borrow.Author.Rules.{rules}
 use Rattle.rules_dictionary.specs.Numbers.{part}
 use Rattle.files.proofs.Bytes.{first_four}
 use Rattle.files.proofs.entries.first_of.Goals as goal

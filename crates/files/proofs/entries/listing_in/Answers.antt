@@ -1,7 +1,6 @@
 -- Each part of the head, and the data behind it: all of it lies inside the file.
 -- Assumes nothing.
 use native.Mathlib.Omega.{arith}
-use borrow.Author.Rules.{rules}
 use Rattle.files.proofs.Heads.{subindex_there, content_there, all_inside}
 use Rattle.files.proofs.entries.listing_in.Goals as goal
 

@@ -1,7 +1,6 @@
 -- Four bytes of the head.
 -- Assumes nothing.
 use mathlib.Core.Path.{◌∙◌, sym}
-use borrow.Author.Rules.{rules}
 use Rattle.files.proofs.Heads.{size_there}
 use Rattle.files.proofs.entries.size_at.Goals as goal
 

@@ -1,5 +1,4 @@
 use Rattle.form.specs.Own.{drive_own}
-use borrow.Author.Rules.{rules}
 use Rattle.form.proofs.axis_drive.own_drive.Goals as goal
 
 pub returns : goal.returns

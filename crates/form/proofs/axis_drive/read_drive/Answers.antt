@@ -1,5 +1,4 @@
 use Rattle.form.specs.Form.{state_of, drive_at}
-use borrow.Author.Rules.{rules}
 use Rattle.form.proofs.axis_drive.read_drive.Goals as goal
 
 pub returns : goal.returns

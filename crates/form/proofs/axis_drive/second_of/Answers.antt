@@ -1,4 +1,3 @@
-use borrow.Author.Rules.{rules}
 use Rattle.form.proofs.axis_drive.second_of.Goals as goal
 
 pub returns-in-Empty : goal.returns-in-Empty

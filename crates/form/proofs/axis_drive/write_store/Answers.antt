@@ -2,7 +2,6 @@ use lib.ListN.{length-set}
 use Rattle.form.specs.Form.{store_place}
 use Rattle.form.proofs.Rows.{store_written}
 use native.Mathlib.Omega.{arith}
-use borrow.Author.Rules.{rules}
 use Rattle.form.proofs.axis_drive.write_store.Goals as goal
 
 pub write_set_point-requires : goal.write_set_point-requires

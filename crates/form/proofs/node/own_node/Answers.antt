@@ -1,5 +1,4 @@
 use Rattle.form.specs.Own.{node_own}
-use borrow.Author.Rules.{rules}
 use Rattle.form.proofs.node.own_node.Goals as goal
 
 pub returns : goal.returns

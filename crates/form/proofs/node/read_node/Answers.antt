@@ -1,5 +1,4 @@
 use Rattle.form.specs.Form.{state_of, node_at}
-use borrow.Author.Rules.{rules}
 use Rattle.form.proofs.node.read_node.Goals as goal
 
 pub returns : goal.returns

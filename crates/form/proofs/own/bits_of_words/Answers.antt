@@ -1,8 +1,6 @@
 use native.Mathlib.Omega.{arith}
-use borrow.Author.Rules.{rules}
-use Rattle.form.specs.Form.{word_length, word_at}
-use Rattle.form.specs.Own.{is_zero, every_word}
-use Rattle.form.proofs.Tested.{Tested, none_yet, one_more, all_tested, or-zero}
+use Rattle.form.specs.Own.{every_word}
+use Rattle.form.proofs.Tested.{none_yet, one_more, all_tested, or-zero}
 use Rattle.form.proofs.own.bits_of_words.Goals as goal
 
 pub loop-left-preserved : goal.loop-left-preserved

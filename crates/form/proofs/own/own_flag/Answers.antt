@@ -1,4 +1,3 @@
-use borrow.Author.Rules.{rules}
 use Rattle.form.proofs.own.own_flag.Goals as goal
 
 pub returns : goal.returns

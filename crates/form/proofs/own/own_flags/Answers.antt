@@ -1,8 +1,6 @@
 use native.Mathlib.Omega.{arith}
-use borrow.Author.Rules.{rules}
-use lib.ListN.{get_or}
-use Rattle.form.specs.Own.{own_flag, flags_own}
-use Rattle.form.proofs.Tested.{Tested, none_yet, one_more, all_tested}
+use Rattle.form.specs.Own.{flags_own}
+use Rattle.form.proofs.Tested.{none_yet, one_more, all_tested}
 use Rattle.form.proofs.own.own_flags.Goals as goal
 
 pub loop-left-preserved : goal.loop-left-preserved

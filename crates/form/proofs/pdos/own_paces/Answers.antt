@@ -1,11 +1,6 @@
 use native.Mathlib.Omega.{arith}
-use borrow.Author.Rules.{rules}
-use lib.ListN.{get_or}
-use Prim.Native.Nat.{◌+◌}
-use Rattle.rules_dictionary.specs.Table.{each_way}
-use Rattle.form.specs.Form.{due_offset, pace_length, paces_place}
-use Rattle.form.specs.Own.{own_flag, paces_own}
-use Rattle.form.proofs.Tested.{Tested, none_yet, one_more, all_tested}
+use Rattle.form.specs.Own.{paces_own}
+use Rattle.form.proofs.Tested.{none_yet, one_more, all_tested}
 use Rattle.form.proofs.pdos.own_paces.Goals as goal
 
 pub loop-left-preserved : goal.loop-left-preserved

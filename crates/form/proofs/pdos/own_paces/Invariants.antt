@@ -1,11 +1,9 @@
-use native.Mathlib.Omega.{arith}
-use borrow.Author.Rules.{rules}
 use lib.ListN.{get_or}
 use Prim.Native.Nat.{◌+◌}
 use Rattle.rules_dictionary.specs.Table.{each_way}
 use Rattle.form.specs.Form.{due_offset, pace_length, paces_place}
-use Rattle.form.specs.Own.{own_flag, paces_own}
-use Rattle.form.proofs.Tested.{Tested, none_yet, one_more, all_tested}
+use Rattle.form.specs.Own.{own_flag}
+use Rattle.form.proofs.Tested.{Tested}
 use Rattle.form.proofs.pdos.own_paces.Given as goal
 
 abbrev pub invariant-loop-left : goal.invariant-loop-left

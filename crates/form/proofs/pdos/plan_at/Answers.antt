@@ -1,5 +1,4 @@
 use Rattle.form.specs.Form.{plan_at}
-use borrow.Author.Rules.{rules}
 use Rattle.form.proofs.pdos.plan_at.Goals as goal
 
 pub returns : goal.returns

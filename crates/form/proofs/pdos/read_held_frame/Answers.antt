@@ -1,4 +1,3 @@
-use borrow.Author.Rules.{rules}
 use mathlib.Core.Path.{sym, ◌∙◌}
 use Rattle.form.proofs.OneForm.{held_stands}
 use Rattle.form.proofs.pdos.read_held_frame.Goals as goal

@@ -1,4 +1,3 @@
-use borrow.Author.Rules.{rules}
 use Rattle.form.proofs.pdos.read_pace.Goals as goal
 
 pub returns : goal.returns

@@ -1,5 +1,4 @@
 use Rattle.form.specs.Form.{state_of}
-use borrow.Author.Rules.{rules}
 use Rattle.form.proofs.pdos.read_paces.Goals as goal
 
 pub returns : goal.returns

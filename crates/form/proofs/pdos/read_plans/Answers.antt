@@ -1,4 +1,3 @@
-use borrow.Author.Rules.{rules}
 use Rattle.form.specs.Form.{state_of}
 use Rattle.form.proofs.pdos.read_plans.Goals as goal
 

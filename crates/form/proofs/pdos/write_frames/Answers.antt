@@ -1,13 +1,9 @@
-use Prim.Native.Nat.{◌-◌}
 use native.Mathlib.Omega.{arith}
 use mathlib.Core.Path.{◌≡◌}
-use mathlib.Core.List.{[]}
 use borrow.Author.Rules.{rules}
 use lib.ListN.{length}
 use Rattle.rules_dictionary.specs.Table.{each_way}
-use Rattle.form.specs.Form.{data_form, data_length}
-use Rattle.form.specs.Typed.{DataTyped}
-use Rattle.form.proofs.Rows.{Row, none_yet, one_more, all_written, length_data}
+use Rattle.form.proofs.Rows.{none_yet, one_more, all_written, length_data}
 use Rattle.form.proofs.pdos.write_frames.Goals as goal
 
 pub loop-k-preserved : goal.loop-k-preserved

@@ -1,12 +1,8 @@
 use Prim.Native.Nat.{◌-◌}
-use native.Mathlib.Omega.{arith}
-use mathlib.Core.Path.{◌≡◌}
-use borrow.Author.Rules.{rules}
-use lib.ListN.{length}
 use Rattle.rules_dictionary.specs.Table.{most_moves}
 use Rattle.form.specs.Form.{move_form, move_length}
 use Rattle.form.specs.Typed.{MoveTyped}
-use Rattle.form.proofs.Rows.{Row, none_yet, one_more, all_written, length_move}
+use Rattle.form.proofs.Rows.{Row}
 use Rattle.form.proofs.pdos.write_moves.Given as goal
 
 abbrev pub invariant-loop-k : goal.invariant-loop-k

@@ -2,7 +2,6 @@ use native.Mathlib.Numerals.{add-one}
 use native.Mathlib.Omega.{arith}
 use lib.ListN.{length-set}
 use Rattle.form.specs.Form.{pace_form}
-use borrow.Author.Rules.{rules}
 use Rattle.form.proofs.pdos.write_pace.Goals as goal
 
 pub returns : goal.returns

@@ -2,7 +2,6 @@ use native.Mathlib.Omega.{arith}
 use mathlib.Core.Path.{◌∙◌}
 use lib.ListN.{length-set}
 use Rattle.form.proofs.Rows.{plan_written}
-use borrow.Author.Rules.{rules}
 use Rattle.form.proofs.pdos.write_plan.Goals as goal
 
 pub returns : goal.returns

@@ -1,13 +1,9 @@
 use Prim.Native.Nat.{◌-◌, ◌*◌}
-use native.Mathlib.Omega.{arith}
-use mathlib.Core.Path.{◌≡◌}
 use mathlib.Core.List.{[]}
-use borrow.Author.Rules.{rules}
-use lib.ListN.{length}
 use Rattle.rules_dictionary.specs.Table.{each_way}
 use Rattle.form.specs.Form.{plan_form, plan_length}
 use Rattle.form.specs.Typed.{PlanTyped}
-use Rattle.form.proofs.Rows.{Row, none_yet, one_more, all_written, length_plan}
+use Rattle.form.proofs.Rows.{Row}
 use Rattle.form.proofs.pdos.write_plans.Given as goal
 
 abbrev pub invariant-loop-k : goal.invariant-loop-k

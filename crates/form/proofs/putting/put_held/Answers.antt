@@ -1,4 +1,3 @@
-use borrow.Author.Rules.{rules}
 use Rattle.form.proofs.Holding.{put_one_held}
 use Rattle.form.proofs.putting.put_held.Goals as goal
 

@@ -1,4 +1,3 @@
-use borrow.Author.Rules.{rules}
 use Rattle.form.proofs.Holding.{put_transfer_lem}
 use Rattle.form.proofs.putting.put_no_transfer.Goals as goal
 

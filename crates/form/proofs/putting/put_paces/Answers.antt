@@ -1,4 +1,3 @@
-use borrow.Author.Rules.{rules}
 use Rattle.form.proofs.Holding.{put_paces_lem}
 use Rattle.form.proofs.putting.put_paces.Goals as goal
 

@@ -1,4 +1,3 @@
-use borrow.Author.Rules.{rules}
 use Rattle.form.specs.Form.{receipt_at}
 use Rattle.form.proofs.transfers.read_receipt.Goals as goal
 

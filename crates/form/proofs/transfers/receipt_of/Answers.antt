@@ -1,4 +1,3 @@
-use borrow.Author.Rules.{rules}
 use Rattle.form.proofs.transfers.receipt_of.Goals as goal
 
 pub returns-in-NoTransfer : goal.returns-in-NoTransfer

@@ -1,7 +1,6 @@
 use native.Mathlib.Omega.{arith}
 use lib.ListN.{length-set}
 use Rattle.form.specs.Form.{receipt_form, transfer_form}
-use borrow.Author.Rules.{rules}
 use Rattle.form.proofs.transfers.write_transfer.Goals as goal
 
 pub returns : goal.returns

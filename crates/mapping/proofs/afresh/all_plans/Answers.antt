@@ -1,9 +1,8 @@
-use Prim.Native.Nat.{◌*◌, ◌-◌, ◌≤◌}
+use Prim.Native.Nat.{◌*◌}
 use native.Mathlib.Omega.{arith}
 use mathlib.Core.Path.{◌≡◌}
-use borrow.Author.Rules.{rules}
 use Rattle.rules_dictionary.specs.Table.{each_way}
-use Rattle.rules_dictionary.specs.Plans.{mapped, plan_for, plans_of}
+use Rattle.rules_dictionary.specs.Plans.{plans_of}
 use Rattle.mapping.proofs.Filling.{filled, none_filled, one_filled}
 use Rattle.mapping.proofs.afresh.all_plans.Goals as goal
 

@@ -1,12 +1,10 @@
 -- The invariant: as many plans as are counted stand in the array.
 -- Assumes nothing.
 use Prim.Native.Nat.{◌*◌, ◌-◌, ◌≤◌}
-use native.Mathlib.Omega.{arith}
 use mathlib.Core.Path.{◌≡◌}
-use borrow.Author.Rules.{rules}
 use Rattle.rules_dictionary.specs.Table.{each_way}
-use Rattle.rules_dictionary.specs.Plans.{mapped, plan_for, plans_of}
-use Rattle.mapping.proofs.Filling.{filled, none_filled, one_filled}
+use Rattle.rules_dictionary.specs.Plans.{mapped, plan_for}
+use Rattle.mapping.proofs.Filling.{filled}
 use Rattle.mapping.proofs.afresh.all_plans.Given as goal
 
 abbrev pub invariant-loop-p : goal.invariant-loop-p

@@ -1,6 +1,5 @@
 use borrow.Author.Tests.{eq-eqb, ne_eqb}
 use Rattle.mapping.proofs.Joining.{same_value}
-use borrow.Author.Rules.{rules}
 use Rattle.mapping.proofs.frames.same_data.Goals as goal
 
 pub returns-then-a-b : goal.returns-then-a-b

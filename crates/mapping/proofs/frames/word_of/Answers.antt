@@ -2,7 +2,6 @@ use mathlib.Core.Path.{◌≡◌, sym}
 use native.Mathlib.Omega.{arith}
 use lib.ListN.{length}
 use Rattle.mapping.proofs.Joining.{value_eight, bytes_eight}
-use borrow.Author.Rules.{rules}
 use Rattle.mapping.proofs.frames.word_of.Goals as goal
 
 pub returns : goal.returns

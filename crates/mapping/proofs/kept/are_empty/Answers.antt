@@ -1,6 +1,5 @@
 -- `mapping::kept::are_empty` meets its contract. Assumes nothing.
 use lib.Bits.{bit_or}
-use borrow.Author.Rules.{rules}
 use Rattle.form.proofs.Tested.{or-zero}
 use Rattle.mapping.specs.Kept.{ends_empty}
 use Rattle.mapping.proofs.kept.are_empty.Goals as goal

@@ -1,11 +1,7 @@
-use Prim.Native.Nat.{◌+◌, ◌*◌, ◌-◌, ◌≤◌}
 use mathlib.Core.Path.{◌≡◌, refl, sym, ◌∙◌}
 use native.Mathlib.Omega.{arith}
 use borrow.Author.Rules.{rules}
-use borrow.Author.Tests.{not-true, not-false}
 use Rattle.mapping.specs.Words.{way_of}
-use Rattle.mapping.specs.Slots.{words_from}
-use Rattle.mapping.specs.Kept.{mapped_kept}
 use Rattle.mapping.proofs.Keeping.{mapped_step, mapped_end}
 use Rattle.mapping.proofs.kept.are_mapped.Goals as goal
 

@@ -1,7 +1,6 @@
 -- `mapping::kept::are_spare` meets its contract. Assumes nothing.
 use native.Mathlib.Omega.{arith}
 use mathlib.Core.Path.{sym, ◌∙◌}
-use borrow.Author.Rules.{rules}
 use Rattle.rules_dictionary.proofs.Tests.{and_left, and_right}
 use Rattle.mapping.specs.Words.{way_of}
 use Rattle.mapping.specs.Kept.{ends_empty}

@@ -1,11 +1,7 @@
-use Prim.Native.Nat.{◌+◌, ◌*◌, ◌≤◌}
 use mathlib.Core.Path.{◌≡◌, refl, sym, ◌∙◌}
 use native.Mathlib.Omega.{arith}
 use borrow.Author.Rules.{rules}
-use borrow.Author.Tests.{not-true, not-false}
 use Rattle.mapping.specs.Words.{way_of}
-use Rattle.mapping.specs.Slots.{words_from}
-use Rattle.mapping.specs.Kept.{spare_kept}
 use Rattle.mapping.proofs.Keeping.{spare_step, spare_end}
 use Rattle.mapping.proofs.kept.is_each_spare.Goals as goal
 

@@ -1,11 +1,7 @@
-use Prim.Native.Nat.{◌-◌}
 use mathlib.Core.Path.{sym, ◌∙◌}
 use native.Mathlib.Omega.{arith}
-use borrow.Author.Rules.{rules}
-use borrow.Author.Tests.{not-true, not-false}
-use Rattle.mapping.proofs.Assembly.{are_bytes_lem}
 use Rattle.mapping.proofs.Steps.{none_reached}
-use Rattle.mapping.proofs.Framed.{Compared, none_compared, comparable, value_within, value_room}
+use Rattle.mapping.proofs.Framed.{none_compared, comparable, value_within, value_room}
 use Rattle.mapping.proofs.Framed.{one_more, other_value}
 use Rattle.mapping.proofs.Framed.{zeros_room, other_length, zeros_left}
 use Rattle.mapping.proofs.kept.is_frame_kept.Goals as goal

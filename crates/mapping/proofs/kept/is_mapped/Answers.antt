@@ -1,6 +1,5 @@
 -- `mapping::kept::is_mapped` meets its contract: what stands at the word's slot tells. Assumes nothing.
 use native.Mathlib.Omega.{arith}
-use borrow.Author.Rules.{rules}
 use Rattle.mapping.specs.Words.{way_of}
 use Rattle.mapping.proofs.Slotting.{slot_below, slots_length, told}
 use Rattle.mapping.proofs.kept.is_mapped.Goals as goal

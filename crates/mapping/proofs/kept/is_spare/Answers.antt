@@ -3,7 +3,6 @@ use mathlib.Core.Path.{sym}
 use native.Mathlib.Omega.{arith}
 use Rattle.mapping.specs.Words.{way_of}
 use Rattle.mapping.proofs.Keeping.{both_empty, kept_past, word_past}
-use borrow.Author.Rules.{rules}
 use Rattle.mapping.proofs.kept.is_spare.Goals as goal
 
 pub returns-then-word-kept-eq0 : goal.returns-then-word-kept-eq0

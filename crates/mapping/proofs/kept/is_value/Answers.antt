@@ -1,6 +1,5 @@
 -- `mapping::kept::is_value` meets its contract: by the size. Assumes nothing.
 use native.Mathlib.Omega.{arith}
-use borrow.Author.Rules.{rules}
 use Rattle.dictionary.proofs.Bytes.{is_four}
 use Rattle.mapping.proofs.kept.is_value.Goals as goal
 

@@ -1,9 +1,8 @@
-use Prim.Native.Nat.{◌+◌, ◌*◌, ◌-◌, ◌≤◌, ◌<◌}
+use Prim.Native.Nat.{◌<◌}
 use mathlib.Core.Path.{◌≡◌}
 use native.Mathlib.Omega.{arith}
-use lib.ListN.{length, length-set}
+use lib.ListN.{length-set}
 use Rattle.mapping.specs.Words.{way_of}
-use Rattle.mapping.specs.Slots.{moves_named}
 use Rattle.mapping.proofs.Worked.{none_named, next_named}
 use borrow.Author.Rules.{rules}
 use Rattle.mapping.proofs.plans.moves_of.Goals as goal

@@ -1,5 +1,4 @@
 use native.Mathlib.Omega.{arith}
-use borrow.Author.Rules.{rules}
 use Rattle.mapping.proofs.Legality.{words_room}
 use Rattle.mapping.proofs.Worked.{fresh_plan}
 use Rattle.mapping.proofs.plans.plan_of.Goals as goal

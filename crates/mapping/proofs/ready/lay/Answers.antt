@@ -2,7 +2,6 @@
 use native.Mathlib.Omega.{arith}
 use mathlib.Core.Path.{◌∙◌, ap}
 use lib.ListN.{length}
-use borrow.Author.Rules.{rules}
 use Rattle.mapping.proofs.Laid.{plan_stays, long_zeroed, Whole, laid_whole}
 use Rattle.mapping.proofs.ready.lay.Goals as goal
 

@@ -1,9 +1,6 @@
-use Prim.Native.Nat.{◌-◌}
 use native.Mathlib.Omega.{arith}
-use borrow.Author.Rules.{rules}
-use Rattle.mapping.proofs.Assembly.{are_bytes_lem}
 use Rattle.mapping.proofs.Steps.{count_at}
-use Rattle.mapping.proofs.Laid.{Laying, none_laid, layable, laid_within, laid_room, one_laid, all_laid}
+use Rattle.mapping.proofs.Laid.{none_laid, layable, laid_within, laid_room, one_laid, all_laid}
 use Rattle.mapping.proofs.ready.lay_values.Goals as goal
 
 pub overflow_cast-count-2 : goal.overflow_cast-count-2

@@ -1,10 +1,6 @@
 -- `mapping::ready::lay_values` meets its contract: what is left to lay is what was at the start. Assumes nothing.
 use Prim.Native.Nat.{◌-◌}
-use native.Mathlib.Omega.{arith}
-use borrow.Author.Rules.{rules}
-use Rattle.mapping.proofs.Assembly.{are_bytes_lem}
-use Rattle.mapping.proofs.Steps.{count_at}
-use Rattle.mapping.proofs.Laid.{Laying, none_laid, Layable, laid_within, laid_room, one_laid, all_laid}
+use Rattle.mapping.proofs.Laid.{Laying}
 use Rattle.mapping.proofs.ready.lay_values.Given as goal
 
 abbrev pub invariant-loop-k : goal.invariant-loop-k

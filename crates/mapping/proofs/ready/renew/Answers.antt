@@ -2,7 +2,6 @@
 use Prim.Native.Nat.{◌+◌}
 use native.Mathlib.Omega.{arith}
 use mathlib.Core.Path.{sym, ◌∙◌}
-use borrow.Author.Rules.{rules}
 use Rattle.rules_dictionary.specs.Table.{each_way}
 use Rattle.form.proofs.Holding.{held_length}
 use Rattle.form.proofs.OneForm.{plan_stands, ready_stands}

@@ -1,10 +1,7 @@
-use Prim.Native.Nat.{◌-◌}
 use native.Mathlib.Omega.{arith}
 use mathlib.Core.Path.{sym, ◌∙◌}
-use borrow.Author.Rules.{rules}
-use Rattle.rules_dictionary.specs.Table.{each_way}
 use Rattle.form.proofs.Holding.{held_length}
-use Rattle.mapping.proofs.Renewed.{Renewing, none_renewed, own_yet, fits_yet, one_renewed, all_renewed}
+use Rattle.mapping.proofs.Renewed.{none_renewed, own_yet, fits_yet, one_renewed, all_renewed}
 use Rattle.mapping.proofs.ready.renew_all.Goals as goal
 
 pub loop-t-init : goal.loop-t-init

@@ -1,11 +1,7 @@
 -- `mapping::ready::renew_all` meets its contract: so many ready frames are worked again. Assumes nothing.
 use Prim.Native.Nat.{◌-◌}
-use native.Mathlib.Omega.{arith}
-use mathlib.Core.Path.{sym, ◌∙◌}
-use borrow.Author.Rules.{rules}
 use Rattle.rules_dictionary.specs.Table.{each_way}
-use Rattle.form.proofs.Holding.{held_length}
-use Rattle.mapping.proofs.Renewed.{Renewing, none_renewed, own_yet, fits_yet, one_renewed, all_renewed}
+use Rattle.mapping.proofs.Renewed.{Renewing}
 use Rattle.mapping.proofs.ready.renew_all.Given as goal
 
 abbrev pub invariant-loop-t : goal.invariant-loop-t

@@ -1,14 +1,10 @@
 -- `mapping::received::are_legal` meets its contract: those left are legal in the bytes left as all are in all. Assumes nothing.
 use Prim.Native.Nat.{◌+◌, ◌-◌, ◌≤◌}
-use native.Mathlib.Omega.{arith}
-use mathlib.Core.Path.{◌≡◌, sym, ◌∙◌}
-use borrow.Author.Rules.{rules}
-use borrow.Author.Tests.{not-true, not-false}
+use mathlib.Core.Path.{◌≡◌}
 use lib.ListN.{drop}
 use Rattle.form.specs.Form.{plan_in}
 use Rattle.mapping.specs.Received.{moves_of, sizes, moves_legal}
-use Rattle.mapping.proofs.Steps.{left_at, Reached, plan_is, begun, none_legal, further, move_fits, size_step, legal_step}
-use Rattle.mapping.proofs.ArrayBytes.{array_bytes}
+use Rattle.mapping.proofs.Steps.{left_at, Reached}
 use Rattle.mapping.proofs.received.are_legal.Given as goal
 
 abbrev pub invariant-loop-k : goal.invariant-loop-k

@@ -1,5 +1,4 @@
 -- `mapping::received::is_legal` meets its contract. Assumes nothing.
-use borrow.Author.Rules.{rules}
 use borrow.Author.Tests.{ne_eqb}
 use Rattle.rules_dictionary.specs.Table.{open_table}
 use Rattle.mapping.proofs.received.is_legal.Goals as goal

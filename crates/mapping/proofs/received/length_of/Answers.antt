@@ -1,10 +1,5 @@
-use Prim.Native.Nat.{◌+◌, ◌-◌}
 use native.Mathlib.Omega.{arith}
-use mathlib.Core.Path.{◌≡◌}
-use borrow.Author.Rules.{rules}
-use Rattle.form.specs.Form.{plan_in}
-use Rattle.mapping.specs.Received.{moves_of, sizes}
-use Rattle.mapping.proofs.Steps.{left_at, Reached, plan_is, begun, none_left, further, size_step}
+use Rattle.mapping.proofs.Steps.{plan_is, begun, none_left, further, size_step}
 use Rattle.mapping.proofs.received.length_of.Goals as goal
 
 pub overflow_cast-count-2 : goal.overflow_cast-count-2

@@ -1,11 +1,9 @@
 -- `mapping::received::length_of` meets its contract: what is counted and what is left are all the bytes. Assumes nothing.
 use Prim.Native.Nat.{◌+◌, ◌-◌}
-use native.Mathlib.Omega.{arith}
 use mathlib.Core.Path.{◌≡◌}
-use borrow.Author.Rules.{rules}
 use Rattle.form.specs.Form.{plan_in}
 use Rattle.mapping.specs.Received.{moves_of, sizes}
-use Rattle.mapping.proofs.Steps.{left_at, Reached, plan_is, begun, none_left, further, size_step}
+use Rattle.mapping.proofs.Steps.{left_at, Reached}
 use Rattle.mapping.proofs.received.length_of.Given as goal
 
 abbrev pub invariant-loop-k : goal.invariant-loop-k

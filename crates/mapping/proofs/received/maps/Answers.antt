@@ -1,11 +1,7 @@
-use Prim.Native.Nat.{◌-◌}
 use native.Mathlib.Omega.{arith}
-use mathlib.Core.Path.{◌≡◌, sym, ◌∙◌}
-use borrow.Author.Rules.{rules}
+use mathlib.Core.Path.{sym, ◌∙◌}
 use borrow.Author.Tests.{eq-eqb, ne_eqb}
-use Rattle.form.specs.Form.{plan_in}
-use Rattle.mapping.specs.Received.{moves_of, has_place}
-use Rattle.mapping.proofs.Steps.{left_at, Reached, plan_is, begun, none_left, further, place_step}
+use Rattle.mapping.proofs.Steps.{plan_is, begun, none_left, further, place_step}
 use Rattle.mapping.proofs.received.maps.Goals as goal
 
 pub overflow_cast-count-2 : goal.overflow_cast-count-2

@@ -1,12 +1,9 @@
 -- `mapping::received::maps` meets its contract: what is left has the place or all have not. Assumes nothing.
 use Prim.Native.Nat.{◌-◌}
-use native.Mathlib.Omega.{arith}
-use mathlib.Core.Path.{◌≡◌, sym, ◌∙◌}
-use borrow.Author.Rules.{rules}
-use borrow.Author.Tests.{eq-eqb, ne_eqb}
+use mathlib.Core.Path.{◌≡◌}
 use Rattle.form.specs.Form.{plan_in}
 use Rattle.mapping.specs.Received.{moves_of, has_place}
-use Rattle.mapping.proofs.Steps.{left_at, Reached, plan_is, begun, none_left, further, place_step}
+use Rattle.mapping.proofs.Steps.{left_at, Reached}
 use Rattle.mapping.proofs.received.maps.Given as goal
 
 abbrev pub invariant-loop-k : goal.invariant-loop-k

@@ -1,13 +1,7 @@
-use Prim.Native.Nat.{◌+◌, ◌-◌, ◌≤◌}
 use native.Mathlib.Omega.{arith}
-use mathlib.Core.Path.{◌≡◌, sym, ◌∙◌}
-use borrow.Author.Rules.{rules}
-use lib.ListN.{length, drop}
+use mathlib.Core.Path.{sym, ◌∙◌}
 use lib.Seq.{length-sets}
-use Rattle.rules_dictionary.specs.Table.{dictionary_length}
-use Rattle.form.specs.Form.{plan_in}
-use Rattle.mapping.specs.Received.{moves_of, sizes, stored_moves}
-use Rattle.mapping.proofs.Steps.{left_at, Reached, plan_is, begun, none_stored, further, move_fits, size_step, store_step}
+use Rattle.mapping.proofs.Steps.{plan_is, begun, none_stored, further, move_fits, size_step, store_step}
 use Rattle.mapping.proofs.received.store_values.Goals as goal
 
 pub overflow_cast-count-2 : goal.overflow_cast-count-2

@@ -1,14 +1,11 @@
 -- `mapping::received::store_values` meets its contract: storing what is left is storing all. Assumes nothing.
 use Prim.Native.Nat.{◌+◌, ◌-◌, ◌≤◌}
-use native.Mathlib.Omega.{arith}
-use mathlib.Core.Path.{◌≡◌, sym, ◌∙◌}
-use borrow.Author.Rules.{rules}
+use mathlib.Core.Path.{◌≡◌}
 use lib.ListN.{length, drop}
-use lib.Seq.{length-sets}
 use Rattle.rules_dictionary.specs.Table.{dictionary_length}
 use Rattle.form.specs.Form.{plan_in}
 use Rattle.mapping.specs.Received.{moves_of, sizes, stored_moves}
-use Rattle.mapping.proofs.Steps.{left_at, Reached, plan_is, begun, none_stored, further, move_fits, size_step, store_step}
+use Rattle.mapping.proofs.Steps.{left_at, Reached}
 use Rattle.mapping.proofs.received.store_values.Given as goal
 
 abbrev pub invariant-loop-k : goal.invariant-loop-k

@@ -1,5 +1,4 @@
 -- `mapping::words::kept_word` meets its contract. Assumes nothing.
-use borrow.Author.Rules.{rules}
 use Rattle.mapping.proofs.words.kept_word.Goals as goal
 
 pub returns-then-transmit : goal.returns-then-transmit

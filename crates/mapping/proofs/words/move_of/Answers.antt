@@ -1,6 +1,5 @@
 -- `mapping::words::move_of` meets its contract. Assumes nothing.
 use mathlib.Core.Path.{ap, ◌∙◌}
-use borrow.Author.Rules.{rules}
 use Rattle.form.specs.Form.{move_of}
 use Rattle.mapping.specs.Words.{way_of}
 use Rattle.mapping.proofs.Keeping.{kept}

@@ -2,7 +2,6 @@
 use Prim.Native.Nat.{◌%◌, ◌^◌}
 use mathlib.Core.Path.{◌≡◌}
 use native.Mathlib.Omega.{arith}
-use borrow.Author.Rules.{rules}
 use borrow.Author.Tests.{ne_eqb}
 use Rattle.rules_dictionary.specs.Table.{open_table}
 use Rattle.mapping.specs.Words.{named, word_move, kept_word}

@@ -3,7 +3,6 @@ use mathlib.Core.Path.{◌∙◌, ap}
 use native.Mathlib.Omega.{arith}
 use lib.Dec.{ltb}
 use Rattle.mapping.proofs.Validity.{not_valid, valid}
-use borrow.Author.Rules.{rules}
 use Rattle.mapping.proofs.working.is_open.Goals as goal
 
 pub returns-then-identifier-ge-INVALID : goal.returns-then-identifier-ge-INVALID

@@ -3,7 +3,6 @@ use borrow.Author.Tests.{ne_eqb}
 use Rattle.rules_services.specs.Nmt.{command_of, commanded, left, voltage_disabled}
 use Rattle.form.specs.Form.{state_of}
 use Rattle.nmt.proofs.Commanding.{operational, restated}
-use borrow.Author.Rules.{rules}
 use Rattle.nmt.proofs.commands.command.Goals as goal
 
 pub returns-then-is_pre_operational : goal.returns-then-is_pre_operational

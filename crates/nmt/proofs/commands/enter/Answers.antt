@@ -1,6 +1,5 @@
 -- `nmt::commands::enter` meets its contract. Assumes nothing.
 use Rattle.form.proofs.Holding.{held_state}
-use borrow.Author.Rules.{rules}
 use Rattle.nmt.proofs.commands.enter.Goals as goal
 
 pub returns : goal.returns

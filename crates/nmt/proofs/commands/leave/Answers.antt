@@ -1,5 +1,4 @@
 -- `nmt::commands::leave` meets its contract. Assumes nothing.
-use borrow.Author.Rules.{rules}
 use Rattle.nmt.proofs.commands.leave.Goals as goal
 
 pub returns : goal.returns

@@ -5,7 +5,6 @@ use mathlib.Core.List.{[]}
 use Rattle.form.specs.Form.{state_of}
 use Rattle.output.proofs.Left.{left_as, calm_said, resting}
 use Rattle.nmt.proofs.Commanding.{by_data}
-use borrow.Author.Rules.{rules}
 use Rattle.nmt.proofs.commands.nmt_frame.Goals as goal
 
 pub returns-then-is_for_node : goal.returns-then-is_for_node

@@ -8,7 +8,6 @@ use Rattle.rules_services.specs.Nmt.{heartbeat, tick}
 use Rattle.rules.specs.Outcome.{sent_into}
 use Rattle.form.specs.Form.{state_of}
 use Rattle.nmt.proofs.Commanding.{counted}
-use borrow.Author.Rules.{rules}
 use Rattle.nmt.proofs.heartbeats.tick.Goals as goal
 
 pub returns-then-period-eq0 : goal.returns-then-period-eq0

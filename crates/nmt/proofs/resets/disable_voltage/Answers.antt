@@ -1,7 +1,6 @@
 -- `nmt::resets::disable_voltage` meets its contract. Assumes nothing.
 use Rattle.rules_services.specs.Nmt.{voltage_disabled}
 use Rattle.form.proofs.Holding.{held_state}
-use borrow.Author.Rules.{rules}
 use Rattle.nmt.proofs.resets.disable_voltage.Goals as goal
 
 pub returns : goal.returns

@@ -1,6 +1,5 @@
 -- `nmt::resets::renew` meets its contract. Assumes nothing.
 use Rattle.rules_services.specs.Nmt.{fresh_state}
-use borrow.Author.Rules.{rules}
 use Rattle.nmt.proofs.resets.renew.Goals as goal
 
 pub returns : goal.returns

@@ -4,7 +4,6 @@ use Rattle.rules_services.specs.Nmt.{commanded, left, voltage_disabled}
 use Rattle.form.specs.Form.{state_of}
 use Rattle.output.proofs.Left.{loud}
 use Rattle.nmt.proofs.Commanding.{set_back}
-use borrow.Author.Rules.{rules}
 use Rattle.nmt.proofs.resets.reset_communication.Goals as goal
 
 pub write_communication_defaults-requires : goal.write_communication_defaults-requires

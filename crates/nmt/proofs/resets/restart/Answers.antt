@@ -2,7 +2,6 @@
 use Rattle.rules_services.specs.Nmt.{commanded}
 use Rattle.form.specs.Form.{state_of}
 use Rattle.nmt.proofs.Commanding.{started}
-use borrow.Author.Rules.{rules}
 use Rattle.nmt.proofs.resets.restart.Goals as goal
 
 pub start-requires : goal.start-requires

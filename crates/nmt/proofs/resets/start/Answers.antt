@@ -1,6 +1,5 @@
 -- `nmt::resets::start` meets its contract. Assumes nothing.
 use Rattle.nmt.proofs.Commanding.{starts}
-use borrow.Author.Rules.{rules}
 use Rattle.nmt.proofs.resets.start.Goals as goal
 
 pub returns : goal.returns

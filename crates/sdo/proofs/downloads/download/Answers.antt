@@ -1,5 +1,4 @@
 -- By what the look-up found. Assumes nothing.
-use borrow.Author.Rules.{rules}
 use Rattle.rules_services.specs.Sdo.{download, with_reply, downloads, abort, reply}
 use Rattle.sdo.specs.Requests.{is_written}
 use Rattle.sdo.proofs.Downloading.{looked_up}

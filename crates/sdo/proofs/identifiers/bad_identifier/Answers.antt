@@ -1,6 +1,4 @@
 -- The tests of the rules, in the order of the code. Assumes nothing.
-use borrow.Author.Rules.{rules}
-use borrow.Author.Tests.{not-true, not-false}
 use Rattle.sdo.proofs.Names.{in_order}
 use Rattle.sdo.proofs.identifiers.bad_identifier.Goals as goal
 

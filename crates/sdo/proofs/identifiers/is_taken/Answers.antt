@@ -1,11 +1,8 @@
 use borrow.Author.Rules.{rules}
-use Prim.Native.Nat.{◌-◌, ◌*◌, ◌≤◌}
+use Prim.Native.Nat.{◌*◌}
 use mathlib.Core.Path.{◌≡◌, refl, sym, ◌∙◌}
 use native.Mathlib.Omega.{arith}
-use lib.ListN.{drop}
-use Rattle.rules_dictionary.specs.Numbers.{any}
-use Rattle.rules_dictionary.specs.Table.{each_way, pdos}
-use Rattle.rules_dictionary.specs.Legal.{identifiers, clashes}
+use Rattle.rules_dictionary.specs.Table.{each_way}
 use Rattle.sdo.proofs.Names.{next_pdo}
 use Rattle.sdo.proofs.identifiers.is_taken.Goals as goal
 

@@ -1,13 +1,10 @@
 -- What the PDOs from here on tell is what all eight tell. Assumes nothing.
-use borrow.Author.Rules.{rules}
 use Prim.Native.Nat.{◌-◌, ◌*◌, ◌≤◌}
-use mathlib.Core.Path.{◌≡◌, refl, sym, ◌∙◌}
-use native.Mathlib.Omega.{arith}
+use mathlib.Core.Path.{◌≡◌}
 use lib.ListN.{drop}
 use Rattle.rules_dictionary.specs.Numbers.{any}
 use Rattle.rules_dictionary.specs.Table.{each_way, pdos}
 use Rattle.rules_dictionary.specs.Legal.{identifiers, clashes}
-use Rattle.sdo.proofs.Names.{next_pdo}
 use Rattle.sdo.proofs.identifiers.is_taken.Given as goal
 
 abbrev pub invariant-loop-q : goal.invariant-loop-q

@@ -1,5 +1,4 @@
 -- By what its callees promise. Assumes nothing.
-use borrow.Author.Rules.{rules}
 use Rattle.sdo.proofs.identifiers.takes.Goals as goal
 
 pub returns : goal.returns

@@ -1,5 +1,4 @@
 -- By what the look-up found. Assumes nothing.
-use borrow.Author.Rules.{rules}
 use Rattle.sdo.proofs.mappings.unnamed_verdict.Goals as goal
 
 pub returns-in-Listed : goal.returns-in-Listed

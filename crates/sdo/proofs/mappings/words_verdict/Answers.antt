@@ -1,12 +1,8 @@
-use Prim.Native.Nat.{◌+◌, ◌-◌, ◌*◌, ◌≤◌}
 use mathlib.Core.Path.{◌≡◌, sym, ◌∙◌, ap}
 use native.Mathlib.Omega.{arith}
-use mathlib.Core.Logic.{◌⊎◌, inl, inr, ⊎_elim}
-use Rattle.rules_dictionary.specs.Table.{most_moves}
-use Rattle.rules_dictionary.specs.Legal.{count_verdict}
-use Rattle.mapping.specs.Slots.{words_from}
-use Rattle.sdo.specs.Verdicts.{verdict_code, words_verdict}
-use Rattle.sdo.proofs.Maps.{left, at_first, at_zero, at-word, over, fitting}
+use mathlib.Core.Logic.{inl, inr}
+use Rattle.sdo.specs.Verdicts.{verdict_code}
+use Rattle.sdo.proofs.Maps.{at_first, at_zero, at-word, over, fitting}
 use borrow.Author.Rules.{rules}
 use Rattle.sdo.proofs.mappings.words_verdict.Goals.{then-n-lt-MOST_WORDS, else-n-lt-MOST_WORDS}
 use Rattle.sdo.proofs.mappings.words_verdict.Goals as goal

@@ -1,15 +1,13 @@
 -- The verdict on the words from here on, with the bits before them, is the one on them all.
 -- Assumes nothing.
 use Prim.Native.Nat.{◌+◌, ◌-◌, ◌*◌, ◌≤◌}
-use mathlib.Core.Path.{◌≡◌, sym, ◌∙◌, ap}
-use native.Mathlib.Omega.{arith}
-use mathlib.Core.Logic.{◌⊎◌, inl, inr, ⊎_elim}
+use mathlib.Core.Path.{◌≡◌}
+use mathlib.Core.Logic.{◌⊎◌}
 use Rattle.rules_dictionary.specs.Table.{most_moves}
 use Rattle.rules_dictionary.specs.Legal.{count_verdict}
 use Rattle.mapping.specs.Slots.{words_from}
-use Rattle.sdo.specs.Verdicts.{verdict_code, words_verdict}
-use Rattle.sdo.proofs.Maps.{left, at_first, at_zero, at-word, over, fitting}
-use borrow.Author.Rules.{rules}
+use Rattle.sdo.specs.Verdicts.{words_verdict}
+use Rattle.sdo.proofs.Maps.{left}
 use Rattle.sdo.proofs.mappings.words_verdict.Given as goal
 
 abbrev pub invariant-loop-k : goal.invariant-loop-k

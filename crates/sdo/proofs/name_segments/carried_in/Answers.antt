@@ -1,5 +1,4 @@
 -- By what is left of the name. Assumes nothing.
-use borrow.Author.Rules.{rules}
 use Prim.Native.Nat.{suc, ◌*◌, ◌<◌, ◌≤◌}
 use native.Mathlib.Omega.{arith}
 use borrow.Author.Tests.{leb-true, leb-false}

@@ -1,5 +1,4 @@
 -- By the toggle, and whether it is the last. Assumes nothing.
-use borrow.Author.Rules.{rules}
 use Prim.Native.Nat.{suc, ◌*◌, ◌<◌}
 use native.Mathlib.Omega.{arith}
 use mathlib.Core.Path.{sym, ◌∙◌}

@@ -1,5 +1,4 @@
 -- By the transfer that runs. Assumes nothing.
-use borrow.Author.Rules.{rules}
 use mathlib.Core.Path.{sym, ◌∙◌}
 use Rattle.form.specs.Form.{state_of}
 use Rattle.sdo.proofs.Transfers.{asked_of_none, asked_of_name, asked_of_download}

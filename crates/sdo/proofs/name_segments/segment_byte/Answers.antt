@@ -1,5 +1,4 @@
 -- By its parts. Assumes nothing.
-use borrow.Author.Rules.{rules}
 use native.Mathlib.Omega.{arith}
 use Rattle.sdo.proofs.Parts.{flag_most}
 use Rattle.sdo.proofs.name_segments.segment_byte.Goals as goal

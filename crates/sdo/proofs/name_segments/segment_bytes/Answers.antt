@@ -1,5 +1,4 @@
 -- The command byte, and seven characters of the name. Assumes nothing.
-use borrow.Author.Rules.{rules}
 use Prim.Native.Nat.{◌*◌}
 use Rattle.rules_dictionary.specs.DeviceName.{device_name}
 use Rattle.rules_services.specs.Segments.{segment_size, segment_byte}

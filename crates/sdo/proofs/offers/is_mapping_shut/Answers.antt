@@ -1,5 +1,4 @@
 -- By what its callees promise. Assumes nothing.
-use borrow.Author.Rules.{rules}
 use Rattle.sdo.proofs.offers.is_mapping_shut.Goals as goal
 
 pub returns : goal.returns

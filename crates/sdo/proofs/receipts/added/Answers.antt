@@ -1,5 +1,4 @@
 -- Field by field. Assumes nothing.
-use borrow.Author.Rules.{rules}
 use Rattle.sdo.proofs.receipts.added.Goals as goal
 
 pub returns : goal.returns

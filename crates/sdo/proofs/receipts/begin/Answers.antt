@@ -1,5 +1,4 @@
 -- What is said, and the transfer that runs. Assumes nothing.
-use borrow.Author.Rules.{rules}
 use Rattle.rules_services.specs.Sdo.{reply}
 use Rattle.rules_services.specs.Segments.{download_begun}
 use Rattle.sdo.proofs.receipts.begin.Goals as goal

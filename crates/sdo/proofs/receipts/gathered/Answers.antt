@@ -1,7 +1,7 @@
 use borrow.Author.Rules.{rules}
-use Prim.Native.Nat.{◌-◌, ◌≤◌}
+use Prim.Native.Nat.{◌≤◌}
 use mathlib.Core.Path.{◌≡◌, refl, sym, ◌∙◌}
-use lib.ListN.{length, drop, drop_of_length-le}
+use lib.ListN.{length, drop_of_length-le}
 use Rattle.rules_services.specs.Sdo.{request_length}
 use Rattle.rules_services.specs.Segments.{carried, gathered}
 use Rattle.sdo.proofs.Parts.{carried_length, carried_at, gathered_next}

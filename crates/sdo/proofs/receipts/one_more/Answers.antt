@@ -1,5 +1,4 @@
 -- By whether there are too many. Assumes nothing.
-use borrow.Author.Rules.{rules}
 use borrow.Author.Tests.{lt-ltb, le-ltb}
 use native.Mathlib.Numerals.{add-one}
 use Rattle.rules_services.specs.Segments.{too_many}

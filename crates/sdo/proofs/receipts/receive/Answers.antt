@@ -1,5 +1,4 @@
 -- By the toggle, and whether it is the last. Assumes nothing.
-use borrow.Author.Rules.{rules}
 use native.Mathlib.Omega.{arith}
 use mathlib.Core.Path.{refl, sym, ◌∙◌}
 use Rattle.rules_services.specs.Sdo.{reply}

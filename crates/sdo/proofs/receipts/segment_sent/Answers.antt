@@ -1,5 +1,4 @@
 -- By the transfer that runs. Assumes nothing.
-use borrow.Author.Rules.{rules}
 use mathlib.Core.Path.{sym, ◌∙◌}
 use Rattle.rules_dictionary.specs.Numbers.{bytes}
 use Rattle.form.specs.Form.{state_of}

@@ -1,5 +1,4 @@
 -- By its bytes. Assumes nothing.
-use borrow.Author.Rules.{rules}
 use Rattle.sdo.proofs.replies.abort.Goals as goal
 
 pub returns : goal.returns

@@ -1,5 +1,4 @@
 -- The transfer put, and the rest said. Assumes nothing.
-use borrow.Author.Rules.{rules}
 use Rattle.sdo.proofs.Answering.{spoken}
 use Rattle.sdo.proofs.replies.answer.Goals as goal
 

@@ -1,5 +1,4 @@
 -- What is said, and nothing done. Assumes nothing.
-use borrow.Author.Rules.{rules}
 use Rattle.sdo.proofs.replies.say_alone.Goals as goal
 
 pub returns : goal.returns

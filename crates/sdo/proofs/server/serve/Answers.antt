@@ -1,5 +1,4 @@
 -- By the command. Assumes nothing.
-use borrow.Author.Rules.{rules}
 use mathlib.Core.Path.{refl}
 use Rattle.rules_services.specs.Sdo.{abort, reply}
 use Rattle.rules_services.specs.SdoServer.{sdo, asked}

@@ -1,5 +1,4 @@
 -- By what the look-up found. Assumes nothing.
-use borrow.Author.Rules.{rules}
 use Rattle.rules_services.specs.Sdo.{abort, reply}
 use Rattle.rules_services.specs.Segments.{name_asked}
 use Rattle.rules_services.specs.SdoServer.{uploads}

@@ -1,5 +1,4 @@
 -- The value of the row, read where it stands. Assumes nothing.
-use borrow.Author.Rules.{rules}
 use Rattle.rules_services.specs.Sdo.{reply}
 use Rattle.rules_services.specs.SdoServer.{uploads}
 use Rattle.dictionary.specs.Lines.{entry_in}

@@ -1,6 +1,5 @@
 -- `tpdo::pacing::acyclic` meets its contract. Assumes nothing.
 use mathlib.Core.Path.{◌∙◌}
-use borrow.Author.Rules.{rules}
 use Rattle.rules_services.specs.PdoTraffic.{acyclic}
 use Rattle.tpdo.proofs.pacing.acyclic.Goals as goal
 

@@ -4,9 +4,8 @@ use mathlib.Core.Path.{◌≡◌, ◌∙◌}
 use mathlib.Core.Bool.{true, false}
 use native.Mathlib.Omega.{arith}
 use native.Mathlib.Numerals.{add-one}
-use borrow.Author.Tests.{not-true, not-false, eq-eqb, ne_eqb}
+use borrow.Author.Tests.{eq-eqb, ne_eqb}
 use Rattle.rules_services.specs.PdoTraffic.{cyclic}
-use borrow.Author.Rules.{rules}
 use Rattle.tpdo.proofs.pacing.cyclic.Goals as goal
 
 pub returns-then-not-synced : goal.returns-then-not-synced

@@ -1,7 +1,5 @@
 -- `tpdo::pacing::pace` meets its contract. Assumes nothing.
 use mathlib.Core.Path.{sym, ◌∙◌}
-use borrow.Author.Tests.{not-true, not-false}
-use borrow.Author.Rules.{rules}
 use Rattle.tpdo.specs.Sending.{open_pace}
 use Rattle.tpdo.proofs.pacing.pace.Goals as goal
 

@@ -4,7 +4,6 @@ use mathlib.Core.Bool.{or-true, or-false}
 use native.Mathlib.Omega.{arith}
 use borrow.Author.Tests.{le-leb, lt-leb, eq-eqb, ne_eqb}
 use Rattle.rules_services.specs.PdoTraffic.{pace_of, event_driven}
-use borrow.Author.Rules.{rules}
 use Rattle.tpdo.proofs.pacing.pace_of.Goals as goal
 
 pub returns-then-kind-gt-LAST_SYNCHRONOUS : goal.returns-then-kind-gt-LAST_SYNCHRONOUS

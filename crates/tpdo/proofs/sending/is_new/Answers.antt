@@ -1,5 +1,4 @@
 -- `tpdo::sending::is_new` meets its contract. Assumes nothing.
-use borrow.Author.Rules.{rules}
 use Rattle.tpdo.proofs.sending.is_new.Goals as goal
 
 pub returns-else-not-was : goal.returns-else-not-was

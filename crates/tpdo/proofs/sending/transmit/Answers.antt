@@ -1,6 +1,4 @@
 -- `tpdo::sending::transmit` meets its contract. Assumes nothing.
-use borrow.Author.Tests.{not-true, not-false}
-use borrow.Author.Rules.{rules}
 use Rattle.tpdo.proofs.OnePdo.{unsent, sent}
 use Rattle.tpdo.proofs.sending.transmit.Goals as goal
 

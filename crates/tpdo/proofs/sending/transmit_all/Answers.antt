@@ -1,15 +1,13 @@
 use Prim.Native.Nat.{◌-◌, ◌*◌, ◌≤◌}
-use mathlib.Core.Path.{◌≡◌, refl, sym, ◌∙◌}
-use mathlib.Core.Logic.{⊎_elim}
+use mathlib.Core.Path.{refl, sym, ◌∙◌}
 use lib.ListN.{length, length-take, length-drop}
 use native.Mathlib.Omega.{arith}
 use borrow.Author.Rules.{rules}
 use Rattle.state.specs.declared.NmtState.TheVariants.{Operational}
-use Rattle.rules_dictionary.specs.Table.{each_way}
 use Rattle.rules.specs.Outcome.{frame_size}
 use Rattle.form.specs.Form.{state_of}
 use Rattle.output.proofs.Frames.{lent_back}
-use Rattle.tpdo.proofs.Rounds.{operational, one_at_most, count_below, ready_data, ready_default, Reached, none_yet, one_more}
+use Rattle.tpdo.proofs.Rounds.{operational, one_at_most, count_below, ready_data, ready_default, none_yet, one_more}
 use Rattle.tpdo.proofs.Rounds.{in_operational, Over, all_done, at_rest}
 use Rattle.tpdo.proofs.sending.transmit_all.Goals.{then-is_operational+else-loop-t-test, else-is_operational}
 use Rattle.tpdo.proofs.sending.transmit_all.Goals as goal

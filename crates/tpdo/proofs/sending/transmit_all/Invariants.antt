@@ -1,18 +1,10 @@
 -- The invariant: what is left to do from transmit PDO t on is what was to do at the start, less what is done.
 -- Assumes nothing.
-use Prim.Native.Nat.{◌-◌, ◌*◌, ◌≤◌}
-use mathlib.Core.Path.{◌≡◌, refl, sym, ◌∙◌}
-use mathlib.Core.Logic.{⊎_elim}
-use lib.ListN.{length, length-take, length-drop}
-use native.Mathlib.Omega.{arith}
-use borrow.Author.Rules.{rules}
+use Prim.Native.Nat.{◌-◌}
 use Rattle.state.specs.declared.NmtState.TheVariants.{Operational}
 use Rattle.rules_dictionary.specs.Table.{each_way}
-use Rattle.rules.specs.Outcome.{frame_size}
 use Rattle.form.specs.Form.{state_of}
-use Rattle.output.proofs.Frames.{lent_back}
-use Rattle.tpdo.proofs.Rounds.{operational, one_at_most, count_below, ready_data, ready_default, Reached, none_yet, one_more}
-use Rattle.tpdo.proofs.Rounds.{in_operational, Over, all_done, at_rest}
+use Rattle.tpdo.proofs.Rounds.{Reached}
 use Rattle.tpdo.proofs.sending.transmit_all.Given as goal
 
 -- the loop runs in Operational alone

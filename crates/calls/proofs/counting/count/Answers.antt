@@ -1,0 +1,18 @@
+-- `calls::counting::count` meets its contract. Assumes nothing.
+use mathlib.Core.Path.{◌∙◌, ap}
+use mathlib.Core.Bool.{not, ◌&&◌}
+use borrow.Author.Rules.{rules}
+use Prim.Native.Nat.{ℕ}
+use lib.Dec.{eqb}
+use Rattle.form.specs.Form.{state_of}
+use Rattle.calls.proofs.Counted.{count_none}
+use Rattle.calls.proofs.counting.count.Goals as goal
+
+pub returns-then-before-ticked : goal.returns-then-before-ticked
+returns-then-before-ticked c =
+    let a = c.args in
+    count_none (state_of a.state.now) a.d.now a.ticked (rw c.read_stay-before.ensures at c.if-before-ticked.true) c.requires.0
+
+pub returns : goal.returns
+returns c =
+    rw c.counted-stay.ensures at (c.put_stay.ensures _ c.requires.0)

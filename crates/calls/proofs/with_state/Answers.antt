@@ -1,0 +1,6 @@
+-- `calls::with_state` meets its contract. Assumes nothing.
+use borrow.Author.Rules.{rules}
+use Rattle.calls.proofs.with_state.Goals as goal
+
+pub returns : goal.returns
+returns c = rw c.state_of.ensures
