@@ -137,6 +137,7 @@ one_by_one_apply {s = s} {d = d} (OneByOne.next h ws {e} may rest) k law =
 two_rows : {x y : Row} {u v : ℕ} → In x table → In y table → InTable (write x u ∷ write y v ∷ [])
 two_rows i j w here = i
 two_rows i j w (there here) = j
+two_rows {y = y} {u = u} {v = v} i j w (there (there x)) = elim x [ ]
 
 -- power-up, whatever the state was
 pub power_up_regular : (n : ℕ) (s : State) → Regular s (power_up n)

@@ -38,25 +38,21 @@ returns-then-bytes-gt-MOST_DATA c =
     (decides_not (frame_call a.identifier a.bytes.now) s a.d.now a.output.now refl (stands_lent k) BadFrame
     (too_long a.identifier a.bytes.now s a.d.now k.sound c.if-bytes-gt-MOST_DATA.true))
 
--- the frame's data, as the services take them
-carried : (c : goal.Else-bytes-gt-MOST_DATA) → let a = c.args in OnBus (pdo_data a.bytes.now)
-carried c =
-    let a = c.args in
-    on_bus a.bytes.now c.if-bytes-gt-MOST_DATA.false (are_bytes_lem a.bytes.now (λ i l. omega (arith, c.shared_slice_known-1.given i)))
-
 pub serve_frame-done-requires : goal.serve_frame-done-requires
-serve_frame-done-requires c =
-    let at = c.before.before.before.before.before.before in
-    (c.requires, subst OnBus (sym c.content_of.ensures) (carried (at)))
+serve_frame-done-requires c = (
+  c.requires,
+  subst OnBus (sym c.content_of.ensures)
+      (on_bus c.args.bytes.now c.if-bytes-gt-MOST_DATA.false (are_bytes_lem c.args.bytes.now (λ i l. omega (arith, c.type_inv.bytes i)))),
+)
 
 pub finish-requires : goal.finish-requires
 finish-requires c =
-    let short = c.before.before.before.before.before.before.before.before.before.before.before.before.before.before.before.before in
     let a = c.args in
     let s = state_of a.state.now in
     let k = c.requires.stands in
     let b : are_bytes a.d.now ≡ true = are_bytes_lem a.d.now (λ i l. omega (arith, c.slice_known-2-1.given i)) in
-    let on = subst OnBus (sym c.content_of.ensures) (carried short) in
+    let on = subst OnBus (sym c.content_of.ensures)
+    (on_bus c.args.bytes.now c.if-bytes-gt-MOST_DATA.false (are_bytes_lem c.args.bytes.now (λ i l. omega (arith, c.type_inv.bytes i)))) in
     let runs = runs_in a.state.now (λ i. omega (arith, c.slice_known-1.given i))
     (clauses s a.d.now k.sound).transfer in
     let serves = framed_serves Unit s a.d.now a.identifier (data_of c.content_of.result) (λ x. on.bytes) (λ x. runs)
@@ -67,12 +63,12 @@ finish-requires c =
 pub returns : goal.returns
 unfolding answered
 returns c =
-    let short = c.before.before.before.before.before.before.before.before.before.before.before.before.before.before.before.before.before.before.before.before.before.before.before.before in
     let a = c.args in
     let s = state_of a.state.now in
     let k = c.requires.stands in
     let b : are_bytes a.d.now ≡ true = are_bytes_lem a.d.now (λ i l. omega (arith, c.slice_known-2-1.given i)) in
-    let on = subst OnBus (sym c.content_of.ensures) (carried short) in
+    let on = subst OnBus (sym c.content_of.ensures)
+    (on_bus c.args.bytes.now c.if-bytes-gt-MOST_DATA.false (are_bytes_lem c.args.bytes.now (λ i l. omega (arith, c.type_inv.bytes i)))) in
     let runs = runs_in a.state.now (λ i. omega (arith, c.slice_known-1.given i))
     (clauses s a.d.now k.sound).transfer in
     let serves = framed_serves Unit s a.d.now a.identifier (data_of c.content_of.result) (λ x. on.bytes) (λ x. runs)

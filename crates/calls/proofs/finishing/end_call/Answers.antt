@@ -36,10 +36,10 @@ returns c =
     let written = rw (node, c.read_drive-drive.ensures) at s.1.0 in
     let may = may_ready p.0 p.1 _ made _ written s.1.1 in
     let r = c.renewed-changed.ensures in
-    let paces = c.read_paces.ensures ∙ ap (λ (t : State). t.axis.paces) (held_state r.0) in
-    let ready = ap (λ (t : State). t.axis.ready) (held_state r.0) in
-    let sent = rw (r.1, paces, node, ready) at c.transmit_all-sent.ensures in
-    ended made may.plans _ _ _ _ sent (c.put_paces.ensures _ r.0)
+    let paces = c.read_paces.ensures ∙ ap (λ (t : State). t.axis.paces) (held_state r.holds) in
+    let ready = ap (λ (t : State). t.axis.ready) (held_state r.holds) in
+    let sent = rw (r.value, paces, node, ready) at c.transmit_all-sent.ensures in
+    ended made may.plans _ _ _ _ sent (c.put_paces.ensures _ r.holds)
 
 pub read_paces-requires : goal.read_paces-requires
 read_paces-requires c = held_length c.renewed-changed.ensures.holds

@@ -18,8 +18,8 @@ pub returns-then-not-is_left : goal.returns-then-not-is_left
 returns-then-not-is_left c =
     let a = c.args in
     let left = c.is_left.ensures in
-    rests left.0
-    (still_left a.was (state_of a.state.now) a.done a.d.now (sym left.1 ∙ c.if-not-is_left.true) c.requires.rests)
+    rests left.holds_2
+    (still_left a.was (state_of a.state.now) a.done a.d.now (sym left.value ∙ c.if-not-is_left.true) c.requires.rests)
 
 pub anew-requires : goal.anew-requires
 anew-requires c =

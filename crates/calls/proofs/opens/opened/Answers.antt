@@ -8,10 +8,6 @@ use Rattle.calls.specs.Opening.{lending, holds_sound}
 use Rattle.calls.proofs.Refusals.{lengths, lent_well, opens_not, opens_by, held_by, held_not}
 use Rattle.calls.proofs.opens.opened.Goals as goal
 
--- what is lent is long enough
-clear : (c : goal.Else-lengths) → let a = c.args in (lending a.d.now a.output.now).refused ≡ false
-clear c = ap (λ (x : Opening). x.refused) (sym c.lent-lengths.ensures) ∙ c.if-lengths.false
-
 pub returns-then-lengths : goal.returns-then-lengths
 returns-then-lengths c =
     let a = c.args in
@@ -20,28 +16,36 @@ returns-then-lengths c =
 
 pub returns-then-state-ne-STATE_LENGTH : goal.returns-then-state-ne-STATE_LENGTH
 returns-then-state-ne-STATE_LENGTH c =
-    let k = c.before.before in
     let a = c.args in
-    c.refused.ensures ∙ opens_by a.d.now a.output.now (holds_sound a.state.now a.d.now) NotSound (clear k) false
+    -- what is lent is long enough
+    let clear : (lending a.d.now a.output.now).refused ≡ false =
+    ap (λ (x : Opening). x.refused) (sym c.lent-lengths.ensures) ∙ c.if-lengths.false in
+    c.refused.ensures ∙ opens_by a.d.now a.output.now (holds_sound a.state.now a.d.now) NotSound clear false
     (held_not a.state.now a.d.now c.if-state-ne-STATE_LENGTH.true)
 
 pub is_sound-requires : goal.is_sound-requires
 is_sound-requires c =
-    let k = c.before in
     let a = c.args in
-    (c.if-state-ne-STATE_LENGTH.false, (lengths a.d.now a.output.now (clear k)).0)
+    -- what is lent is long enough
+    let clear : (lending a.d.now a.output.now).refused ≡ false =
+    ap (λ (x : Opening). x.refused) (sym c.lent-lengths.ensures) ∙ c.if-lengths.false in
+    (c.if-state-ne-STATE_LENGTH.false, (lengths a.d.now a.output.now clear).0)
 
 pub returns-then-is_sound : goal.returns-then-is_sound
 returns-then-is_sound c =
-    let k = c.before.before.before in
     let a = c.args in
-    c.lent-lengths.ensures ∙ lent_well a.d.now a.output.now (clear k)
-    ∙ opens_by a.d.now a.output.now (holds_sound a.state.now a.d.now) NotSound (clear k) true
+    -- what is lent is long enough
+    let clear : (lending a.d.now a.output.now).refused ≡ false =
+    ap (λ (x : Opening). x.refused) (sym c.lent-lengths.ensures) ∙ c.if-lengths.false in
+    c.lent-lengths.ensures ∙ lent_well a.d.now a.output.now clear
+    ∙ opens_by a.d.now a.output.now (holds_sound a.state.now a.d.now) NotSound clear true
     (held_by a.state.now a.d.now c.if-state-ne-STATE_LENGTH.false ∙ sym c.is_sound.ensures ∙ c.if-is_sound.true)
 
 pub returns : goal.returns
 returns c =
-    let k = c.before.before.before.before in
     let a = c.args in
-    c.refused-2.ensures ∙ opens_by a.d.now a.output.now (holds_sound a.state.now a.d.now) NotSound (clear k) false
+    -- what is lent is long enough
+    let clear : (lending a.d.now a.output.now).refused ≡ false =
+    ap (λ (x : Opening). x.refused) (sym c.lent-lengths.ensures) ∙ c.if-lengths.false in
+    c.refused-2.ensures ∙ opens_by a.d.now a.output.now (holds_sound a.state.now a.d.now) NotSound clear false
     (held_by a.state.now a.d.now c.if-state-ne-STATE_LENGTH.false ∙ sym c.is_sound.ensures ∙ c.if-is_sound.false)

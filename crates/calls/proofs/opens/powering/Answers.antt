@@ -9,10 +9,6 @@ use Rattle.calls.specs.Opening.{lending}
 use Rattle.calls.proofs.Refusals.{lent_well, opens_not, opens_by, node_low, node_high, a_node_id}
 use Rattle.calls.proofs.opens.powering.Goals as goal
 
--- what is lent is long enough
-clear : (c : goal.Else-lengths) → let a = c.args in (lending a.d.now a.output.now).refused ≡ false
-clear c = ap (λ (x : Opening). x.refused) (sym c.lent-lengths.ensures) ∙ c.if-lengths.false
-
 pub returns-then-lengths : goal.returns-then-lengths
 returns-then-lengths c =
     let a = c.args in
@@ -21,19 +17,25 @@ returns-then-lengths c =
 
 pub returns-then-n-lt-FIRST_NODE : goal.returns-then-n-lt-FIRST_NODE
 returns-then-n-lt-FIRST_NODE c =
-    let k = c.before.before in
     let a = c.args in
-    c.refused.ensures ∙ opens_by a.d.now a.output.now (is_node_id a.n) NodeId (clear k) false (node_low a.n c.if-n-lt-FIRST_NODE.true)
+    -- what is lent is long enough
+    let clear : (lending a.d.now a.output.now).refused ≡ false =
+    ap (λ (x : Opening). x.refused) (sym c.lent-lengths.ensures) ∙ c.if-lengths.false in
+    c.refused.ensures ∙ opens_by a.d.now a.output.now (is_node_id a.n) NodeId clear false (node_low a.n c.if-n-lt-FIRST_NODE.true)
 
 pub returns-then-n-gt-LAST_NODE : goal.returns-then-n-gt-LAST_NODE
 returns-then-n-gt-LAST_NODE c =
-    let k = c.before.before.before in
     let a = c.args in
-    c.refused-then-n-gt-LAST_NODE.ensures ∙ opens_by a.d.now a.output.now (is_node_id a.n) NodeId (clear k) false (node_high a.n c.if-n-gt-LAST_NODE.true)
+    -- what is lent is long enough
+    let clear : (lending a.d.now a.output.now).refused ≡ false =
+    ap (λ (x : Opening). x.refused) (sym c.lent-lengths.ensures) ∙ c.if-lengths.false in
+    c.refused-then-n-gt-LAST_NODE.ensures ∙ opens_by a.d.now a.output.now (is_node_id a.n) NodeId clear false (node_high a.n c.if-n-gt-LAST_NODE.true)
 
 pub returns : goal.returns
 returns c =
-    let k = c.before.before in
     let a = c.args in
-    c.lent-lengths.ensures ∙ lent_well a.d.now a.output.now (clear k)
-    ∙ opens_by a.d.now a.output.now (is_node_id a.n) NodeId (clear k) true (a_node_id a.n c.if-n-lt-FIRST_NODE.false c.if-n-gt-LAST_NODE.false)
+    -- what is lent is long enough
+    let clear : (lending a.d.now a.output.now).refused ≡ false =
+    ap (λ (x : Opening). x.refused) (sym c.lent-lengths.ensures) ∙ c.if-lengths.false in
+    c.lent-lengths.ensures ∙ lent_well a.d.now a.output.now clear
+    ∙ opens_by a.d.now a.output.now (is_node_id a.n) NodeId clear true (a_node_id a.n c.if-n-lt-FIRST_NODE.false c.if-n-gt-LAST_NODE.false)
