@@ -17,7 +17,7 @@ use Rattle.rules_dictionary.proofs.Tests.{and_left, get_or_in, below}
 use Rattle.state.specs.declared.State.{State}
 use Rattle.state.specs.NmtStates.{is_operational}
 use Rattle.rules_services.specs.Effects.{Effect, Frame}
-use Rattle.rules_services.specs.PdoTraffic.{works, idle}
+use Rattle.rules_services.specs.PdoTraffic.{works}
 use Rattle.rules.specs.Outcome.{End, ended, settled, status_of, pace_for, enters_operational, changes, transmissions, transmitters}
 use Rattle.rules.specs.Outcome.{frame_size, sent_into}
 use Rattle.rules.specs.Calls.{accepted}

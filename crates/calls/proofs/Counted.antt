@@ -4,7 +4,7 @@ use Prim.Native.Nat.{ℕ, suc}
 use native.Mathlib.Omega.{arith}
 use mathlib.Core.Path.{◌≡◌, refl, sym, ◌∙◌, ap, subst}
 use mathlib.Core.Bool.{Bool, true, false, cond, not, ◌&&◌, ◌||◌, or-false, true≢false}
-use mathlib.Core.List.{List, []}
+use mathlib.Core.List.{List}
 use borrow.Author.Tests.{eqb-true, eqb-false, eq-eqb, ne_eqb, leb-true, leb-false, not-true}
 use lib.Dec.{eqb, leb, ltb}
 use Rattle.rules_dictionary.specs.declared.Mode.{Mode}
@@ -25,7 +25,7 @@ use Rattle.form.specs.Form.{state_of}
 use Rattle.form.specs.Holding.{Holds}
 use Rattle.form.proofs.Holding.{held_state, held_length}
 use Rattle.output.specs.declared.Done.{Done}
-use Rattle.calls.specs.Ending.{settled_by, end_with, end_of, Still, counted_in, with_ticks, comes, left_by, MayEnd, MayRest}
+use Rattle.calls.specs.Ending.{settled_by, end_with, Still, counted_in, with_ticks, comes, left_by, MayEnd, MayRest}
 
 -- ---- the count, by what the code tests
 

@@ -8,6 +8,7 @@ use mathlib.Core.Bool.{true}
 use mathlib.Core.List.{List, [], ◌∷◌}
 use borrow.Author.Tests.{eq-eqb}
 use denote.Ref.{Bor}
+use denote.MutBor.{MutBor}
 use Rattle.state.specs.declared.State.{State}
 use Rattle.state.specs.declared.Refusal.{Refusal}
 use Rattle.state.specs.declared.Refusal.TheVariants.{Accepted, DictionaryLength, OutputLength, NodeId, NotSound, BadFrame, BadEvent, OutOfPlace}
@@ -107,7 +108,7 @@ module _ (a : Stand) (kept : Kept a) where
   is_given_lem c =
       let long = length_form a.state (kept_typed a kept) in
       let own = a_form (form a.state) long (is_form_form a.state (kept_typed a kept)) in
-      elim c [ power_up_call n ↦ eq-eqb _ state_length long | frame_call i xs ↦ own | event_call i xs ↦ own | load_call f ↦ own ]
+      elim c as (λ (x : Call). is_given x (form a.state) ≡ true) [ power_up_call n ↦ eq-eqb _ state_length long | frame_call i xs ↦ own | event_call i xs ↦ own | load_call f ↦ own ]
 
   -- by the call's own contract
   lent_left : (c : Call) (o : List ℕ) {b b' : Buffers} {number : ℕ} {out : List ℕ} → Hold b a →
@@ -293,6 +294,9 @@ never_unsound_in_c c k number out b o call e = sure k.call k.output (answers_in_
 lent : List ℕ → Bor (List ℕ)
 lent bs = record { ref_ptr = (0, 0); now = bs }
 
+lent_to_write : List ℕ → MutBor (List ℕ)
+lent_to_write bs = record { ref_ptr = (0, 0); ghost_name = 0; now = bs }
+
 module _ (b : Buffers) (o : List ℕ) where
   abbrev answer_to : Call → Left
   answer_to (power_up_call n) = lent_answer (power_up_call n) b.state b.dictionary o
@@ -304,23 +308,23 @@ module _ (b : Buffers) (o : List ℕ) where
   allowed : (c : Call) →
       Called (record { call = c; output = o }) b (answer_to c).status (answer_to c).output
       (record { state = (answer_to c).state; dictionary = (answer_to c).dictionary })
-  unfolding lent
+  unfolding lent lent_to_write
   allowed (power_up_call n) =
       let c = power_up_call n in
-      powers ([], ([], ([], tt))) (lent b.state) (lent b.dictionary) (lent o) n (answer_to c).status (lent (answer_to c).state)
-      (lent (answer_to c).dictionary) (lent (answer_to c).output) refl
+      powers ([], ([], ([], tt))) (lent_to_write b.state) (lent_to_write b.dictionary) (lent_to_write o) n (answer_to c).status (lent_to_write (answer_to c).state)
+      (lent_to_write (answer_to c).dictionary) (lent_to_write (answer_to c).output) refl
   allowed (frame_call i xs) =
       let c = frame_call i xs in
-      frames ([], ([], ([], ([], tt)))) (lent b.state) (lent b.dictionary) (lent o) i (lent xs) (answer_to c).status (lent (answer_to c).state)
-      (lent (answer_to c).dictionary) (lent (answer_to c).output) refl
+      frames ([], ([], ([], ([], tt)))) (lent_to_write b.state) (lent_to_write b.dictionary) (lent_to_write o) i (lent xs) (answer_to c).status (lent_to_write (answer_to c).state)
+      (lent_to_write (answer_to c).dictionary) (lent_to_write (answer_to c).output) refl
   allowed (event_call i xs) =
       let c = event_call i xs in
-      events ([], ([], ([], ([], tt)))) (lent b.state) (lent b.dictionary) (lent o) i (lent xs) (answer_to c).status (lent (answer_to c).state)
-      (lent (answer_to c).dictionary) (lent (answer_to c).output) refl
+      events ([], ([], ([], ([], tt)))) (lent_to_write b.state) (lent_to_write b.dictionary) (lent_to_write o) i (lent xs) (answer_to c).status (lent_to_write (answer_to c).state)
+      (lent_to_write (answer_to c).dictionary) (lent_to_write (answer_to c).output) refl
   allowed (load_call f) =
       let c = load_call f in
-      loads ([], ([], ([], tt))) (lent b.state) (lent b.dictionary) (lent f) o (answer_to c).status (lent (answer_to c).state)
-      (lent (answer_to c).dictionary) refl
+      loads ([], ([], ([], tt))) (lent_to_write b.state) (lent_to_write b.dictionary) (lent f) o (answer_to c).status (lent_to_write (answer_to c).state)
+      (lent_to_write (answer_to c).dictionary) refl
 
 some_trace : (ks : List Step) (b : Buffers) → (c : Buffers) × Trace b ks c
 some_trace [] b = (b, ends)

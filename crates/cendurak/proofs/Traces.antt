@@ -12,6 +12,7 @@ use mathlib.Core.Bool.{true}
 use mathlib.Core.List.{List, [], ◌∷◌}
 use contract.Lifetimes.{Lfts}
 use denote.Ref.{Bor}
+use denote.MutBor.{MutBor}
 use Rattle.state.specs.declared.Refusal.TheVariants.{Accepted, NotSound}
 use Rattle.rules_services.specs.Nmt.{boot_up}
 use Rattle.rules.specs.Outcome.{sent_into}
@@ -32,20 +33,20 @@ use Rattle.cendurak.proofs.cendurak_load.Reads as load
 -- `Called k b number out b'`: what is called, and with which output (k); the state's and the dictionary's bytes before it (b); the number
 -- returned; the output's bytes, and those of the two buffers (b'), after it
 pub data Called : Step → Buffers → ℕ → List ℕ → Buffers → Type 0 where
-  powers : (κs : Lfts 3) (state dict out : Bor (List ℕ)) (n number : ℕ) (state' dict' out' : Bor (List ℕ)) →
+  powers : (κs : Lfts 3) (state dict out : MutBor (List ℕ)) (n number : ℕ) (state' dict' out' : MutBor (List ℕ)) →
       power_up_lem.Post κs (state, (dict, (out, (n, tt)))) number (state', (dict', (out', (n, tt)))) →
       Called (record { call = power_up_call n; output = out.now }) (record { state = state.now; dictionary = dict.now })
       number out'.now (record { state = state'.now; dictionary = dict'.now })
-  frames : (κs : Lfts 4) (state dict out : Bor (List ℕ)) (identifier : ℕ) (bytes : Bor (List ℕ)) (number : ℕ) (state' dict' out' : Bor (List ℕ)) →
+  frames : (κs : Lfts 4) (state dict out : MutBor (List ℕ)) (identifier : ℕ) (bytes : Bor (List ℕ)) (number : ℕ) (state' dict' out' : MutBor (List ℕ)) →
       frame.Post κs (state, (dict, (out, (identifier, (bytes, tt))))) number (state', (dict', (out', (identifier, (bytes, tt))))) →
       Called (record { call = frame_call identifier bytes.now; output = out.now }) (record { state = state.now; dictionary = dict.now })
       number out'.now (record { state = state'.now; dictionary = dict'.now })
-  events : (κs : Lfts 4) (state dict out : Bor (List ℕ)) (event_number : ℕ) (arguments : Bor (List ℕ)) (number : ℕ)
-      (state' dict' out' : Bor (List ℕ)) →
+  events : (κs : Lfts 4) (state dict out : MutBor (List ℕ)) (event_number : ℕ) (arguments : Bor (List ℕ)) (number : ℕ)
+      (state' dict' out' : MutBor (List ℕ)) →
       event.Post κs (state, (dict, (out, (event_number, (arguments, tt))))) number (state', (dict', (out', (event_number, (arguments, tt))))) →
       Called (record { call = event_call event_number arguments.now; output = out.now }) (record { state = state.now; dictionary = dict.now })
       number out'.now (record { state = state'.now; dictionary = dict'.now })
-  loads : (κs : Lfts 3) (state dict file : Bor (List ℕ)) (out : List ℕ) (number : ℕ) (state' dict' : Bor (List ℕ)) →
+  loads : (κs : Lfts 3) (state dict : MutBor (List ℕ)) (file : Bor (List ℕ)) (out : List ℕ) (number : ℕ) (state' dict' : MutBor (List ℕ)) →
       load.Post κs (state, (dict, (file, tt))) number (state', (dict', (file, tt))) →
       Called (record { call = load_call file.now; output = out }) (record { state = state.now; dictionary = dict.now })
       number out (record { state = state'.now; dictionary = dict'.now })

@@ -74,7 +74,7 @@ many_pairs f P h (x ∷ xs) (y ∷ ys) k = more (h x y (and_left (f x y) _ k)) (
 -- ---- plans and ready frames, as worked afresh
 
 size_small : (t : ValueType) → size t < 256
-size_small t = elim t [ u8 ↦ lit< tt | u16 ↦ lit< tt | u32 ↦ lit< tt | i8 ↦ lit< tt | i32 ↦ lit< tt ]
+size_small t = elim t as (λ (x : ValueType). size x < 256) [ u8 ↦ lit< tt | u16 ↦ lit< tt | u32 ↦ lit< tt | i8 ↦ lit< tt | i32 ↦ lit< tt ]
 
 short : dictionary_length < half
 unfolding dictionary_length table

@@ -1,8 +1,3 @@
-use Prim.Native.Nat.{◌-◌, ◌≤◌}
-use mathlib.Core.Path.{◌≡◌}
-use lib.ListN.{length, take}
-use Rattle.rules_dictionary.specs.Numbers.{padded}
-use Rattle.rules.specs.Outcome.{most_data}
 use Rattle.calls.proofs.Telling.{none_taken, next_taken, all_taken}
 use borrow.Author.Rules.{rules}
 use Rattle.calls.proofs.content_of.Goals as goal

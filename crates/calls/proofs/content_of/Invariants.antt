@@ -4,8 +4,6 @@ use mathlib.Core.Path.{◌≡◌}
 use lib.ListN.{length, take}
 use Rattle.rules_dictionary.specs.Numbers.{padded}
 use Rattle.rules.specs.Outcome.{most_data}
-use Rattle.calls.proofs.Telling.{none_taken, next_taken, all_taken}
-use borrow.Author.Rules.{rules}
 use Rattle.calls.proofs.content_of.Given as goal
 
 abbrev pub invariant-loop-i : goal.invariant-loop-i

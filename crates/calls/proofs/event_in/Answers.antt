@@ -2,7 +2,6 @@
 use native.Mathlib.Omega.{arith}
 use mathlib.Core.Path.{◌≡◌, refl, sym, ◌∙◌, subst}
 use mathlib.Core.Bool.{true}
-use borrow.Author.Tests.{not-true, not-false}
 use Rattle.state.specs.declared.Refusal.TheVariants.{BadEvent, OutOfPlace}
 use Rattle.rules_dictionary.specs.Numbers.{are_bytes}
 use Rattle.rules.specs.Calls.{event_call, answered}
@@ -14,7 +13,6 @@ use Rattle.calls.proofs.Refusals.{stands_lent, decides, decides_not, bad_told, o
 use Rattle.calls.proofs.Serving.{lent_frame}
 use Rattle.calls.proofs.Concluding.{may_finish, concludes}
 use Rattle.calls.proofs.Answered.{refused_answers, given_answers}
-use borrow.Author.Rules.{rules}
 use Rattle.calls.proofs.event_in.Goals as goal
 
 pub returns-then-not-is_in_place : goal.returns-then-not-is_in_place

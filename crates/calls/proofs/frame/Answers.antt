@@ -12,7 +12,6 @@ use Rattle.calls.specs.Opening.{opening_of}
 use Rattle.calls.specs.Answers.{outcome}
 use Rattle.calls.proofs.Refusals.{not_opened, opens_form, opened_in, unsound_frame}
 use Rattle.calls.proofs.Answered.{answers_by, owned}
-use borrow.Author.Rules.{rules}
 use Rattle.calls.proofs.frame.Goals as goal
 
 pub returns-then-opening : goal.returns-then-opening

@@ -4,7 +4,6 @@ use mathlib.Core.Path.{◌≡◌, refl, sym, ◌∙◌, ap, subst}
 use mathlib.Core.Bool.{true}
 use Rattle.state.specs.declared.Refusal.TheVariants.{BadFrame}
 use Rattle.rules_dictionary.specs.Numbers.{are_bytes}
-use Rattle.rules_dictionary.specs.Plans.{pdo_data}
 use Rattle.rules.specs.Outcome.{ended}
 use Rattle.rules.specs.Calls.{frame_call, framed, does, accepted, answered}
 use Rattle.theorems.proofs.Lawful.{clauses, sound_lawful}
@@ -17,7 +16,6 @@ use Rattle.calls.proofs.Refusals.{stands_lent, decides, decides_not, no_identifi
 use Rattle.calls.proofs.Telling.{on_bus, data_back}
 use Rattle.calls.proofs.Concluding.{may_finish, concludes}
 use Rattle.calls.proofs.Answered.{refused_answers, given_answers}
-use borrow.Author.Rules.{rules}
 use Rattle.calls.proofs.frame_in.Goals as goal
 
 pub returns-then-identifier-gt-LAST_IDENTIFIER : goal.returns-then-identifier-gt-LAST_IDENTIFIER

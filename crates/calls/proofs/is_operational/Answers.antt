@@ -1,5 +1,4 @@
 -- `calls::is_operational` meets its contract. Assumes nothing.
-use borrow.Author.Rules.{rules}
 use Rattle.calls.proofs.is_operational.Goals as goal
 
 pub returns : goal.returns

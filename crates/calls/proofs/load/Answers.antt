@@ -13,7 +13,6 @@ use Rattle.calls.specs.Loads.{load_outcome}
 use Rattle.calls.proofs.Refusals.{loadable_in}
 use Rattle.calls.proofs.Answered.{owned}
 use Rattle.calls.proofs.Loading.{load_not_opened, load_answers_by}
-use borrow.Author.Rules.{rules}
 use Rattle.calls.proofs.load.Goals as goal
 
 pub returns-then-opening : goal.returns-then-opening

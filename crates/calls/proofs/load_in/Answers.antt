@@ -5,9 +5,8 @@ use mathlib.Core.Bool.{true}
 use Prim.Native.Nat.{ℕ}
 use mathlib.Core.List.{List}
 use lib.ListN.{replicate}
-use borrow.Author.Tests.{leb-true, not-true, not-false}
+use borrow.Author.Tests.{leb-true}
 use Rattle.rules.specs.Calls.{output_length}
-use borrow.Author.Rules.{rules}
 use Rattle.rules_dictionary.specs.Numbers.{are_bytes}
 use Rattle.mapping.proofs.Assembly.{are_bytes_lem}
 use Rattle.calls.proofs.Loading.{load_lent, refused_load_lem, load_finishes, load_concludes}

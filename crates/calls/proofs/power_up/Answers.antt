@@ -8,7 +8,6 @@ use Rattle.calls.specs.declared.Opening.{Opening}
 use Rattle.calls.specs.Answers.{outcome}
 use Rattle.calls.proofs.Refusals.{not_opened, no_node}
 use Rattle.calls.proofs.Answered.{answers_by}
-use borrow.Author.Rules.{rules}
 use Rattle.calls.proofs.power_up.Goals as goal
 
 pub returns-then-opening : goal.returns-then-opening

@@ -15,7 +15,6 @@ use Rattle.form.proofs.Holding.{held_state}
 use Rattle.calls.specs.Opening.{lending, powering}
 use Rattle.calls.proofs.Refusals.{lengths, passes_both, decides, node_between, a_node}
 use Rattle.calls.proofs.Anew.{all_written, gives_plans, starts_anew}
-use borrow.Author.Rules.{rules}
 use Rattle.calls.proofs.power_up_in.Goals as goal
 
 -- what nothing refuses: the lengths and the node-ID

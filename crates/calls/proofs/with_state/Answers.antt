@@ -1,5 +1,4 @@
 -- `calls::with_state` meets its contract. Assumes nothing.
-use borrow.Author.Rules.{rules}
 use Rattle.calls.proofs.with_state.Goals as goal
 
 pub returns : goal.returns

@@ -1,9 +1,4 @@
 -- `calls::counting::count` meets its contract. Assumes nothing.
-use mathlib.Core.Path.{◌∙◌, ap}
-use mathlib.Core.Bool.{not, ◌&&◌}
-use borrow.Author.Rules.{rules}
-use Prim.Native.Nat.{ℕ}
-use lib.Dec.{eqb}
 use Rattle.form.specs.Form.{state_of}
 use Rattle.calls.proofs.Counted.{count_none}
 use Rattle.calls.proofs.counting.count.Goals as goal

@@ -1,5 +1,4 @@
 -- `calls::counting::count_quietly` meets its contract. Assumes nothing.
-use borrow.Author.Rules.{rules}
 use Rattle.form.specs.Form.{state_of}
 use Rattle.calls.proofs.Counted.{count_same, count_some}
 use Rattle.calls.proofs.counting.count_quietly.Goals as goal

@@ -1,7 +1,5 @@
 -- `calls::counting::counted` meets its contract. Assumes nothing.
 use mathlib.Core.Path.{◌∙◌, sym, ap}
-use borrow.Author.Rules.{rules}
-use borrow.Author.Tests.{not-true, not-false}
 use Rattle.drive.specs.Window.{one_more}
 use Rattle.form.specs.Form.{state_of}
 use Rattle.calls.proofs.Counted.{counted_outside, counted_tick, counted_else}

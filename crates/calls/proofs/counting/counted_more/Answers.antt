@@ -1,6 +1,5 @@
 -- `calls::counting::counted_more` meets its contract. Assumes nothing.
 use mathlib.Core.Path.{◌∙◌, ap}
-use borrow.Author.Rules.{rules}
 use Rattle.drive.specs.Window.{one_more}
 use Rattle.form.specs.Form.{state_of}
 use Rattle.calls.proofs.Counted.{counted_more_lem}

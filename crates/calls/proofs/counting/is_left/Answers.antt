@@ -1,8 +1,7 @@
 -- `calls::counting::is_left` meets its contract. Assumes nothing.
 use mathlib.Core.Path.{◌∙◌, sym}
 use mathlib.Core.Bool.{true}
-use borrow.Author.Rules.{rules}
-use borrow.Author.Tests.{not-true, not-false}
+use borrow.Author.Tests.{not-false}
 use Rattle.form.specs.Form.{state_of}
 use Rattle.calls.proofs.Counted.{counted_ticks, counted_none}
 use Rattle.calls.proofs.counting.is_left.Goals as goal

@@ -4,7 +4,6 @@ use Rattle.state.specs.declared.State.{State}
 use Rattle.form.specs.Form.{state_of}
 use Rattle.form.proofs.Holding.{held_state}
 use Rattle.calls.proofs.Ends.{still_plannable}
-use borrow.Author.Rules.{rules}
 use Rattle.calls.proofs.finishing.anew.Goals as goal
 
 pub all_plans-requires : goal.all_plans-requires

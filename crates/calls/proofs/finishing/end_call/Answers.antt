@@ -3,7 +3,6 @@ use mathlib.Core.Path.{◌∙◌, ap}
 use Rattle.state.specs.declared.State.{State}
 use Rattle.form.proofs.Holding.{held_state, held_length}
 use Rattle.calls.proofs.Ends.{ended, may_ready, may_send}
-use borrow.Author.Rules.{rules}
 use Rattle.calls.proofs.finishing.end_call.Goals as goal
 
 pub renewed-changed-requires : goal.renewed-changed-requires

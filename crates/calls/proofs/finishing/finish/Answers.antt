@@ -1,7 +1,5 @@
 -- `calls::finishing::finish` meets its contract. Assumes nothing.
 use mathlib.Core.Path.{◌∙◌, sym}
-use borrow.Author.Rules.{rules}
-use borrow.Author.Tests.{not-true}
 use Rattle.form.specs.Form.{state_of}
 use Rattle.form.proofs.Holding.{held_state}
 use Rattle.calls.proofs.Counted.{still_left, may_end_counted}

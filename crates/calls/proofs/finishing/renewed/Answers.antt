@@ -1,6 +1,5 @@
 -- `calls::finishing::renewed` meets its contract. Assumes nothing.
 use mathlib.Core.Path.{sym}
-use borrow.Author.Rules.{rules}
 use Rattle.calls.proofs.Calm.{none_change}
 use Rattle.calls.proofs.finishing.renewed.Goals as goal
 

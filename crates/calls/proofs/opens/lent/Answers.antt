@@ -1,6 +1,5 @@
 -- `calls::opens::lent` meets its contract. Assumes nothing.
 use mathlib.Core.Path.{◌∙◌}
-use borrow.Author.Rules.{rules}
 use Rattle.rules_dictionary.specs.Table.{table, dictionary_length}
 use Rattle.calls.proofs.Refusals.{other_length, no_room, well_lent}
 use Rattle.calls.proofs.opens.lent.Goals as goal

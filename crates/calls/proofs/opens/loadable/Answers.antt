@@ -1,7 +1,6 @@
 -- `calls::opens::loadable` meets its contract. Assumes nothing.
 use mathlib.Core.Path.{sym, ◌∙◌}
 use mathlib.Core.Bool.{true, false}
-use borrow.Author.Rules.{rules}
 use Rattle.rules_dictionary.specs.Table.{table, dictionary_length}
 use Rattle.calls.proofs.Refusals.{load_other_length, load_opens_by, held_by, held_not}
 use Rattle.calls.proofs.opens.loadable.Goals as goal

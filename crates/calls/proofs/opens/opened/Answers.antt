@@ -1,7 +1,6 @@
 -- `calls::opens::opened` meets its contract. Assumes nothing.
 use mathlib.Core.Path.{◌≡◌, sym, ◌∙◌, ap}
 use mathlib.Core.Bool.{true, false}
-use borrow.Author.Rules.{rules}
 use Rattle.state.specs.declared.Refusal.TheVariants.{NotSound}
 use Rattle.calls.specs.declared.Opening.{Opening}
 use Rattle.calls.specs.Opening.{lending, holds_sound}

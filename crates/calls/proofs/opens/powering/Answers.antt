@@ -1,7 +1,6 @@
 -- `calls::opens::powering` meets its contract. Assumes nothing.
 use mathlib.Core.Path.{◌≡◌, sym, ◌∙◌, ap}
 use mathlib.Core.Bool.{true, false}
-use borrow.Author.Rules.{rules}
 use Rattle.state.specs.declared.Refusal.TheVariants.{NodeId}
 use Rattle.rules_dictionary.specs.TheNode.{is_node_id}
 use Rattle.calls.specs.declared.Opening.{Opening}

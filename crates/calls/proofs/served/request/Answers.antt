@@ -5,7 +5,6 @@ use Rattle.state.specs.NmtStates.{is_stopped}
 use Rattle.form.specs.Form.{state_of}
 use Rattle.rpdo.proofs.Leaving.{renamed, left_still}
 use Rattle.calls.proofs.Serving.{lent_all, request_served, request_stopped, request_short}
-use borrow.Author.Rules.{rules}
 use Rattle.calls.proofs.served.request.Goals as goal
 
 pub returns-then-is_stopped : goal.returns-then-is_stopped

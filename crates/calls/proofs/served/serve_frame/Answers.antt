@@ -2,7 +2,6 @@
 use Rattle.form.specs.Form.{state_of}
 use Rattle.rpdo.proofs.Leaving.{renamed}
 use Rattle.calls.proofs.Serving.{commandable, framed_nmt, framed_serviced}
-use borrow.Author.Rules.{rules}
 use Rattle.calls.proofs.served.serve_frame.Goals as goal
 
 pub returns-then-identifier-eq-NMT : goal.returns-then-identifier-eq-NMT

@@ -6,7 +6,6 @@ use Rattle.rules_services.specs.Sdo.{request_base}
 use Rattle.form.specs.Form.{state_of}
 use Rattle.rpdo.proofs.Leaving.{renamed}
 use Rattle.calls.proofs.Serving.{kept, serviced_sync, serviced_request, serviced_received, sync_is}
-use borrow.Author.Rules.{rules}
 use Rattle.calls.proofs.served.service.Goals as goal
 
 pub returns-then-identifier-eq-SYNC : goal.returns-then-identifier-eq-SYNC

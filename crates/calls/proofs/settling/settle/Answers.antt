@@ -1,16 +1,13 @@
 -- `calls::settling::settle` meets its contract. Assumes nothing.
 use mathlib.Core.Path.{◌≡◌, sym, ◌∙◌, ap}
 use mathlib.Core.Bool.{true, false}
-use mathlib.Core.Logic.{⊎_elim}
 use native.Mathlib.Omega.{arith}
-use borrow.Author.Tests.{eqb-true, eqb-false}
 use Rattle.rules_dictionary.specs.Numbers.{are_bytes}
 use Rattle.rules_dictionary.specs.Table.{mode_display}
 use Rattle.rules_dictionary.specs.Values.{store}
 use Rattle.mapping.proofs.Assembly.{are_bytes_lem}
 use Rattle.calls.specs.Ending.{status_by, is_settled}
 use Rattle.calls.proofs.StatusMade.{both_written, both_stand, settled_both, unsettled_word, unsettled_display}
-use borrow.Author.Rules.{rules}
 use Rattle.calls.proofs.settling.settle.Goals.{else-status_word-word-via-then-status_word-word+else-mode_display-shown}
 use Rattle.calls.proofs.settling.settle.Goals.{else-status_word-word-via-else-status_word-word}
 use Rattle.calls.proofs.settling.settle.Goals as goal
