@@ -7,8 +7,8 @@ use crate::lines::{INPUT_LENGTH, TEXT_LENGTH, put_answer, put_record};
 use crate::records::{BAD, BAD_RECORD, HEAD, serve};
 use dictionary::places::DICTIONARY_LENGTH;
 use form::layout::STATE_LENGTH;
-use libc::{STDIN_FILENO, STDOUT_FILENO};
 use output::OUTPUT_LENGTH;
+use std::io::{Read, Write};
 
 // Between two batches: how many bytes of a record that is not whole yet stand at the input's start, the next record's number, and whether
 // there is no next batch.
@@ -72,13 +72,15 @@ fn gather(
 }
 
 // One read, behind the bytes that are kept: how many there are then. No more where the input ends or cannot be read.
-fn read_more(input: &mut [u8], kept: usize) -> usize
+fn read_more(reader: &mut impl Read, input: &mut [u8], kept: usize) -> usize
     requires { kept ≤ length input.old }
     ensures { (kept ≤ result) × (result ≤ length input.old) }
 {
     let room = &mut input[kept..];
-    let got = libc::read(STDIN_FILENO, room);
-    kept + io::count(got, room)
+    match reader.read(room) {
+        Ok(count) => kept + count,
+        Err(_) => kept,
+    }
 }
 
 // Brings the bytes from one place to another to the input's start: how many they are.
@@ -97,11 +99,11 @@ fn keep(input: &mut [u8; INPUT_LENGTH], from: usize, to: usize) -> usize
 }
 
 // Writes a text that ends there. False where it cannot be written.
-fn write_text(text: &[u8; TEXT_LENGTH], end: usize) -> bool
+fn write_text(writer: &mut impl Write, text: &[u8; TEXT_LENGTH], end: usize) -> bool
     requires { end ≤ text_length }
 {
     let whole = &text[..];
-    io::write_all(STDOUT_FILENO, &whole[0..end])
+    writer.write_all(&whole[0..end]).is_ok()
 }
 
 // Where there is no next batch.
@@ -116,18 +118,25 @@ fn over() -> Place
 }
 
 // The input's end: a record that it cuts is a bad one.
-fn finish(text: &mut [u8; TEXT_LENGTH], dictionary: &[u8; DICTIONARY_LENGTH], place: Place) -> Place
+fn finish(
+    writer: &mut impl Write,
+    text: &mut [u8; TEXT_LENGTH],
+    dictionary: &[u8; DICTIONARY_LENGTH],
+    place: Place,
+) -> Place
     ensures { result.kept ≤ input_length }
 {
     if place.kept != 0 {
         let end = put_record(text, 0, place.number, BAD, dictionary);
-        write_text(text, end);
+        write_text(writer, text, end);
     }
     over()
 }
 
 // One batch, from its read to the lines of its records. There is no next where the input ends, a record is bad or lines cannot be written.
 pub fn batch(
+    reader: &mut impl Read,
+    writer: &mut impl Write,
     input: &mut [u8; INPUT_LENGTH],
     text: &mut [u8; TEXT_LENGTH],
     state: &mut [u8; STATE_LENGTH],
@@ -139,12 +148,12 @@ pub fn batch(
     ensures { result.kept ≤ input_length }
 {
     let kept = place.kept;
-    let filled = read_more(input, kept);
+    let filled = read_more(reader, input, kept);
     if filled == kept {
-        return finish(text, dictionary, place);
+        return finish(writer, text, dictionary, place);
     }
     let gathered = gather(input, filled, text, state, dictionary, output, place.number);
-    if !write_text(text, gathered.end) {
+    if !write_text(writer, text, gathered.end) {
         return over();
     }
     let rest = keep(input, gathered.taken, filled);

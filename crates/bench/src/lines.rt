@@ -4,11 +4,9 @@ ghost use Rattle.std.specs.Prelude.{◌≡◌, ◌+◌, ◌*◌, ◌≤◌, ◌<
 ghost use Rattle.rules.specs.Outcome.{frame_size, most_frames};
 ghost use Rattle.bench.specs.Text.{most_digits, longest_record, longest_frame, longest_answer, text_length};
 
+use crate::decimal::{MOST_DIGITS, decimal_digits};
 use dictionary::places::{DICTIONARY_LENGTH, STATUS_WORD};
 use output::{DATA, FRAME_LENGTH, LENGTH, MOST_FRAMES, OUTPUT_LENGTH};
-
-// The digits of a decimal number, at most.
-const MOST_DIGITS: usize = 20;
 
 // What the input holds at most between two reads.
 pub const INPUT_LENGTH: usize = 4096;
@@ -76,7 +74,7 @@ fn put_decimal(text: &mut [u8; TEXT_LENGTH], at: usize, number: u64) -> usize
     ensures { (at ≤ result) × (result ≤ at + most_digits) }
 {
     let mut digits = [0u8; MOST_DIGITS];
-    let count = io::decimal(number, &mut digits);
+    let count = decimal_digits(number, &mut digits);
     put_digits(text, at, &digits, count)
 }
 

@@ -1,9 +1,10 @@
 // The bench program of document 01: records from standard input to the node, its answers as lines on standard output.
-// What is read and written is libc's; every call of the node is one of crate cendurak. docs/BENCH.md says how to use it.
+// What is read and written is std's, with no buffer between; every call of the node is one of crate cendurak. docs/BENCH.md says how to use it.
 
 #![tactic(auto)]
 
 mod batches; // what one read brings
+mod decimal; // a number's decimal digits
 mod lines; // the lines of an answer
 mod records; // one record
 
@@ -14,7 +15,9 @@ use lines::{INPUT_LENGTH, TEXT_LENGTH};
 use output::OUTPUT_LENGTH;
 
 // Batch after batch. A loop has to end: this one counts down from a number that no input uses up.
-fn main() {
+fn main(rt: HostRuntime) {
+    let mut reader = rt.stdin();
+    let mut writer = rt.stdout();
     let mut state = [0u8; STATE_LENGTH];
     let mut dictionary = [0u8; DICTIONARY_LENGTH];
     let mut output = [0u8; OUTPUT_LENGTH];
@@ -28,6 +31,8 @@ fn main() {
     let mut left = u64::MAX;
     while left > 0 && !place.is_over {
         place = batch(
+            &mut reader,
+            &mut writer,
             &mut input,
             &mut text,
             &mut state,
