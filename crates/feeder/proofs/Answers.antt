@@ -85,7 +85,7 @@ module _ (u : Answer) (said : Spoken u) where
         inside = and_left asked _ fair.inside;
       } in
       let step : Steps u said ws v d one st w = values_step u said ws v d one st in
-      let rest = frames_go fs (acted ws v d) (stored ws d)
+      let rest = frames_go {done = done || w} {came = came || t} fs (acted ws v d) (stored ws d)
       (record {
         rows = λ vs i. fair.rows vs (there i);
         answers = and_right (all (is_answers u) ws) _ fair.answers;
@@ -424,7 +424,7 @@ module _ (u : Answer) (said : Spoken u) where
       let one = call_goes u said r k (first_call fair) orders.0 st in
       let on = further r k (first_call fair).octets in
       let rest = subst (CallsGo u (done || w) (came || x) ks) on.1
-      (calls_go on.0 ks (subst (FairCalls u ks) (sym on.1) (later_calls fair))
+      (calls_go {done = done || w} {came = came || x} on.0 ks (subst (FairCalls u ks) (sym on.1) (later_calls fair))
       (subst (λ (c : Stand). comes_first (came || x) (brought_in ks c) ≡ true) (sym on.1) orders.1)
       (subst (λ (c : Stand). Stage u (done || w) (came || x) c.state.axis.drive c.dictionary) (sym on.1) one.stage)) in
       let t = taken_by k a in

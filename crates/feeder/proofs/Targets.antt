@@ -7,13 +7,13 @@ use mir.Syntax.{w32}
 use mir.Val.{of_z, SFits}
 use mir.Facts.{to_z-of_z}
 use Rattle.theorems.proofs.Words.{ℕ, ◌<◌, ◌^◌, arith, ◌≡◌, refl, sym, ◌∙◌, ap, subst, true, false, false≢true, List, [], ◌∷◌, ◌++◌, map, length, In}
-use Rattle.theorems.proofs.Words.{here, Drive, Store, Empty, Rested, Moving, Queued, SetPoint, within, read_fits, and_left, and_right, whichever}
+use Rattle.theorems.proofs.Words.{Drive, Store, Empty, Rested, Moving, Queued, SetPoint, within, read_fits, and_left, and_right, whichever}
 use Rattle.theorems.proofs.Words.{leb-true}
 use Rattle.theorems.proofs.Dictionary.{minimum_in, maximum_in}
 use Rattle.drive.proofs.Raised.{word_small}
 use Rattle.rules_dictionary.specs.Table.{Row, table, size_of, dictionary_length, target_position, position, minimum_position, maximum_position, open_table}
 use Rattle.rules_dictionary.specs.Numbers.{are_bytes, bit, integer}
-use Rattle.rules_dictionary.specs.Values.{Write, read, store, stored}
+use Rattle.rules_dictionary.specs.Values.{Write, read, stored}
 use Rattle.drive.specs.SetPoints.{relative_bit, is_queued, behind, last_target, target, within_limits, set_point}
 use Rattle.theorems.specs.Promises.{points}
 use Rattle.theorems.specs.PromisesOfDrive.{acted}

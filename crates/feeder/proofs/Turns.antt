@@ -17,7 +17,7 @@ use Rattle.rules_dictionary.specs.Table.{status_word, control_word}
 use Rattle.rules_dictionary.specs.Numbers.{any, bit}
 use Rattle.rules_dictionary.specs.Values.{read}
 use Rattle.drive.specs.SetPoints.{new_set_point_bit, is_queued, is_empty}
-use Rattle.drive.specs.StatusWord.{ack_shown, status}
+use Rattle.drive.specs.StatusWord.{ack_shown}
 use Rattle.rules_services.specs.Written.{wrote}
 use Rattle.rules.specs.Outcome.{status_of}
 use Rattle.theorems.specs.Promises.{Step, Stand, left, after, AllOctets, Run, reached, held_at, reached_in, points}

@@ -12,7 +12,7 @@ use Rattle.theorems.proofs.Writes.{InTable}
 use Rattle.theorems.proofs.Settled.{control_in, mode_in}
 use Rattle.rules_dictionary.specs.Table.{same, dictionary_length, control_word, mode, target_position, open_table}
 use Rattle.rules_dictionary.specs.Numbers.{all, are_bytes, bit}
-use Rattle.rules_dictionary.specs.Values.{Write, read, store, stored}
+use Rattle.rules_dictionary.specs.Values.{Write, read, stored}
 use Rattle.rules_dictionary.specs.Legal.{mode_number}
 use Rattle.drive.specs.declared.Command.TheVariants.{Enable}
 use Rattle.drive.specs.declared.DriveState.TheVariants.{OperationEnabled}

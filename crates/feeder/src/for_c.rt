@@ -48,16 +48,14 @@ fn told(answer: Answer) -> u64
 }
 
 // Whether the list can be fed.
-#[unsafe(no_mangle)]
-pub extern "C" fn feeder_start(lengths: &[i32]) -> u32
+pub fn feeder_start(lengths: &[i32]) -> u32
     ensures { result ≡ refusal_number (started lengths.now) }
 {
     refusal_number(crate::start(lengths))
 }
 
 // A step from that position.
-#[unsafe(no_mangle)]
-pub extern "C" fn feeder_step(lengths: &[i32], position: u32, status: u32) -> u64
+pub fn feeder_step(lengths: &[i32], position: u32, status: u32) -> u64
     ensures { result ≡ told (step lengths.now (record { position = position }) status) }
 {
     let feeder = Feeder { position };

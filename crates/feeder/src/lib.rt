@@ -3,7 +3,7 @@
 
 #![tactic(auto)]
 
-mod for_c; // the exported calls, which include/feeder.h declares
+pub mod for_c; // the calls for C, which include/feeder.h declares and the crate feeder_c exports
 
 ghost use Rattle.std.specs.Prelude.{◌≡◌, ◌<◌};
 ghost use Rattle.rules_dictionary.specs.Numbers.{bit};
