@@ -1,6 +1,6 @@
-// The node for C: four exported calls on numbers and lent bytes. The state is lent as bytes of one length (crate form); each call
-// returns the refusal times 256 plus the number of frames, a load the refusal, the entry that failed and its abort code. None asks anything of its
-// caller; include/cendurak.h declares them.
+// The node for C: four calls on numbers and lent bytes. The state is lent as bytes of one length (crate form); each call returns the refusal
+// times 256 plus the number of frames, a load the refusal, the entry that failed and its abort code. None asks anything of its caller; crate
+// cendurak_c exports them, and include/cendurak.h declares them.
 
 #![tactic(auto)]
 
@@ -16,8 +16,7 @@ use form::layout::STATE_LENGTH;
 use state::Refusal;
 
 // Power-up as node n. The state's bytes may hold anything: they are written, and not read.
-#[unsafe(no_mangle)]
-pub extern "C" fn cendurak_power_up(
+pub fn cendurak_power_up(
     state: &mut [u8],
     dict: &mut [u8],
     out: &mut [u8],
@@ -39,8 +38,7 @@ pub extern "C" fn cendurak_power_up(
 }
 
 // One frame of the bus.
-#[unsafe(no_mangle)]
-pub extern "C" fn cendurak_frame(
+pub fn cendurak_frame(
     state: &mut [u8],
     dict: &mut [u8],
     out: &mut [u8],
@@ -60,8 +58,7 @@ pub extern "C" fn cendurak_frame(
 }
 
 // One event of the amplifier.
-#[unsafe(no_mangle)]
-pub extern "C" fn cendurak_event(
+pub fn cendurak_event(
     state: &mut [u8],
     dict: &mut [u8],
     out: &mut [u8],
@@ -81,8 +78,7 @@ pub extern "C" fn cendurak_event(
 }
 
 // The load of a file, which sends nothing: no output is lent.
-#[unsafe(no_mangle)]
-pub extern "C" fn cendurak_load(state: &mut [u8], dict: &mut [u8], file: &[u8]) -> u64
+pub fn cendurak_load(state: &mut [u8], dict: &mut [u8], file: &[u8]) -> u64
     ensures { load_left result state.new dict.new
         ≡ lent_load file.now state.old dict.old }
 {
