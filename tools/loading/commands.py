@@ -88,7 +88,7 @@ def add_write(kinds) -> None:
 
 
 def add_try(kinds) -> None:
-    after = ('The node is the compiled one, target/staticlib/libcendurak.a, which rt staticlib cendurak builds. What the file changes is\n'
+    after = ('The node is the compiled one, target/staticlib/libcendurak.a, which tools/build cendurak makes. What the file changes is\n'
              f'told by object, or why it is refused: which entry, its value, and the abort code in words.\n\n{VERDICT}')
     one = add(kinds, 'try', command_try, 'a file through the node, fresh from power-up', after)
     one.add_argument('file', metavar='FILE')

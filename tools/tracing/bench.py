@@ -17,8 +17,8 @@ C_RUN, C_BUILD = str(ROOT / 'tools' / 'c-run'), str(ROOT / 'tools' / 'c-build')
 BENCH = ROOT / 'target' / 'bin' / 'bench'
 LOADS, ARCHIVE = ROOT / 'tests' / 'c' / 'loads.c', ROOT / 'target' / 'staticlib' / 'libcendurak.a'
 NEEDS = """\
-the bench program, target/bin/bench, which rt check bench builds. Where a file is loaded the C calls are made instead, by
-the program of tests/c/loads.c: it needs target/staticlib/libcendurak.a, which rt staticlib cendurak builds."""
+the bench program, target/bin/bench, which tools/build bench makes. Where a file is loaded the C calls are made instead, by
+the program of tests/c/loads.c: it needs target/staticlib/libcendurak.a, which tools/build cendurak makes."""
 
 RECORD_LINE = re.compile(r'([0-9]+) ([0-9]|1[0-4]) ([0-9A-F]{4})')
 FRAME_LINE = re.compile(r'([0-9A-F]{3})((?: [0-9A-F]{2}){0,8})')
@@ -88,7 +88,7 @@ def program_for(has_loads: bool) -> Program:
     if has_loads:
         return Program([C_RUN, loads_program()], 'tests/c/loads.c')
     if not BENCH.is_file():
-        raise BadInput('target/bin/bench is not built; rt check bench builds it')
+        raise BadInput('target/bin/bench is not built; tools/build bench makes it')
     return Program([C_RUN, str(BENCH)], 'the bench program')
 
 
@@ -158,7 +158,7 @@ def room() -> tempfile.TemporaryDirectory:
 def loads_program() -> str:
     """The C program, compiled and linked with the node."""
     if not ARCHIVE.is_file():
-        raise BadInput('target/staticlib/libcendurak.a is not built, without which no file is loaded; rt staticlib cendurak builds it')
+        raise BadInput('target/staticlib/libcendurak.a is not built, without which no file is loaded; tools/build cendurak makes it')
     program = str(Path(room().name) / 'loads')
     built = subprocess.run([C_BUILD, program, str(LOADS)], capture_output=True)
     if built.returncode:
