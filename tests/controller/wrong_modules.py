@@ -31,10 +31,10 @@ define noundef i32 @exported(ptr noundef %a0, i64 noundef %a1, i8 noundef %a2) #
   ret i32 0
 }
 
-attributes #0 = { nounwind "probe-stack"="inline-asm" "target-cpu"="x86-64" }
+attributes #0 = { nounwind "probe-stack"="inline-asm" "stack-probe-size"="3072" "target-cpu"="x86-64-v2" }
 """
 MOVED = MODULE.replace("e-p:64:64", "e-p:32:32").replace("x86_64-unknown-linux-gnu", "thumbv7em-unknown-none-eabi").replace(
-    ' "probe-stack"="inline-asm" "target-cpu"="x86-64"', "")
+    ' "probe-stack"="inline-asm" "stack-probe-size"="3072" "target-cpu"="x86-64-v2"', "")
 
 # A line in place of another, and what must be said of it.
 X86 = "has what only x86-64 has, or what hangs on the width of a pointer"

@@ -1,6 +1,5 @@
 """The kit's programs; the library proved and built by it, and the LLVM module kept that its back end hands to clang."""
 import os
-import platform
 import shlex
 import shutil
 import subprocess
@@ -8,6 +7,7 @@ from pathlib import Path
 
 from . import Refused
 
+RT = ('rt', 'rtlib.py')
 # In place of the kit's clang while the library is built: it keeps what it is given, once, and goes on as the kit's. The back end runs it with
 # an empty environment, so where it keeps things stands in it.
 KEEPS = '''#!/bin/sh
@@ -20,9 +20,9 @@ exec {clang} "$@"
 '''
 
 
-def run(words, where=None, environment=None, remarks=False):
+def run(words, where=None, remarks=False):
     """What a command prints, or with `remarks` what it says beside it; where it fails, what it said against it."""
-    ended = subprocess.run([str(word) for word in words], cwd=where, env=environment, stdin=subprocess.DEVNULL, stdout=subprocess.PIPE,
+    ended = subprocess.run([str(word) for word in words], cwd=where, stdin=subprocess.DEVNULL, stdout=subprocess.PIPE,
                            stderr=subprocess.PIPE)
     if ended.returncode != 0:
         said = (ended.stdout + ended.stderr).decode(errors='replace').strip()
@@ -34,40 +34,38 @@ class Kit:
     def __init__(self):
         if not shutil.which('rt'):
             raise Refused('rt is missing: the Rattle kit has to be installed')
-        self.home = Path(run(['rt', 'doc']).decode().strip()).parent.parent
-        self.own = Path('on') / platform.machine()
-        self.bin = self.home / self.own / 'toolchain' / 'bin'
+        self.home = Path(run(['rt', 'doc']).decode().strip()).parent
+        self.bin = self.home / 'toolchain' / 'bin'
         self.clang, self.ar = self.bin / 'clang', self.bin / 'llvm-ar'
 
     def shadow(self, place, kept):
-        """The kit by links, but for a clang that keeps what it is given."""
-        def link(folder, besides):
-            (place / folder).mkdir(parents=True)
+        """The kit by links, but for a clang that keeps what it is given; and rt's own files, which take for the kit where they stand."""
+        for folder, own in {'.': ('bin', 'toolchain'), 'bin': RT, 'toolchain': ('bin',), 'toolchain/bin': ('clang',)}.items():
+            (place / folder).mkdir(parents=True, exist_ok=True)
             for path in (self.home / folder).iterdir():
-                if path.name != besides:
+                if path.name not in own:
                     (place / folder / path.name).symlink_to(path)
-
-        step = Path()
-        for name in [*self.own.parts, 'toolchain', 'bin', 'clang']:
-            link(step, name)
-            step = step / name
-        wrapper = place / step
+        for name in RT:
+            shutil.copy(self.home / 'bin' / name, place / 'bin' / name)
+        wrapper = place / 'toolchain/bin/clang'
         wrapper.write_text(KEEPS.format(kept=shlex.quote(str(kept)), clang=shlex.quote(str(self.clang))))
         wrapper.chmod(0o755)
 
     def build(self, root, library, kept):
-        """Proves the library and writes its archive, as `rt staticlib` does; the module and clang's words go to `kept`."""
-        shadow = kept.parent / 'kit'
-        for folder in (shadow, kept):
+        """Proves the library and writes its archive, as tools/build does, and builds it once more; the module and clang's words go to `kept`."""
+        aside = kept.parent / 'aside'  # what rt keeps beside a kit goes with it
+        shadow = aside / 'kit'
+        for folder in (aside, kept):
             shutil.rmtree(folder, ignore_errors=True)
         kept.mkdir(parents=True)
         self.shadow(shadow, kept)
         try:
-            said = run(['rt', 'staticlib', library], root, {**os.environ, 'RATTLE_HOME': str(shadow)}).decode()
+            run([root / 'tools/build', library])
+            said = run([shadow / 'bin/rt', 'lib'], root / 'crates' / f'{library}_c').decode()
         except Refused as refused:
             raise Refused(f'{library} is not proved and built: {refused}') from refused
         finally:
-            shutil.rmtree(shadow, ignore_errors=True)
+            shutil.rmtree(aside, ignore_errors=True)
         if not (kept / 'module.bc').is_file():
             raise Refused('the back end no longer hands clang a module.bc')
         words = (kept / 'words').read_text().replace(str(shadow), str(self.home))

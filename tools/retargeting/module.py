@@ -3,8 +3,8 @@ import re
 
 LAYOUT, TRIPLE, ATTRIBUTES = 'target datalayout = ', 'target triple = ', 'attributes #'
 
-# The attributes that name x86-64's processor and its way to probe the stack.
-OF_X86_64 = (' "probe-stack"="inline-asm"', ' "target-cpu"="x86-64"')
+# The attributes that name x86-64's processor and its way to probe the stack, with the step of that.
+OF_X86_64 = (' "probe-stack"="inline-asm"', ' "stack-probe-size"="3072"', ' "target-cpu"="x86-64-v2"')
 
 # What a line of code must not have, and the sentence that says so.
 FORBIDDEN = [
@@ -21,7 +21,7 @@ STRANGE_PARAMETER = re.compile(r'\bi1 |\bfloat\b|\bdouble\b')
 
 
 def retargeted(text, layout, triple):
-    """The text with another data layout and triple, and without x86-64's two attributes."""
+    """The text with another data layout and triple, and without x86-64's three attributes."""
     def line_for_target(line):
         if line.startswith(LAYOUT):
             return LAYOUT + layout
@@ -37,7 +37,7 @@ def retargeted(text, layout, triple):
 
 def changes_more(old, new):
     """Sentences: where the new text differs from the old one by anything but lines of the three kinds, one of layout and triple each, and of
-    the attributes nothing but the two of x86-64."""
+    the attributes nothing but the three of x86-64."""
     before, after = old.split('\n'), new.split('\n')
     if len(before) != len(after):
         return ['lines were added or taken away']
