@@ -1,7 +1,7 @@
 /*
  * The label feeder: a list of lengths, each fed once, as relative set-points of profile position, up to two ahead. It stands on the node's
  * promises alone and knows nothing of buses: at each step it is told the status word 6041h, and gives the control word 6040h and the target
- * 607Ah to be written. An archive of its own has it (`rt staticlib feeder`).
+ * 607Ah to be written. An archive of its own has it (`tools/build feeder`).
  *
  * Each call answers on every input and keeps nothing: the list is lent at each call, and what goes on from step to step is one position.
  * What a caller owes: a pointer and a count that belong together (a null pointer with count 0 is fine).

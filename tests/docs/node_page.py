@@ -87,11 +87,11 @@ LISTS = [
     Held("refusals", ("No.", "In C", "Of"), by_name, HEADER, enum_of("cendurak_refusal_number")),
     Held("events", ("No.", "In C", "Arguments"), by_name, HEADER, enum_of("cendurak_event_number")),
     Held("the feeder's refusals", ("No.", "In C", "Given when"), by_name, FEEDER_HEADER, enum_of("feeder_refusal_number")),
-    Held("abort codes", ("Code", "Given when"), first_number, ABORTS, hexadecimals(r"^abortCode \w+ = 0x([0-9A-F]{8})$")),
+    Held("abort codes", ("Code", "Given when"), first_number, ABORTS, hexadecimals(r"^abort_code \w+ = 0x([0-9A-F]{8})$")),
     Held("emergency codes", ("Code", "Cause"), first_number, EMERGENCY, hexadecimals(r"^\w+ = 0x([0-9A-F]{4})$")),
     Held("NMT commands", ("Command", "Leads to"), first_number, NMT, hexadecimals(r"eqb c 0x([0-9A-F]{2})\)")),
-    Held("heartbeat bytes", ("NMT state", "Byte"), second_number, NMT, hexadecimals(r"^stateByte \w+ = 0x([0-9A-F]{2})$")),
-    Held("status words", ("Drive state", "6041h"), second_number, DRIVE_STATES, hexadecimals(r"^stateWord \w+ = 0x([0-9A-F]+)$")),
+    Held("heartbeat bytes", ("NMT state", "Byte"), second_number, NMT, hexadecimals(r"^state_byte \w+ = 0x([0-9A-F]{2})$")),
+    Held("status words", ("Drive state", "6041h"), second_number, DRIVE_STATES, hexadecimals(r"^state_word \w+ = 0x([0-9A-F]+)$")),
 ]
 
 
@@ -116,7 +116,7 @@ def bare(name):
 def transitions_of(text):
     """What each command makes of each state, as the definition `next` has it: by state, by command."""
     bodies = {}
-    for function, parameters, command, result in re.findall(r"^(from\w+)((?: [a-z]\w*)*) ([A-Z]\w+) = (.+)$", text, re.M):
+    for function, parameters, command, result in re.findall(r"^(from_\w+)((?: [a-z]\w*)*) ([A-Z]\w+) = (.+)$", text, re.M):
         bodies.setdefault(function, {})[command] = parameters.split(), result
     table = {}
     for state, result in re.findall(r"^next cause (\w+) c = (.+)$", text, re.M):
@@ -243,9 +243,9 @@ def spelt_event(event, arguments):
 
 
 CALLS = {
-    "powerUpCall": lambda node: f"power-up {node}",
-    "frameCall": spelt_frame,
-    "eventCall": spelt_event,
+    "power_up_call": lambda node: f"power-up {node}",
+    "frame_call": spelt_frame,
+    "event_call": spelt_event,
     "frame": spelt_frame,
     "line": lambda call, refusal, word, frames: f"{call} | {'; '.join(frames)} | {word:04X}h" + (f" refused {refusal}" if refusal else ""),
 }
