@@ -16,12 +16,7 @@ use form::layout::STATE_LENGTH;
 use state::Refusal;
 
 // Power-up as node n. The state's bytes may hold anything: they are written, and not read.
-pub fn cendurak_power_up(
-    state: &mut [u8],
-    dict: &mut [u8],
-    out: &mut [u8],
-    n: u32,
-) -> u32
+pub fn cendurak_power_up(state: &mut [u8], dict: &mut [u8], out: &mut [u8], n: u32) -> u32
     ensures { left result state.new dict.new out.new
         ≡ lent_answer (power_up_call n) state.old dict.old out.old }
 {

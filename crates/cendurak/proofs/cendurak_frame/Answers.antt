@@ -9,7 +9,6 @@ use Rattle.calls.specs.declared.Opening.{Opening}
 use Rattle.calls.proofs.Refusals.{opened_in}
 use Rattle.cendurak.specs.Boundary.{left}
 use Rattle.cendurak.proofs.Ways.{frame_not_opened, made, as_given, a_form}
-use borrow.Author.Rules.{rules}
 use Rattle.cendurak.proofs.cendurak_frame.Goals as goal
 
 pub returns-then-opening : goal.returns-then-opening

@@ -8,7 +8,6 @@ use Rattle.calls.specs.declared.Opening.{Opening}
 use Rattle.calls.proofs.Refusals.{loadable_in}
 use Rattle.cendurak.specs.Boundary.{load_left}
 use Rattle.cendurak.proofs.Ways.{load_not_opened, load_made, a_form}
-use borrow.Author.Rules.{rules}
 use Rattle.cendurak.proofs.cendurak_load.Goals as goal
 
 pub returns-then-opening : goal.returns-then-opening

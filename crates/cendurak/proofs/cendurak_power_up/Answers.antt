@@ -7,7 +7,6 @@ use Rattle.form.specs.Form.{state_of, state_length}
 use Rattle.calls.specs.declared.Opening.{Opening}
 use Rattle.cendurak.specs.Boundary.{left}
 use Rattle.cendurak.proofs.Ways.{not_powered, no_room_for_state, powered, made}
-use borrow.Author.Rules.{rules}
 use Rattle.cendurak.proofs.cendurak_power_up.Goals as goal
 
 pub returns-then-opening : goal.returns-then-opening
