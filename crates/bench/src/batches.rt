@@ -1,73 +1,66 @@
 // A batch: what one read brings. Its whole records are served one behind the other, and their lines written at once, before the next read: so
 // an answer waits for no record behind its own. All lines of a batch fit the text, which is proved (`gather`).
-ghost use Rattle.std.specs.Prelude.{◌≤◌, length};
+ghost use Rattle.std.specs.Prelude.{◌≡◌, ◌≤◌, length, None, IfSome};
 ghost use Rattle.bench.specs.Text.{input_length, text_length};
 
-use crate::lines::{INPUT_LENGTH, TEXT_LENGTH, put_answer, put_record};
-use crate::records::{BAD, BAD_RECORD, HEAD, serve};
+use crate::lines::{INPUT_LENGTH, Text};
+use crate::records::{BAD, Unserved, serve};
 use dictionary::places::DICTIONARY_LENGTH;
 use form::layout::STATE_LENGTH;
 use output::OUTPUT_LENGTH;
 use std::io::{Read, Write};
 
-// Between two batches: how many bytes of a record that is not whole yet stand at the input's start, the next record's number, and whether
-// there is no next batch.
+// Between two batches: how many bytes of a record that is not whole yet stand at the input's start, and the next record's number.
 #[derive(Clone, Copy)]
 pub struct Place {
     pub kept: usize,
     pub number: u64,
-    pub is_over: bool,
 }
 
-// The whole records of an input: the bytes that they took, where the text of their lines ends, the next record's number, and whether the last
-// of them is the last of all.
+// The whole records of an input: the bytes that they took, and the next record's number; none where the last of them is the last of all.
 #[derive(Clone, Copy)]
 struct Gathered {
     taken: usize,
-    end: usize,
-    number: u64,
-    is_over: bool,
+    next: Option<u64>,
 }
 
-// A record is the last one where it is bad, or where not all of its lines are there.
-fn is_last(status: u32, is_whole: bool) -> bool {
-    status == BAD_RECORD || !is_whole
-}
-
-// Serves the whole records of an input that is filled so far, up to a bad one, and lays their lines into a text.
+// Serves the whole records of an input that is filled so far, and lays their lines into a text: up to a bad one, or one whose lines are not all
+// there.
 fn gather(
     input: &[u8; INPUT_LENGTH],
     filled: usize,
-    text: &mut [u8; TEXT_LENGTH],
+    text: &mut Text,
     state: &mut [u8; STATE_LENGTH],
     dictionary: &mut [u8; DICTIONARY_LENGTH],
     output: &mut [u8; OUTPUT_LENGTH],
     number: u64,
 ) -> Gathered
-    requires { filled ≤ input_length }
-    ensures { (result.taken ≤ filled) × (result.end ≤ text_length) }
+    requires { (filled ≤ input_length) × (text.old.end ≡ 0) }
+    ensures { (result.taken ≤ filled) × (text.new.end ≤ text_length) }
 {
-    let bytes = &input[..];
     let mut taken: usize = 0;
-    let mut end: usize = 0;
     let mut next = number;
-    let mut is_over = false;
-    while next < u64::MAX && !is_over {
-        let served = serve(&bytes[taken..filled], state, dictionary, output);
-        if served.taken < HEAD {
-            break;
-        }
-        let laid = put_answer(text, end, next, served.status, dictionary, output);
-        is_over = is_last(served.status, laid.is_whole);
-        end = laid.end;
+    for number in number..u64::MAX {
+        let served = match serve(&input[taken..filled], state, dictionary, output) {
+            Ok(served) => served,
+            Err(Unserved::Cut) => break,
+            Err(Unserved::Bad) => {
+                text.put_record(number, BAD, dictionary);
+                return Gathered { taken, next: None };
+            }
+        };
         taken += served.taken;
-        next += 1;
+        if text
+            .put_answer(number, served.status, dictionary, output)
+            .is_err()
+        {
+            return Gathered { taken, next: None };
+        }
+        next = number + 1;
     }
     Gathered {
         taken,
-        end,
-        number: next,
-        is_over,
+        next: Some(next),
     }
 }
 
@@ -88,49 +81,30 @@ fn keep(input: &mut [u8; INPUT_LENGTH], from: usize, to: usize) -> usize
     requires { (from ≤ to) × (to ≤ input_length) }
     ensures { result ≤ input_length }
 {
-    let rest = to - from;
-    let mut i: usize = 0;
-    while i < rest {
-        let byte = input[from + i];
-        input[i] = byte;
-        i += 1;
-    }
-    rest
+    input.copy_within(from..to, 0);
+    to - from
 }
 
-// Writes a text that ends there. False where it cannot be written.
-fn write_text(writer: &mut impl Write, text: &[u8; TEXT_LENGTH], end: usize) -> bool
-    requires { end ≤ text_length }
+// Writes a text. False where it cannot be written.
+fn write_text(writer: &mut impl Write, text: &Text) -> bool
+    requires { text.now.end ≤ text_length }
 {
-    let whole = &text[..];
-    writer.write_all(&whole[0..end]).is_ok()
-}
-
-// Where there is no next batch.
-fn over() -> Place
-    ensures { result.kept ≤ input_length }
-{
-    Place {
-        kept: 0,
-        number: 0,
-        is_over: true,
-    }
+    writer.write_all(text.content()).is_ok()
 }
 
 // The input's end: a record that it cuts is a bad one.
 fn finish(
     writer: &mut impl Write,
-    text: &mut [u8; TEXT_LENGTH],
+    text: &mut Text,
     dictionary: &[u8; DICTIONARY_LENGTH],
     place: Place,
-) -> Place
-    ensures { result.kept ≤ input_length }
+)
+    requires { text.old.end ≡ 0 }
 {
     if place.kept != 0 {
-        let end = put_record(text, 0, place.number, BAD, dictionary);
-        write_text(writer, text, end);
+        text.put_record(place.number, BAD, dictionary);
+        write_text(writer, text);
     }
-    over()
 }
 
 // One batch, from its read to the lines of its records. There is no next where the input ends, a record is bad or lines cannot be written.
@@ -138,28 +112,26 @@ pub fn batch(
     reader: &mut impl Read,
     writer: &mut impl Write,
     input: &mut [u8; INPUT_LENGTH],
-    text: &mut [u8; TEXT_LENGTH],
+    text: &mut Text,
     state: &mut [u8; STATE_LENGTH],
     dictionary: &mut [u8; DICTIONARY_LENGTH],
     output: &mut [u8; OUTPUT_LENGTH],
     place: Place,
-) -> Place
+) -> Option<Place>
     requires { place.kept ≤ input_length }
-    ensures { result.kept ≤ input_length }
+    ensures { IfSome result (λ next. next.kept ≤ input_length) }
 {
-    let kept = place.kept;
-    let filled = read_more(reader, input, kept);
-    if filled == kept {
-        return finish(writer, text, dictionary, place);
+    text.end = 0;
+    let filled = read_more(reader, input, place.kept);
+    if filled == place.kept {
+        finish(writer, text, dictionary, place);
+        return None;
     }
     let gathered = gather(input, filled, text, state, dictionary, output, place.number);
-    if !write_text(writer, text, gathered.end) {
-        return over();
+    if !write_text(writer, text) {
+        return None;
     }
-    let rest = keep(input, gathered.taken, filled);
-    Place {
-        kept: rest,
-        number: gathered.number,
-        is_over: gathered.is_over,
-    }
+    let number = gathered.next?;
+    let kept = keep(input, gathered.taken, filled);
+    Some(Place { kept, number })
 }

@@ -4,17 +4,16 @@
 #![tactic(auto)]
 
 mod batches; // what one read brings
-mod decimal; // a number's decimal digits
 mod lines; // the lines of an answer
 mod records; // one record
 
 use batches::{Place, batch};
 use dictionary::places::DICTIONARY_LENGTH;
 use form::layout::STATE_LENGTH;
-use lines::{INPUT_LENGTH, TEXT_LENGTH};
+use lines::{INPUT_LENGTH, Text};
 use output::OUTPUT_LENGTH;
 
-// Batch after batch. A loop has to end: this one counts down from a number that no input uses up.
+// Batch after batch. A loop has to end: this one counts to a number that no input uses up.
 fn main(rt: HostRuntime) {
     let mut reader = rt.stdin();
     let mut writer = rt.stdout();
@@ -22,15 +21,10 @@ fn main(rt: HostRuntime) {
     let mut dictionary = [0u8; DICTIONARY_LENGTH];
     let mut output = [0u8; OUTPUT_LENGTH];
     let mut input = [0u8; INPUT_LENGTH];
-    let mut text = [0u8; TEXT_LENGTH];
-    let mut place = Place {
-        kept: 0,
-        number: 1,
-        is_over: false,
-    };
-    let mut left = u64::MAX;
-    while left > 0 && !place.is_over {
-        place = batch(
+    let mut text = Text::new();
+    let mut place = Place { kept: 0, number: 1 };
+    for _ in 0..u64::MAX {
+        let next = batch(
             &mut reader,
             &mut writer,
             &mut input,
@@ -40,6 +34,7 @@ fn main(rt: HostRuntime) {
             &mut output,
             place,
         );
-        left -= 1;
+        let Some(next) = next else { return };
+        place = next;
     }
 }

@@ -41,7 +41,8 @@ use Rattle.calls.proofs.Ends.{renewed, still_plannable}
 use Rattle.calls.proofs.Concluding.{ended_idle, answers}
 
 -- plans, and then all else, written over bytes of a state's length
-pub all_written : (bs : List ℕ) {bs' bs'' : List ℕ} (plans : List Plan) (node : Node) (transfer : Transfer) (drive : Drive) (ready held : List PdoData)
+pub all_written : (bs : List ℕ) {bs' bs'' : List ℕ} (plans : List Plan) (node : Node) (transfer : Transfer)
+    (drive : Drive) (ready held : List PdoData)
     (paces : List Pace) →
     length bs ≡ state_length → (bs' ≡ sets bs plans_place (joined plan_form plans)) × Many PlanTyped (2 * each_way) plans →
     (bs'' ≡ form_over bs' (with_plans [] node transfer drive ready held paces)) × HeadTyped (with_plans [] node transfer drive ready held paces) →

@@ -37,7 +37,13 @@ use Rattle.calls.proofs.StatusMade.{both_stand}
 -- ready frames that are as they were: none is told
 pub none_change : {kept ready : List PdoData} → kept ≡ ready → which_change kept ready ≡ untold
 none_change {ready = ready} e =
-    rw (e, data_refl (get_or ready 0 no_data), data_refl (get_or ready 1 no_data), data_refl (get_or ready 2 no_data), data_refl (get_or ready 3 no_data))
+    rw (
+      e,
+      data_refl (get_or ready 0 no_data),
+      data_refl (get_or ready 1 no_data),
+      data_refl (get_or ready 2 no_data),
+      data_refl (get_or ready 3 no_data),
+    )
 
 none_told : (k : ℕ) → get_or untold k false ≡ false
 none_told zero = refl

@@ -96,7 +96,8 @@ answers s d o e t r was d' is few put h =
 
 transmitter : (t : ℕ) → t < each_way → In t transmitters
 transmitter t h =
-    subst (λ (q : ℕ). In q transmitters) (eqb-true _ _ (below (λ i. eqb (get_or transmitters i 0) i) each_way t refl h)) (get_or_in transmitters t 0 h)
+    subst (λ (q : ℕ). In q transmitters) (eqb-true _ _ (below (λ i. eqb (get_or transmitters i 0) i) each_way t refl h))
+    (get_or_in transmitters t 0 h)
 
 few_spoken : (n : ℕ) (e : Effect) → SpeaksAs n e → length e.sent ≤ most_before
 few_spoken n e w =

@@ -8,6 +8,7 @@ use native.Mathlib.Omega.{arith}
 use borrow.Author.Tests.{eq-eqb, leb-true}
 use lib.Dec.{eqb, leb}
 use lib.ListN.{length}
+use Rattle.std.specs.Prelude.{Err}
 use Rattle.state.specs.declared.Refusal.{Refusal}
 use Rattle.state.specs.declared.Refusal.TheVariants.{Accepted, DictionaryLength, OutputLength, NodeId, NotSound, BadFrame, BadEvent, OutOfPlace}
 use Rattle.state.specs.declared.Refusal.TheVariants.{WrongState, FileTooShort, TooManyEntries, FileMisfit, ControlWordEntry, EntryAborted}
@@ -22,7 +23,8 @@ use Rattle.rules_services.specs.Effects.{Effect}
 use Rattle.rules_services.specs.Load.{Named, may_load}
 use Rattle.rules.specs.Outcome.{sent_into}
 use Rattle.rules.specs.Sound.{sound}
-use Rattle.rules.specs.Calls.{load_call, Decision, refuses, does, load_decision, decision, decided, refused, accepted, answered, answer, output_length}
+use Rattle.rules.specs.Calls.{load_call, Decision, refuses, does, load_decision, decision, decided, refused, accepted, answered, answer}
+use Rattle.rules.specs.Calls.{output_length}
 use Rattle.rules.specs.Calls.{Outcome, LoadOutcome, load_answer, is_aborted}
 use Rattle.theorems.proofs.Booleans.{clash}
 use Rattle.theorems.proofs.Decisions.{Decided, load_decided, is_given}
@@ -39,10 +41,9 @@ use Rattle.output.specs.Leaves.{Lent, Leaves, Rests}
 use Rattle.load.specs.declared.Loading.{Loading}
 use Rattle.load.specs.Loading.{refusal_of, named_for, is_none, Left, LoadsIn}
 use Rattle.calls.specs.declared.LoadGiven.{LoadGiven}
-use Rattle.calls.specs.declared.Opening.{Opening}
 use Rattle.calls.specs.Opening.{refused_for, not_refused, loadable_of}
 use Rattle.calls.specs.Loads.{is_accepted, load_outcome, LoadStarts, LoadAnswers}
-use Rattle.calls.proofs.Refusals.{load_no_length, load_unsound, load_opens_form}
+use Rattle.calls.proofs.Refusals.{load_no_length, load_unsound, load_opens_form, why_of, fails_so}
 use Rattle.calls.specs.Ending.{Stands, counted_in, MayFinish, Stepped}
 use Rattle.calls.proofs.Concluding.{may_finish, concludes}
 
@@ -72,27 +73,16 @@ module _ (f : List ℕ) (s : State) (d : List ℕ) where
   unfolding load_answer refused
   refused_as why other e = rw (e, other)
 
-  pub load_not_opened : Typed s → (loadable_of (form s) d).refused ≡ true →
-      load_outcome (record { refusal = (loadable_of (form s) d).why; entry = 0; code = 0; state = s }) d ≡ load_answer f s d
-  load_not_opened t h =
-      let is = load_opens_form s d t in
-      ap (λ (x : Opening). load_outcome (record { refusal = x.why; entry = 0; code = 0; state = s }) d) is
-      ∙ go (eqb (length d) dictionary_length) (sound s d) refl refl (ap (λ (x : Opening). x.refused) (sym is) ∙ h)
+  pub load_not_opened : {e : Refusal} → Typed s → Err e ≡ loadable_of (form s) d →
+      load_outcome (record { refusal = e; entry = 0; code = 0; state = s }) d ≡ load_answer f s d
+  load_not_opened {e} t h = go e (eqb (length d) dictionary_length) (sound s d) refl refl (h ∙ load_opens_form s d t)
     where
-      go : (a b : Bool) → eqb (length d) dictionary_length ≡ a → sound s d ≡ b →
-          (cond a (cond b not_refused (refused_for NotSound)) (refused_for DictionaryLength)).refused ≡ true →
-          load_outcome
-          (record {
-            refusal = (cond a (cond b not_refused (refused_for NotSound)) (refused_for DictionaryLength)).why;
-            entry = 0;
-            code = 0;
-            state = s;
-          })
-          d
-          ≡ load_answer f s d
-      go false b e k r = refused_as DictionaryLength refl (load_no_length f s d e)
-      go true false e k r = refused_as NotSound refl (load_unsound f s d e k)
-      go true true e k r = absurd (false≢true r)
+      go : (w : Refusal) (a b : Bool) → eqb (length d) dictionary_length ≡ a → sound s d ≡ b →
+          Err w ≡ cond a (cond b not_refused (refused_for NotSound)) (refused_for DictionaryLength) →
+          load_outcome (record { refusal = w; entry = 0; code = 0; state = s }) d ≡ load_answer f s d
+      go w false b x k r = let q : w ≡ DictionaryLength = ap why_of r in rw q (refused_as DictionaryLength refl (load_no_length f s d x))
+      go w true false x k r = let q : w ≡ NotSound = ap why_of r in rw q (refused_as NotSound refl (load_unsound f s d x k))
+      go w true true x k r = absurd (false≢true (fails_so r))
 
 -- what was given, with the state that the bytes hold
 pub load_answers_by : {x : LoadOutcome} {r : LoadGiven} {bs d : List ℕ} → LoadAnswers x r bs d →
@@ -176,7 +166,8 @@ module _ (f bs d : List ℕ) (h : LoadStarts bs d) where
     taken_load_lem b ok = go (load_decision f s d) (load_decided s d f h.long h.sound) refl
       where
         go : (x : Decision) → Decided s d (load_call f) x → load_decision f s d ≡ x → Taken
-        go _ (Decided.refusing w given why) q = clash (is_accepted w) (ap is_accepted (sym (l.refusal ∙ ap refusal_of q)) ∙ ok) (given_refused w given)
+        go _ (Decided.refusing w given why) q =
+            clash (is_accepted w) (ap is_accepted (sym (l.refusal ∙ ap refusal_of q)) ∙ ok) (given_refused w given)
         go _ (Decided.loading _ e served none taken long sound) q =
             let leaves : Decision → Type 0 = λ x. Left x (entries_in f) bs d r.done bs' d' in
             let k : leaves (does e) = subst leaves q l.left in
@@ -197,7 +188,8 @@ module _ (f bs d : List ℕ) (h : LoadStarts bs d) where
               off = unoperational s.node.nmt (and_left (is_pre_operational s.node.nmt) _ served);
             }
 
-    module _ (b : are_bytes f ≡ true) (c : are_bytes d ≡ true) (ok : is_accepted r.refusal ≡ true) (o : List ℕ) (room : output_length ≤ length o) where
+    module _ (b : are_bytes f ≡ true) (c : are_bytes d ≡ true) (ok : is_accepted r.refusal ≡ true) (o : List ℕ)
+        (room : output_length ≤ length o) where
       stands : Stands s d o
       stands = record { long = h.long; room = room; sound = h.sound }
 

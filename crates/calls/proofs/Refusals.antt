@@ -7,6 +7,8 @@ use mathlib.Core.List.{List, []}
 use borrow.Author.Tests.{eq-eqb, ne_eqb, eqb-true, leb-true, le-leb, lt-leb}
 use lib.Dec.{eqb, leb}
 use lib.ListN.{length}
+use Rattle.std.specs.Prelude.{Result, Ok, Err, is_err, IsErrAnd}
+use Rattle.std.proofs.lemmas.Result.{err_from_is_err_and}
 use Rattle.state.specs.declared.State.{State}
 use Rattle.state.specs.declared.Refusal.{Refusal}
 use Rattle.state.specs.declared.Refusal.TheVariants.{DictionaryLength, OutputLength, NodeId, NotSound, BadFrame, BadEvent, OutOfPlace}
@@ -14,13 +16,13 @@ use Rattle.rules_dictionary.specs.TheNode.{first_node, last_node, is_node_id}
 use Rattle.rules_dictionary.specs.Table.{dictionary_length}
 use Rattle.rules_dictionary.proofs.Tests.{and_both, and_left, and_right}
 use Rattle.rules_services.specs.Nmt.{power_up}
-use Rattle.rules_services.specs.declared.Told.{Told}
-use Rattle.rules_services.specs.declared.Told.TheVariants.{Happened, Bad}
+use Rattle.std.specs.Prelude.{Option, Some, None}
 use Rattle.rules_services.specs.declared.Event.{Event}
 use Rattle.rules_services.specs.Events.{event_of, is_in_place, happens}
 use Rattle.rules.specs.Outcome.{most_data}
 use Rattle.rules.specs.Sound.{sound}
-use Rattle.rules.specs.Calls.{Call, power_up_call, frame_call, event_call, Decision, refuses, does, framed, event_decision, decision, decided, refused}
+use Rattle.rules.specs.Calls.{Call, power_up_call, frame_call, event_call, Decision, refuses, does, framed, event_decision, decision}
+use Rattle.rules.specs.Calls.{decided, refused}
 use Rattle.rules.specs.Calls.{answered, answer, output_length, output_for, last_frame_identifier, load_call}
 use Rattle.theorems.proofs.Runs.{passed}
 use Rattle.theorems.proofs.Booleans.{clash}
@@ -39,6 +41,28 @@ fails b x y e = ap (λ (c : Bool). elim c [ true ↦ x | false ↦ y ]) e
 
 -- ---- the first refusals, by the tests that the code makes
 
+-- the reason, where there is one
+abbrev pub why_of : Result (Unit {0}) Refusal → Refusal
+why_of (Ok x) = NotSound
+why_of (Err e) = e
+
+pub fails_so : {x : Result (Unit {0}) Refusal} {e : Refusal} → Err e ≡ x → is_err x ≡ true
+fails_so h = ap (λ (y : Result (Unit {0}) Refusal). is_err y) (sym h)
+
+pub passes_so : {x : Result (Unit {0}) Refusal} {u : Unit {0}} → Ok u ≡ x → is_err x ≡ false
+passes_so h = ap (λ (y : Result (Unit {0}) Refusal). is_err y) (sym h)
+
+-- what `?` hands on
+pub handed_on : {e : Refusal} {r : Result (Unit {0}) Refusal} → IsErrAnd r (λ w. w ≡ e) → r ≡ Err e
+handed_on {e} {r} h =
+    let k = err_from_is_err_and r h in
+    k.1 ∙ ap (λ (w : Refusal). Err w) k.2
+
+-- bytes that hold a sound state, and bytes that do not
+pub held_well : (bs d : List ℕ) (b : Bool) → holds_sound bs d ≡ b → cond b not_refused (refused_for NotSound)
+    ≡ cond (holds_sound bs d) not_refused (refused_for NotSound)
+held_well bs d b e = ap (λ (c : Bool). cond c not_refused (refused_for NotSound)) (sym e)
+
 module _ (d o : List ℕ) where
   pub other_length : (length d ≡ dictionary_length → ⊥) → refused_for DictionaryLength ≡ lending d o
   unfolding lending
@@ -53,23 +77,12 @@ module _ (d o : List ℕ) where
     unfolding lending
     well_lent h = rw (eq-eqb (length d) dictionary_length e, le-leb output_length (length o) h)
 
-  -- where it is not refused, it is not for any reason
-  pub lent_well : (lending d o).refused ≡ false → lending d o ≡ not_refused
-  unfolding lending
-  lent_well h = go (eqb (length d) dictionary_length) (leb output_length (length o)) h
-    where
-      go : (a b : Bool) → (cond a (cond b not_refused (refused_for OutputLength)) (refused_for DictionaryLength)).refused ≡ false →
-          cond a (cond b not_refused (refused_for OutputLength)) (refused_for DictionaryLength) ≡ not_refused
-      go true true h = refl
-      go true false h = absurd (true≢false h)
-      go false b h = absurd (true≢false h)
-
-  pub lengths : (lending d o).refused ≡ false → (length d ≡ dictionary_length) × (output_length ≤ length o)
+  pub lengths : is_err (lending d o) ≡ false → (length d ≡ dictionary_length) × (output_length ≤ length o)
   unfolding lending
   lengths h = go (eqb (length d) dictionary_length) (leb output_length (length o)) refl refl h
     where
       go : (a b : Bool) → eqb (length d) dictionary_length ≡ a → leb output_length (length o) ≡ b →
-          (cond a (cond b not_refused (refused_for OutputLength)) (refused_for DictionaryLength)).refused ≡ false →
+          is_err (cond a (cond b not_refused (refused_for OutputLength)) (refused_for DictionaryLength)) ≡ false →
           (length d ≡ dictionary_length) × (output_length ≤ length o)
       go true true e f k = (eqb-true _ _ e, leb-true _ _ f)
       go true false e f k = absurd (true≢false k)
@@ -77,21 +90,21 @@ module _ (d o : List ℕ) where
 
   -- and then by another test
   module _ (passes : Bool) (why : Refusal) where
-    pub opens_not : (lending d o).refused ≡ true → lending d o ≡ then_by passes why d o
+    pub opens_not : {e : Refusal} → Err e ≡ lending d o → Err e ≡ then_by passes why d o
     unfolding then_by
-    opens_not h = rw h
+    opens_not h = rw (← h) refl
 
-    pub opens_by : (lending d o).refused ≡ false → (b : Bool) → passes ≡ b → cond b not_refused (refused_for why) ≡ then_by passes why d o
+    pub opens_by : {u : Unit {0}} → Ok u ≡ lending d o → (b : Bool) → passes ≡ b → cond b not_refused (refused_for why) ≡ then_by passes why d o
     unfolding then_by
-    opens_by h b e = rw (h, e)
+    opens_by h b e = rw (← h, e)
 
-    pub passes_both : (then_by passes why d o).refused ≡ false → ((lending d o).refused ≡ false) × (passes ≡ true)
+    pub passes_both : is_err (then_by passes why d o) ≡ false → (is_err (lending d o) ≡ false) × (passes ≡ true)
     unfolding then_by
-    passes_both h = go (lending d o).refused passes refl refl h
+    passes_both h = go (is_err (lending d o)) passes refl refl h
       where
-        go : (a b : Bool) → (lending d o).refused ≡ a → passes ≡ b → (cond a (lending d o) (cond b not_refused (refused_for why))).refused ≡ false →
-            ((lending d o).refused ≡ false) × (passes ≡ true)
-        go true b e f k = clash (lending d o).refused e k
+        go : (a b : Bool) → is_err (lending d o) ≡ a → passes ≡ b → is_err (cond a (lending d o) (cond b not_refused (refused_for why))) ≡ false →
+            (is_err (lending d o) ≡ false) × (passes ≡ true)
+        go true b e f k = clash (is_err (lending d o)) e k
         go false false e f k = absurd (true≢false k)
         go false true e f k = (e, f)
 
@@ -99,7 +112,7 @@ module _ (d o : List ℕ) where
 
 module _ (c : Call) (s : State) (d o : List ℕ) (asks : output_for c ≡ output_length) where
   -- a refusal by what is lent
-  pub not_lent : (lending d o).refused ≡ true → outcome (refused_answer (lending d o).why s) d o ≡ answer c s d o
+  pub not_lent : is_err (lending d o) ≡ true → outcome (refused_answer (why_of (lending d o)) s) d o ≡ answer c s d o
   unfolding lending answer decided answered refused
   not_lent h =
       let asked : ℕ → Decision = λ n.
@@ -109,14 +122,14 @@ module _ (c : Call) (s : State) (d o : List ℕ) (asks : output_for c ≡ output
       ] in
       go (eqb (length d) dictionary_length) (leb output_length (length o)) h ∙ ap (λ (n : ℕ). answered (asked n) s d o) (sym asks)
     where
-      go : (a b : Bool) → (cond a (cond b not_refused (refused_for OutputLength)) (refused_for DictionaryLength)).refused ≡ true →
-          outcome (refused_answer (cond a (cond b not_refused (refused_for OutputLength)) (refused_for DictionaryLength)).why s) d o
+      go : (a b : Bool) → is_err (cond a (cond b not_refused (refused_for OutputLength)) (refused_for DictionaryLength)) ≡ true →
+          outcome (refused_answer (why_of (cond a (cond b not_refused (refused_for OutputLength)) (refused_for DictionaryLength))) s) d o
           ≡ answered (elim a [ true ↦ elim b [ true ↦ decision c s d | false ↦ refuses OutputLength ] | false ↦ refuses DictionaryLength ]) s d o
       go false b h = refl
       go true false h = refl
       go true true h = absurd (false≢true h)
 
-  module _ (h : (lending d o).refused ≡ false) where
+  module _ (h : is_err (lending d o) ≡ false) where
     -- then what is decided of the call
     pub decides : (x : Decision) → decision c s d ≡ x → answer c s d o ≡ answered x s d o
     unfolding answer decided
@@ -134,18 +147,22 @@ module _ (c : Call) (s : State) (d o : List ℕ) (asks : output_for c ≡ output
 
 module _ (c : Call) (s : State) (d o : List ℕ) (asks : output_for c ≡ output_length) {passes : Bool} {why : Refusal}
     (fails_by : passes ≡ false → decision c s d ≡ refuses why) where
-  pub not_opened : (then_by passes why d o).refused ≡ true → outcome (refused_answer (then_by passes why d o).why s) d o ≡ answer c s d o
+  not_opened_lem : is_err (then_by passes why d o) ≡ true → outcome (refused_answer (why_of (then_by passes why d o)) s) d o ≡ answer c s d o
   unfolding then_by
-  not_opened h = go (lending d o).refused passes refl refl h
+  not_opened_lem h = go (is_err (lending d o)) passes refl refl h
     where
-      go : (a b : Bool) → (lending d o).refused ≡ a → passes ≡ b → (cond a (lending d o) (cond b not_refused (refused_for why))).refused ≡ true →
-          outcome (refused_answer (cond a (lending d o) (cond b not_refused (refused_for why))).why s) d o ≡ answer c s d o
+      go : (a b : Bool) → is_err (lending d o) ≡ a → passes ≡ b → is_err (cond a (lending d o) (cond b not_refused (refused_for why))) ≡ true →
+          outcome (refused_answer (why_of (cond a (lending d o) (cond b not_refused (refused_for why)))) s) d o ≡ answer c s d o
       go true b e f k = not_lent c s d o asks e
       go false false e f k = decides_not c s d o asks e why (fails_by f)
       go false true e f k = absurd (false≢true k)
 
+  pub not_opened : {e : Refusal} → Err e ≡ then_by passes why d o → outcome (refused_answer e s) d o ≡ answer c s d o
+  not_opened {e} h =
+      let q : e ≡ why_of (then_by passes why d o) = ap why_of h in rw q (not_opened_lem (fails_so h))
+
 -- what stands is lent well
-pub stands_lent : {s : State} {d o : List ℕ} → Stands s d o → (lending d o).refused ≡ false
+pub stands_lent : {s : State} {d o : List ℕ} → Stands s d o → is_err (lending d o) ≡ false
 stands_lent {s} {d} {o} h = rw (← (well_lent d o h.long h.room))
 
 -- a state as its bytes
@@ -160,7 +177,7 @@ pub held_not : (bs d : List ℕ) → (length bs ≡ state_length → ⊥) → ho
 held_not bs d n = ap (λ (b : Bool). b && (is_form bs && sound (state_of bs) d)) (ne_eqb (length bs) state_length n)
 
 -- bytes that pass: they hold a state, and it stands
-pub opened_in : (bs d o : List ℕ) → (opening_of bs d o).refused ≡ false → (length bs ≡ state_length) × ((is_form bs ≡ true) × Stands (state_of bs) d o)
+pub opened_in : (bs d o : List ℕ) → is_err (opening_of bs d o) ≡ false → (length bs ≡ state_length) × ((is_form bs ≡ true) × Stands (state_of bs) d o)
 opened_in bs d o h =
     let p = passes_both d o (holds_sound bs d) NotSound h in
     let l = lengths d o p.0 in
@@ -176,18 +193,18 @@ module _ (bs d : List ℕ) where
   unfolding loadable_of
   load_other_length n = rw (ne_eqb (length d) dictionary_length n)
 
-  pub load_opens_by : length d ≡ dictionary_length → (b : Bool) → holds_sound bs d ≡ b → cond b not_refused (refused_for NotSound) ≡ loadable_of bs d
+  pub load_opens_by : length d ≡ dictionary_length → cond (holds_sound bs d) not_refused (refused_for NotSound) ≡ loadable_of bs d
   unfolding loadable_of
-  load_opens_by l b e = rw (eq-eqb (length d) dictionary_length l, e)
+  load_opens_by l = rw (eq-eqb (length d) dictionary_length l)
 
   -- bytes that pass: they hold a state, and it is sound
-  pub loadable_in : (loadable_of bs d).refused ≡ false →
+  pub loadable_in : is_err (loadable_of bs d) ≡ false →
       (length bs ≡ state_length) × ((is_form bs ≡ true) × ((length d ≡ dictionary_length) × (sound (state_of bs) d ≡ true)))
   unfolding loadable_of
   loadable_in h = go (eqb (length d) dictionary_length) (holds_sound bs d) refl refl h
     where
       go : (a b : Bool) → eqb (length d) dictionary_length ≡ a → holds_sound bs d ≡ b →
-          (cond a (cond b not_refused (refused_for NotSound)) (refused_for DictionaryLength)).refused ≡ false →
+          is_err (cond a (cond b not_refused (refused_for NotSound)) (refused_for DictionaryLength)) ≡ false →
           (length bs ≡ state_length) × ((is_form bs ≡ true) × ((length d ≡ dictionary_length) × (sound (state_of bs) d ≡ true)))
       go false b e k r = absurd (true≢false r)
       go true false e k r = absurd (true≢false r)
@@ -259,7 +276,9 @@ module _ (i : ℕ) (bs : List ℕ) (s : State) (d : List ℕ) where
     no_identifier g = malformed (ap (λ (b : Bool). b && leb (length bs) most_data) (lt-leb i last_frame_identifier g))
 
     pub too_long : most_data < length bs → decision (frame_call i bs) s d ≡ refuses BadFrame
-    too_long k = malformed (ap (λ (b : Bool). leb i last_frame_identifier && b) (lt-leb (length bs) most_data k) ∙ and-false (leb i last_frame_identifier))
+    too_long k =
+        malformed (ap (λ (b : Bool). leb i last_frame_identifier && b) (lt-leb (length bs) most_data k)
+        ∙ and-false (leb i last_frame_identifier))
 
     pub a_frame : i ≤ last_frame_identifier → length bs ≤ most_data → decision (frame_call i bs) s d ≡ does (framed i bs s d)
     a_frame g k =
@@ -277,19 +296,19 @@ module _ (k : ℕ) (xs : List ℕ) (s : State) (d : List ℕ) where
   an_event h = passed (sound s d) (event_decision (event_of k xs) s d) (refuses NotSound) h
 
   -- by the event that was told
-  pub told_event : sound s d ≡ true → (t : Told) → t ≡ event_of k xs → decision (event_call k xs) s d ≡ event_decision t s d
-  told_event h t e = an_event h ∙ ap (λ (x : Told). event_decision x s d) (sym e)
+  pub told_event : sound s d ≡ true → (t : Option Event) → t ≡ event_of k xs → decision (event_call k xs) s d ≡ event_decision t s d
+  told_event h t e = an_event h ∙ ap (λ (x : Option Event). event_decision x s d) (sym e)
 
   -- a bad one, one out of place, and one in place
-  pub bad_told : sound s d ≡ true → Bad ≡ event_of k xs → decision (event_call k xs) s d ≡ refuses BadEvent
+  pub bad_told : sound s d ≡ true → None ≡ event_of k xs → decision (event_call k xs) s d ≡ refuses BadEvent
   unfolding event_decision
-  bad_told h e = told_event h Bad e
+  bad_told h e = told_event h None e
 
-  module _ (h : sound s d ≡ true) (e : Event) (told : Happened e ≡ event_of k xs) where
+  module _ (h : sound s d ≡ true) (e : Event) (told : Some e ≡ event_of k xs) where
     pub out_of_place : is_in_place e s ≡ false → decision (event_call k xs) s d ≡ refuses OutOfPlace
     unfolding event_decision
-    out_of_place p = told_event h (Happened e) told ∙ fails (is_in_place e s) (does (happens e s d)) (refuses OutOfPlace) p
+    out_of_place p = told_event h (Some e) told ∙ fails (is_in_place e s) (does (happens e s d)) (refuses OutOfPlace) p
 
     pub in_place : is_in_place e s ≡ true → decision (event_call k xs) s d ≡ does (happens e s d)
     unfolding event_decision
-    in_place p = told_event h (Happened e) told ∙ passed (is_in_place e s) (does (happens e s d)) (refuses OutOfPlace) p
+    in_place p = told_event h (Some e) told ∙ passed (is_in_place e s) (does (happens e s d)) (refuses OutOfPlace) p

@@ -30,15 +30,18 @@ use Rattle.calls.proofs.load.Reads as load
 -- `Called k a b`: what is called, and with which output (k); the state and the dictionary that it is handed (a), and those that it hands back (b).
 -- What output stands beside a load does not matter
 pub data Called : Step → Stand → Stand → Type 0 where
-  powers : (κs : Lfts 2) (s : State) (d output : MutBor (List ℕ)) (n : ℕ) (r : Answer) (d' output' : MutBor (List ℕ)) →
+  powers : (κs : Lfts 2) (s : State) (d output : MutBor (List ℕ)) (n : ℕ)
+      (r : Answer) (d' output' : MutBor (List ℕ)) →
       power_up_lem.Post κs (s, (d, (output, (n, tt)))) r (s, (d', (output', (n, tt)))) →
       Called (record { call = power_up_call n; output = output.now }) (record { state = s; dictionary = d.now })
       (record { state = r.state; dictionary = d'.now })
-  frames : (κs : Lfts 3) (s : State) (d output : MutBor (List ℕ)) (identifier : ℕ) (bytes : Bor (List ℕ)) (r : Answer) (d' output' : MutBor (List ℕ)) →
+  frames : (κs : Lfts 3) (s : State) (d output : MutBor (List ℕ)) (identifier : ℕ) (bytes : Bor (List ℕ))
+      (r : Answer) (d' output' : MutBor (List ℕ)) →
       frame.Post κs (s, (d, (output, (identifier, (bytes, tt))))) r (s, (d', (output', (identifier, (bytes, tt))))) →
       Called (record { call = frame_call identifier bytes.now; output = output.now }) (record { state = s; dictionary = d.now })
       (record { state = r.state; dictionary = d'.now })
-  events : (κs : Lfts 3) (s : State) (d output : MutBor (List ℕ)) (number : ℕ) (arguments : Bor (List ℕ)) (r : Answer) (d' output' : MutBor (List ℕ)) →
+  events : (κs : Lfts 3) (s : State) (d output : MutBor (List ℕ)) (number : ℕ) (arguments : Bor (List ℕ))
+      (r : Answer) (d' output' : MutBor (List ℕ)) →
       event.Post κs (s, (d, (output, (number, (arguments, tt))))) r (s, (d', (output', (number, (arguments, tt))))) →
       Called (record { call = event_call number arguments.now; output = output.now }) (record { state = s; dictionary = d.now })
       (record { state = r.state; dictionary = d'.now })

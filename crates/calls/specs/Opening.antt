@@ -1,31 +1,35 @@
 -- Document 01, 'Calls and refusals': the refusals that come first, 1 of every call, 2 of every call that is lent output,
 -- 3 of power-up, 4 of all others.
 -- Assumes nothing.
-use Rattle.std.specs.Prelude.{ℕ, List, Bool, true, false, cond, ◌&&◌, eqb, leb, length}
+use Rattle.std.specs.Prelude.{ℕ, List, Bool, cond, ◌&&◌, eqb, leb, length, Result, Ok, Err, is_err}
 use Rattle.state.specs.declared.State.{State}
 use Rattle.state.specs.declared.Refusal.{Refusal}
-use Rattle.state.specs.declared.Refusal.TheVariants.{Accepted, DictionaryLength, OutputLength, NodeId, NotSound}
+use Rattle.state.specs.declared.Refusal.TheVariants.{DictionaryLength, OutputLength, NodeId, NotSound}
 use Rattle.rules_dictionary.specs.TheNode.{is_node_id}
 use Rattle.rules_dictionary.specs.Table.{dictionary_length}
 use Rattle.rules.specs.Sound.{sound}
 use Rattle.rules.specs.Calls.{output_length}
 use Rattle.form.specs.Form.{state_length, state_of, is_form}
-use Rattle.calls.specs.declared.Opening.{Opening}
+
+-- whether a call is refused, and why
+abbrev pub Opening : Type 0
+Opening = Result (Unit {0}) Refusal
 
 abbrev pub refused_for : Refusal → Opening
-refused_for why = record { refused = true; why = why }
+refused_for why = Err why
 
 abbrev pub not_refused : Opening
-not_refused = record { refused = false; why = Accepted }
+not_refused = Ok tt
 
 -- by what is lent
 unfoldable pub lending : List ℕ → List ℕ → Opening
 lending d o =
-    cond (eqb (length d) dictionary_length) (cond (leb output_length (length o)) not_refused (refused_for OutputLength)) (refused_for DictionaryLength)
+    cond (eqb (length d) dictionary_length) (cond (leb output_length (length o)) not_refused (refused_for OutputLength))
+    (refused_for DictionaryLength)
 
 -- and then by another test, with its refusal
 unfoldable pub then_by : Bool → Refusal → List ℕ → List ℕ → Opening
-then_by passes why d o = cond (lending d o).refused (lending d o) (cond passes not_refused (refused_for why))
+then_by passes why d o = cond (is_err (lending d o)) (lending d o) (cond passes not_refused (refused_for why))
 
 -- power-up: by the node-ID
 abbrev pub powering : ℕ → List ℕ → List ℕ → Opening

@@ -26,8 +26,8 @@ fn counted(ticked: bool, state: &[u8], d: &[u8]) -> u16
 
 // The same of a tick that finds them sound: where some were counted the position is inside.
 fn counted_more(state: &[u8], d: &[u8]) -> u16
-    requires state_len { (length state.now ≡ state_length) × (length d.now ≡ dictionary_length) }
-    requires d_value { stay_sound (state_of state.now).axis.drive d.now ≡ true }
+    requires lengths { (length state.now ≡ state_length) × (length d.now ≡ dictionary_length) }
+    requires sound { stay_sound (state_of state.now).axis.drive d.now ≡ true }
     ensures { result ≡ counted true (state_of state.now).axis.drive d.now }
 {
     let before = read_stay(state);
@@ -54,8 +54,8 @@ fn count(ticked: bool, state: &mut [u8], d: &[u8])
 // They are put after a tick that left nothing else to do. Whether they came to the window time with it, so that bit 10 shows.
 fn count_quietly(state: &mut [u8], d: &[u8]) -> bool
     requires holds { Holds state.old (state_of state.old) × ((length state.old ≡ state_length) × (length d.now ≡ dictionary_length)) }
-    requires d_value { stay_sound (state_of state.old).axis.drive d.now ≡ true }
-    ensures holds_2 { Holds state.new
+    requires sound { stay_sound (state_of state.old).axis.drive d.now ≡ true }
+    ensures counted { Holds state.new
         (with_ticks (counted true (state_of state.old).axis.drive d.now) (state_of state.old)) }
     ensures value { result ≡ comes (state_of state.old).axis.drive d.now }
 {
@@ -71,12 +71,11 @@ fn count_quietly(state: &mut [u8], d: &[u8]) -> bool
 // by a tick.
 pub fn is_left(done: Done, state: &mut [u8], d: &[u8]) -> bool
     requires holds { Holds state.old (state_of state.old) × ((length state.old ≡ state_length) × (length d.now ≡ dictionary_length)) }
-    requires d_value { done.quiet ≡ true → stay_sound (state_of state.old).axis.drive d.now ≡ true }
-    ensures holds_2 { Holds state.new (counted_in done.occasion d.now (state_of state.old)) }
+    requires sound { done.quiet ≡ true → stay_sound (state_of state.old).axis.drive d.now ≡ true }
+    ensures counted { Holds state.new (counted_in done.occasion d.now (state_of state.old)) }
     ensures value { result ≡ left_by done (state_of state.old).axis.drive d.now }
 {
-    let occasion = done.occasion;
-    let ticked = occasion.is_ticked();
+    let ticked = done.occasion.is_ticked();
     if !done.quiet {
         count(ticked, state, d);
         return true;

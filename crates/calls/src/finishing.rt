@@ -18,12 +18,10 @@ pub fn anew(state: &mut [u8], d: &mut [u8])
     requires { MayRenew state.old d.old }
     ensures { Renews (state_of state.old) d.old state.new d.new }
 {
-    let node = read_node(state);
-    let drive = read_drive(state);
-    settle(node, drive, true, d);
+    settle(read_node(state), read_drive(state), true, d);
     put_plans(state, all_plans(d));
     renew_all(state, d);
-    put_paces(state, [IDLE, IDLE, IDLE, IDLE]);
+    put_paces(state, [IDLE; 4]);
 }
 
 // The ready frames worked again by the kept plans where something was written that can be mapped. Which of them changed.
@@ -48,21 +46,18 @@ fn end_call(done: Done, was: bool, state: &mut [u8], d: &mut [u8], output: &mut 
     let drive = read_drive(state);
     let written = settle(node, drive, done.touched, d);
     let changed = renewed(written, state, d);
-    let nmt = node.nmt;
-    let occasion = done.occasion;
     let sent = transmit_all(
         state,
         changed,
         read_paces(state),
         was,
-        nmt,
-        occasion,
+        node.nmt,
+        done.occasion,
         d,
         output,
         done.frames,
     );
-    let paces = sent.paces;
-    put_paces(state, paces);
+    put_paces(state, sent.paces);
     sent.frames
 }
 

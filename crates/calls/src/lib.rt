@@ -13,7 +13,7 @@ mod settling; // 6041h and 6061h
 mod counting; // the ticks inside the window
 mod finishing; // the call's end
 
-ghost use Rattle.std.specs.Prelude.{◌≡◌, false, ◌≤◌, length};
+ghost use Rattle.std.specs.Prelude.{◌≡◌, false, ◌≤◌, length, is_err};
 ghost use Rattle.state.specs.declared.State.{State};
 ghost use Rattle.state.specs.NmtStates.{is_operational};
 ghost use Rattle.rules_dictionary.specs.Plans.{pdo_data};
@@ -33,7 +33,6 @@ use nmt::{fresh_drive, fresh_node, start};
 pub use opens::{loadable, opened, powering};
 use output::{MOST_DATA, OUTPUT_LENGTH};
 use rules_dictionary::PdoData;
-use rules_services::Told;
 use served::serve_frame;
 use settling::settle;
 use state::{Answer, Refusal, State, Transfer};
@@ -42,14 +41,9 @@ use tpdo::IDLE;
 // The greatest identifier of a frame.
 const LAST_IDENTIFIER: u32 = 0x7FF;
 
-// Whether a call is refused, and why.
-#[derive(Clone, Copy)]
-pub struct Opening {
-    pub refused: bool,
-    pub why: Refusal,
-}
-
 // What a call answers beside the lent bytes, its state's among them.
+// These three stay a refusal beside numbers, in no `Result` and no generic type: `Answers`, `LoadAnswers`, `load_outcome` and the rules' `Outcome`
+// name their fields, and have `Accepted` among the refusals.
 #[derive(Clone, Copy)]
 pub struct Given {
     pub refusal: Refusal,
@@ -89,7 +83,7 @@ fn accepted(frames: u8) -> Given
 {
     Given {
         refusal: Refusal::Accepted,
-        frames: frames,
+        frames,
     }
 }
 
@@ -98,9 +92,7 @@ fn is_operational(state: &[u8]) -> bool
     requires { length state.now ≡ state_length }
     ensures { result ≡ is_operational (state_of state.now).node.nmt }
 {
-    let node = read_node(state);
-    let nmt = node.nmt;
-    nmt.is_operational()
+    read_node(state).nmt.is_operational()
 }
 
 // The data of a frame.
@@ -108,21 +100,17 @@ fn content_of(bytes: &[u8]) -> PdoData
     requires { length bytes.now ≤ most_data }
     ensures { result ≡ pdo_data bytes.now }
 {
-    let mut content = [0u8; 8];
-    let mut i: usize = 0;
-    while i < bytes.len() {
-        content[i] = bytes[i];
-        i += 1;
-    }
+    let mut content = [0u8; MOST_DATA];
+    content[..bytes.len()].copy_from_slice(bytes);
     PdoData {
-        length: i as u8,
+        length: bytes.len() as u8,
         bytes: content,
     }
 }
 
 // Power-up as node n, where nothing refuses it: every byte of the state is written, whatever stood there.
 pub fn power_up_in(state: &mut [u8], d: &mut [u8], output: &mut [u8], n: u32) -> Given
-    requires { (length state.old ≡ state_length) × ((powering n d.old output.old).refused ≡ false) }
+    requires { (length state.old ≡ state_length) × (is_err (powering n d.old output.old) ≡ false) }
     ensures { (s : State) → Answers (answer (power_up_call n) s d.old output.old)
         result state.new d.new output.new }
 {
@@ -141,9 +129,9 @@ pub fn power_up_in(state: &mut [u8], d: &mut [u8], output: &mut [u8], n: u32) ->
         node,
         Transfer::NoTransfer,
         drive,
-        [none, none, none, none],
-        [none, none, none, none],
-        [IDLE, IDLE, IDLE, IDLE],
+        [none; 4],
+        [none; 4],
+        [IDLE; 4],
     );
     renew_all(state, d);
     accepted(done.frames as u8)
@@ -187,8 +175,8 @@ pub fn event_in(
         result state.new d.new output.new }
 {
     match event_of(number, arguments) {
-        Told::Bad => refused(Refusal::BadEvent),
-        Told::Happened(e) => {
+        None => refused(Refusal::BadEvent),
+        Some(e) => {
             if !is_in_place(e, state) {
                 return refused(Refusal::OutOfPlace);
             }
@@ -203,22 +191,7 @@ pub fn event_in(
 fn is_accepted(refusal: Refusal) -> bool
     ensures { result ≡ is_accepted refusal }
 {
-    match refusal {
-        Refusal::Accepted => true,
-        Refusal::DictionaryLength => false,
-        Refusal::OutputLength => false,
-        Refusal::NodeId => false,
-        Refusal::NotSound => false,
-        Refusal::BadFrame => false,
-        Refusal::BadEvent => false,
-        Refusal::OutOfPlace => false,
-        Refusal::WrongState => false,
-        Refusal::FileTooShort => false,
-        Refusal::TooManyEntries => false,
-        Refusal::FileMisfit => false,
-        Refusal::ControlWordEntry => false,
-        Refusal::EntryAborted => false,
-    }
+    matches!(refusal, Refusal::Accepted)
 }
 
 // The load of a file. No frame is sent, so that the output which the call's end asks for is none of the caller's.
@@ -228,22 +201,21 @@ pub fn load_in(state: &mut [u8], d: &mut [u8], file: &[u8]) -> LoadGiven
         result state.new d.new }
 {
     let loading = load::load(file, state, d);
-    let refusal = loading.refusal;
     let given = LoadGiven {
-        refusal: refusal,
+        refusal: loading.refusal,
         entry: loading.entry,
         code: loading.code,
     };
-    if !is_accepted(refusal) {
+    if !is_accepted(loading.refusal) {
         return given;
     }
-    let done = loading.done;
     let mut output = [0u8; OUTPUT_LENGTH];
-    finish(done, false, state, d, &mut output);
+    finish(loading.done, false, state, d, &mut output);
     given
 }
 
 // A refused call, by value: no frames, and the state that was given.
+// Stays beside `load_refused`, as `with_state` beside `load_with_state`: a trait's two methods in two impls would be longer than the four functions.
 fn refuse(why: Refusal, s: State) -> Answer
     ensures { result ≡ refused_answer why s }
 {
@@ -259,9 +231,8 @@ fn with_state(given: Given, state: &[u8]) -> Answer
     requires { length state.now ≡ state_length }
     ensures { result ≡ record { refusal = given.refusal; frames = given.frames; state = state_of state.now } }
 {
-    let refusal = given.refusal;
     Answer {
-        refusal: refusal,
+        refusal: given.refusal,
         frames: given.frames,
         state: state_of(state),
     }
@@ -271,9 +242,7 @@ fn with_state(given: Given, state: &[u8]) -> Answer
 pub fn power_up(s: State, d: &mut [u8], output: &mut [u8], n: u32) -> Answer
     ensures { outcome result d.new output.new ≡ answer (power_up_call n) s d.old output.old }
 {
-    let opening = powering(n, d, output);
-    if opening.refused {
-        let why = opening.why;
+    if let Err(why) = powering(n, d, output) {
         return refuse(why, s);
     }
     let mut state = form_of(s);
@@ -281,15 +250,13 @@ pub fn power_up(s: State, d: &mut [u8], output: &mut [u8], n: u32) -> Answer
     with_state(given, &state)
 }
 
-// One frame of the bus.
+// One frame of the bus. Stays beside `event`, which differs in one line: a closure for it needs clauses as long as those of `frame_in`.
 pub fn frame(s: State, d: &mut [u8], output: &mut [u8], identifier: u32, bytes: &[u8]) -> Answer
     ensures { outcome result d.new output.new
         ≡ answer (frame_call identifier bytes.now) s d.old output.old }
 {
     let mut state = form_of(s);
-    let opening = opened(&state, d, output);
-    if opening.refused {
-        let why = opening.why;
+    if let Err(why) = opened(&state, d, output) {
         return refuse(why, s);
     }
     let given = frame_in(&mut state, d, output, identifier, bytes);
@@ -302,9 +269,7 @@ pub fn event(s: State, d: &mut [u8], output: &mut [u8], number: u32, arguments: 
         ≡ answer (event_call number arguments.now) s d.old output.old }
 {
     let mut state = form_of(s);
-    let opening = opened(&state, d, output);
-    if opening.refused {
-        let why = opening.why;
+    if let Err(why) = opened(&state, d, output) {
         return refuse(why, s);
     }
     let given = event_in(&mut state, d, output, number, arguments);
@@ -328,9 +293,8 @@ fn load_with_state(given: LoadGiven, state: &[u8]) -> LoadAnswer
     requires { length state.now ≡ state_length }
     ensures { result ≡ record { refusal = given.refusal; entry = given.entry; code = given.code; state = state_of state.now } }
 {
-    let refusal = given.refusal;
     LoadAnswer {
-        refusal: refusal,
+        refusal: given.refusal,
         entry: given.entry,
         code: given.code,
         state: state_of(state),
@@ -342,9 +306,7 @@ pub fn load(s: State, d: &mut [u8], file: &[u8]) -> LoadAnswer
     ensures { load_outcome result d.new ≡ load_answer file.now s d.old }
 {
     let mut state = form_of(s);
-    let opening = loadable(&state, d);
-    if opening.refused {
-        let why = opening.why;
+    if let Err(why) = loadable(&state, d) {
         return load_refused(why, s);
     }
     let given = load_in(&mut state, d, file);

@@ -28,16 +28,13 @@ fn request(content: PdoData, state: &mut [u8], d: &mut [u8], output: &mut [u8]) 
     ensures { LeavesIn (requested (data_of content)) (requested_rests (data_of content))
         state.old d.old output.old result state.new d.new output.new }
 {
-    let node = read_node(state);
-    let nmt = node.nmt;
-    if nmt.is_stopped() {
+    if read_node(state).nmt.is_stopped() {
         return nothing_done(true);
     }
     if content.length != REQUEST_LENGTH {
         return nothing_done(true);
     }
-    let bytes = content.bytes;
-    serve(bytes, state, d, output)
+    serve(content.bytes, state, d, output)
 }
 
 // A frame that is no NMT command.

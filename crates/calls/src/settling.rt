@@ -15,10 +15,8 @@ pub fn settle(node: Node, drive: Drive, touched: bool, d: &mut [u8]) -> bool
     ensures { (d.new ≡ settled_by node drive d.old)
         × ((result ≡ written_by touched node drive d.old) × (are_bytes d.old ≡ true)) }
 {
-    let nmt = node.nmt;
-    let mode = drive.mode;
-    let word = status(!nmt.is_stopped(), node.voltage, drive, d);
-    let shown = mode.number();
+    let word = status(!node.nmt.is_stopped(), node.voltage, drive, d);
+    let shown = drive.mode.number();
     if objects::status_word(d) == word && objects::mode_display(d) == shown {
         return touched;
     }

@@ -16,7 +16,8 @@ use Rattle.rules_dictionary.specs.Table.{dictionary_length}
 use Rattle.rules_dictionary.specs.Aborts.{Abort, abort_code, unknown_command, wrong_toggle, no_object, no_subindex, no_writing, too_long, too_short}
 use Rattle.rules_dictionary.specs.Aborts.{wrong_time}
 use Rattle.rules_dictionary.specs.Aborts.{below_range, above_range, bad_value, limits_swapped, not_mappable, over_length}
-use Rattle.files.specs.ConciseDcf.{Reading, misfit, whole, in_front, reading, entries_of, entries_in, entry_at, entry_size, is_there, count_in, count_size}
+use Rattle.files.specs.ConciseDcf.{Reading, misfit, whole, in_front, reading, entries_of, entries_in, entry_at, entry_size, is_there}
+use Rattle.files.specs.ConciseDcf.{count_in, count_size}
 use Rattle.files.specs.ConciseDcf.{most_entries, is_too_short, is_overfull, is_misfit}
 use Rattle.rules_services.specs.Load.{may_load, names_control_word, Loaded, loads, fails, load_all, first_entry, Named, named_by}
 use Rattle.rules.specs.Sound.{sound}

@@ -17,7 +17,8 @@ use Rattle.rules_services.specs.Nmt.{boot_up, power_up, fresh_state}
 use Rattle.rules_services.specs.PdoTraffic.{works}
 use Rattle.rules.specs.Outcome.{ended, pace_for, transmissions, sent_into, most_frames}
 use Rattle.rules.specs.Sound.{sound}
-use Rattle.rules.specs.Calls.{Call, power_up_call, frame_call, event_call, load_call, Outcome, does as performs, accepted, answered, answer, load_answer}
+use Rattle.rules.specs.Calls.{Call, power_up_call, frame_call, event_call, load_call, Outcome, does as performs, accepted, answered, answer}
+use Rattle.rules.specs.Calls.{load_answer}
 use Rattle.rules.specs.Calls.{refusal_number}
 use Rattle.theorems.specs.Promises.{Step, Stand, does, after, AllOctets, reached}
 use Rattle.theorems.specs.Promises as Promises
@@ -108,7 +109,12 @@ module _ (a : Stand) (kept : Kept a) where
   is_given_lem c =
       let long = length_form a.state (kept_typed a kept) in
       let own = a_form (form a.state) long (is_form_form a.state (kept_typed a kept)) in
-      elim c as (λ (x : Call). is_given x (form a.state) ≡ true) [ power_up_call n ↦ eq-eqb _ state_length long | frame_call i xs ↦ own | event_call i xs ↦ own | load_call f ↦ own ]
+      elim c as (λ (x : Call). is_given x (form a.state) ≡ true) [
+        | power_up_call n ↦ eq-eqb _ state_length long
+        | frame_call i xs ↦ own
+        | event_call i xs ↦ own
+        | load_call f ↦ own
+      ]
 
   -- by the call's own contract
   lent_left : (c : Call) (o : List ℕ) {b b' : Buffers} {number : ℕ} {out : List ℕ} → Hold b a →
@@ -311,19 +317,23 @@ module _ (b : Buffers) (o : List ℕ) where
   unfolding lent lent_to_write
   allowed (power_up_call n) =
       let c = power_up_call n in
-      powers ([], ([], ([], tt))) (lent_to_write b.state) (lent_to_write b.dictionary) (lent_to_write o) n (answer_to c).status (lent_to_write (answer_to c).state)
+      powers ([], ([], ([], tt))) (lent_to_write b.state) (lent_to_write b.dictionary) (lent_to_write o) n
+      (answer_to c).status (lent_to_write (answer_to c).state)
       (lent_to_write (answer_to c).dictionary) (lent_to_write (answer_to c).output) refl
   allowed (frame_call i xs) =
       let c = frame_call i xs in
-      frames ([], ([], ([], ([], tt)))) (lent_to_write b.state) (lent_to_write b.dictionary) (lent_to_write o) i (lent xs) (answer_to c).status (lent_to_write (answer_to c).state)
+      frames ([], ([], ([], ([], tt)))) (lent_to_write b.state) (lent_to_write b.dictionary) (lent_to_write o) i (lent xs)
+      (answer_to c).status (lent_to_write (answer_to c).state)
       (lent_to_write (answer_to c).dictionary) (lent_to_write (answer_to c).output) refl
   allowed (event_call i xs) =
       let c = event_call i xs in
-      events ([], ([], ([], ([], tt)))) (lent_to_write b.state) (lent_to_write b.dictionary) (lent_to_write o) i (lent xs) (answer_to c).status (lent_to_write (answer_to c).state)
+      events ([], ([], ([], ([], tt)))) (lent_to_write b.state) (lent_to_write b.dictionary) (lent_to_write o) i (lent xs)
+      (answer_to c).status (lent_to_write (answer_to c).state)
       (lent_to_write (answer_to c).dictionary) (lent_to_write (answer_to c).output) refl
   allowed (load_call f) =
       let c = load_call f in
-      loads ([], ([], ([], tt))) (lent_to_write b.state) (lent_to_write b.dictionary) (lent f) o (answer_to c).status (lent_to_write (answer_to c).state)
+      loads ([], ([], ([], tt))) (lent_to_write b.state) (lent_to_write b.dictionary) (lent f) o
+      (answer_to c).status (lent_to_write (answer_to c).state)
       (lent_to_write (answer_to c).dictionary) refl
 
 some_trace : (ks : List Step) (b : Buffers) → (c : Buffers) × Trace b ks c

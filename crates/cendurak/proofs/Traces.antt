@@ -37,7 +37,8 @@ pub data Called : Step → Buffers → ℕ → List ℕ → Buffers → Type 0 w
       power_up_lem.Post κs (state, (dict, (out, (n, tt)))) number (state', (dict', (out', (n, tt)))) →
       Called (record { call = power_up_call n; output = out.now }) (record { state = state.now; dictionary = dict.now })
       number out'.now (record { state = state'.now; dictionary = dict'.now })
-  frames : (κs : Lfts 4) (state dict out : MutBor (List ℕ)) (identifier : ℕ) (bytes : Bor (List ℕ)) (number : ℕ) (state' dict' out' : MutBor (List ℕ)) →
+  frames : (κs : Lfts 4) (state dict out : MutBor (List ℕ)) (identifier : ℕ) (bytes : Bor (List ℕ))
+      (number : ℕ) (state' dict' out' : MutBor (List ℕ)) →
       frame.Post κs (state, (dict, (out, (identifier, (bytes, tt))))) number (state', (dict', (out', (identifier, (bytes, tt))))) →
       Called (record { call = frame_call identifier bytes.now; output = out.now }) (record { state = state.now; dictionary = dict.now })
       number out'.now (record { state = state'.now; dictionary = dict'.now })

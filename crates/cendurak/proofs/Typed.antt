@@ -18,7 +18,8 @@ use mir.Val.{of_z, sel}
 use Rattle.rules_dictionary.specs.declared.PdoData.{PdoData}
 use Rattle.rules_dictionary.specs.Members.{In, here, there}
 use Rattle.rules_dictionary.specs.Numbers.{are_bytes, bit, integer, padded}
-use Rattle.rules_dictionary.specs.Table.{Row, ValueType, u8, u16, u32, i8, i32, size, size_of, place_of, table, dictionary_length, each_way, most_moves}
+use Rattle.rules_dictionary.specs.Table.{Row, ValueType, u8, u16, u32, i8, i32, size, size_of, place_of, table, dictionary_length, each_way}
+use Rattle.rules_dictionary.specs.Table.{most_moves}
 use Rattle.rules_dictionary.specs.Table.{pdos, receive_pdos, transmit_pdos, heartbeat_time, control_word, mode, minimum_position, maximum_position}
 use Rattle.rules_dictionary.specs.Table.{profile_velocity, profile_acceleration, profile_deceleration}
 use Rattle.rules_dictionary.specs.Values.{Write, read, stored}

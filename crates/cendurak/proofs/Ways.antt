@@ -7,6 +7,7 @@ use mathlib.Core.List.{List, []}
 use borrow.Author.Tests.{eq-eqb, ne_eqb}
 use lib.Dec.{eqb, leb}
 use lib.ListN.{length}
+use Rattle.std.specs.Prelude.{Err, is_err}
 use Rattle.state.specs.declared.Refusal.{Refusal}
 use Rattle.state.specs.declared.Refusal.TheVariants.{Accepted, DictionaryLength, OutputLength, NodeId, NotSound, BadFrame, BadEvent, OutOfPlace}
 use Rattle.state.specs.declared.Refusal.TheVariants.{WrongState, FileTooShort, TooManyEntries, FileMisfit, ControlWordEntry, EntryAborted}
@@ -25,7 +26,7 @@ use Rattle.calls.specs.Answers.{outcome, refused_answer, Answers}
 use Rattle.calls.specs.Loads.{LoadAnswers}
 use Rattle.calls.specs.Opening.{refused_for, not_refused, lending, then_by, powering, holds_sound, opening_of, loadable_of}
 use Rattle.calls.proofs.Refusals.{not_lent, decides, decides_not, passes_both, no_node, a_node, unsound_frame, unsound_event, load_no_length}
-use Rattle.calls.proofs.Refusals.{load_unsound}
+use Rattle.calls.proofs.Refusals.{load_unsound, why_of, fails_so}
 use Rattle.cendurak.specs.Boundary.{Left, status, state_after, left_by, refused_with, is_given, has_node, without, lent_answer, left}
 use Rattle.cendurak.specs.Boundary.{LoadLeft, load_status, left_by_load, load_refused_with, lent_load, load_left}
 
@@ -56,25 +57,25 @@ module _ (c : Call) (bs d o : List ℕ) where
   as_asked asks = ap (λ (n : ℕ). without_by (eqb (length d) dictionary_length) (leb n (length o)) (has_node c)) asks
 
   -- by the lengths of what is lent
-  not_lent_in : output_for c ≡ output_length → (lending d o).refused ≡ true → left (status (lending d o).why 0) bs d o ≡ lent_answer c bs d o
+  not_lent_in : output_for c ≡ output_length → is_err (lending d o) ≡ true → left (status (why_of (lending d o)) 0) bs d o ≡ lent_answer c bs d o
   unfolding lending without without_by
   not_lent_in asks h =
       let k = go (eqb (length d) dictionary_length) (leb output_length (length o)) h in
-      refuses_by (lending d o).why (λ g. not_lent c (state_of bs) d o asks h) (λ g. as_asked asks ∙ k.0) k.1
+      refuses_by (why_of (lending d o)) (λ g. not_lent c (state_of bs) d o asks h) (λ g. as_asked asks ∙ k.0) k.1
     where
-      go : (a b : Bool) → (cond a (cond b not_refused (refused_for OutputLength)) (refused_for DictionaryLength)).refused ≡ true →
-          let why = (cond a (cond b not_refused (refused_for OutputLength)) (refused_for DictionaryLength)).why in
+      go : (a b : Bool) → is_err (cond a (cond b not_refused (refused_for OutputLength)) (refused_for DictionaryLength)) ≡ true →
+          let why = why_of (cond a (cond b not_refused (refused_for OutputLength)) (refused_for DictionaryLength)) in
           (without_by a b (has_node c) ≡ why) × (state_after why (form (state_of bs)) bs ≡ bs)
       go true true h = absurd (false≢true h)
       go true false h = (refl, refl)
       go false b h = (refl, refl)
 
   -- with the lengths right: the node-ID of power-up, and else that there is no state
-  without_lent : output_for c ≡ output_length → (lending d o).refused ≡ false → (n : Bool) → has_node c ≡ n → without c d o ≡ without_by true true n
+  without_lent : output_for c ≡ output_length → is_err (lending d o) ≡ false → (n : Bool) → has_node c ≡ n → without c d o ≡ without_by true true n
   unfolding lending without without_by
   without_lent asks h n e = as_asked asks ∙ go (eqb (length d) dictionary_length) (leb output_length (length o)) h
     where
-      go : (a b : Bool) → (cond a (cond b not_refused (refused_for OutputLength)) (refused_for DictionaryLength)).refused ≡ false →
+      go : (a b : Bool) → is_err (cond a (cond b not_refused (refused_for OutputLength)) (refused_for DictionaryLength)) ≡ false →
           without_by a b (has_node c) ≡ without_by true true n
       go true true h = ap (without_by true true) e
       go true false h = absurd (true≢false h)
@@ -83,13 +84,13 @@ module _ (c : Call) (bs d o : List ℕ) where
   -- and then by the test of the call
   module _ (asks : output_for c ≡ output_length) {passes : Bool} {why : Refusal}
       (fails : passes ≡ false → is_given c bs ≡ true → decision c (state_of bs) d ≡ refuses why)
-      (w : (lending d o).refused ≡ false → passes ≡ false → without c d o ≡ why) (stays : state_after why (form (state_of bs)) bs ≡ bs) where
-    refused_by_lem : (then_by passes why d o).refused ≡ true → left (status (then_by passes why d o).why 0) bs d o ≡ lent_answer c bs d o
+      (w : is_err (lending d o) ≡ false → passes ≡ false → without c d o ≡ why) (stays : state_after why (form (state_of bs)) bs ≡ bs) where
+    refused_by_lem : is_err (then_by passes why d o) ≡ true → left (status (why_of (then_by passes why d o)) 0) bs d o ≡ lent_answer c bs d o
     unfolding then_by
-    refused_by_lem h = go (lending d o).refused passes refl refl h
+    refused_by_lem h = go (is_err (lending d o)) passes refl refl h
       where
-        go : (a b : Bool) → (lending d o).refused ≡ a → passes ≡ b → (cond a (lending d o) (cond b not_refused (refused_for why))).refused ≡ true →
-            left (status (cond a (lending d o) (cond b not_refused (refused_for why))).why 0) bs d o ≡ lent_answer c bs d o
+        go : (a b : Bool) → is_err (lending d o) ≡ a → passes ≡ b → is_err (cond a (lending d o) (cond b not_refused (refused_for why))) ≡ true →
+            left (status (why_of (cond a (lending d o) (cond b not_refused (refused_for why)))) 0) bs d o ≡ lent_answer c bs d o
         go true b e f k = not_lent_in asks e
         go false false e f k = refuses_by why (λ g. decides_not c (state_of bs) d o asks e why (fails f g)) (λ g. w e f) stays
         go false true e f k = absurd (false≢true k)
@@ -133,13 +134,16 @@ module _ (c : Call) (bs d o : List ℕ) where
 -- ---- power-up
 
 module _ (n : ℕ) (bs d o : List ℕ) where
-  pub not_powered : (powering n d o).refused ≡ true → left (status (powering n d o).why 0) bs d o ≡ lent_answer (power_up_call n) bs d o
+  pub not_powered : {e : Refusal} → Err e ≡ powering n d o → left (status e 0) bs d o ≡ lent_answer (power_up_call n) bs d o
   unfolding without_by
-  not_powered h =
-      refused_by_lem (power_up_call n) bs d o refl (λ e g. no_node n (state_of bs) d e) (λ l e. without_lent (power_up_call n) bs d o refl l false e) refl h
+  not_powered {e} h =
+      let q : e ≡ why_of (powering n d o) = ap why_of h in
+      rw q
+      (refused_by_lem (power_up_call n) bs d o refl (λ x g. no_node n (state_of bs) d x)
+      (λ l x. without_lent (power_up_call n) bs d o refl l false x) refl (fails_so h))
 
   -- a state of another length
-  pub no_room_for_state : (powering n d o).refused ≡ false → (length bs ≡ state_length → ⊥) →
+  pub no_room_for_state : is_err (powering n d o) ≡ false → (length bs ≡ state_length → ⊥) →
       left (status NotSound 0) bs d o ≡ lent_answer (power_up_call n) bs d o
   unfolding without_by
   no_room_for_state h l =
@@ -149,7 +153,7 @@ module _ (n : ℕ) (bs d o : List ℕ) where
       (λ g. without_lent (power_up_call n) bs d o refl p.0 true p.1) refl
 
   -- a power-up that nothing refuses
-  pub powered : (powering n d o).refused ≡ false →
+  pub powered : is_err (powering n d o) ≡ false →
       let x = answer (power_up_call n) (state_of bs) d o in form x.state ≡ state_after x.refusal (form x.state) bs
   unfolding answered accepted
   powered h =
@@ -166,17 +170,21 @@ unsound_in bs d h g =
     rw (long, own) at h
 
 module _ (i : ℕ) (xs bs d o : List ℕ) where
-  pub frame_not_opened : (opening_of bs d o).refused ≡ true → left (status (opening_of bs d o).why 0) bs d o ≡ lent_answer (frame_call i xs) bs d o
+  pub frame_not_opened : {e : Refusal} → Err e ≡ opening_of bs d o → left (status e 0) bs d o ≡ lent_answer (frame_call i xs) bs d o
   unfolding without_by
-  frame_not_opened h =
-      refused_by_lem (frame_call i xs) bs d o refl (λ e g. unsound_frame i xs (state_of bs) d (unsound_in bs d e g))
-      (λ l e. without_lent (frame_call i xs) bs d o refl l true refl) refl h
+  frame_not_opened {e} h =
+      let q : e ≡ why_of (opening_of bs d o) = ap why_of h in
+      rw q
+      (refused_by_lem (frame_call i xs) bs d o refl (λ x g. unsound_frame i xs (state_of bs) d (unsound_in bs d x g))
+      (λ l x. without_lent (frame_call i xs) bs d o refl l true refl) refl (fails_so h))
 
-  pub event_not_opened : (opening_of bs d o).refused ≡ true → left (status (opening_of bs d o).why 0) bs d o ≡ lent_answer (event_call i xs) bs d o
+  pub event_not_opened : {e : Refusal} → Err e ≡ opening_of bs d o → left (status e 0) bs d o ≡ lent_answer (event_call i xs) bs d o
   unfolding without_by
-  event_not_opened h =
-      refused_by_lem (event_call i xs) bs d o refl (λ e g. unsound_event i xs (state_of bs) d (unsound_in bs d e g))
-      (λ l e. without_lent (event_call i xs) bs d o refl l true refl) refl h
+  event_not_opened {e} h =
+      let q : e ≡ why_of (opening_of bs d o) = ap why_of h in
+      rw q
+      (refused_by_lem (event_call i xs) bs d o refl (λ x g. unsound_event i xs (state_of bs) d (unsound_in bs d x g))
+      (λ l x. without_lent (event_call i xs) bs d o refl l true refl) refl (fails_so h))
 
 pub a_form : (bs : List ℕ) → length bs ≡ state_length → is_form bs ≡ true → (eqb (length bs) state_length && is_form bs) ≡ true
 a_form bs h f = ap (λ (b : Bool). b && is_form bs) (eq-eqb (length bs) state_length h) ∙ f
@@ -203,13 +211,15 @@ module _ (f bs d : List ℕ) where
   unheld : Bool → Refusal
   unheld b = elim b [ true ↦ NotSound | false ↦ DictionaryLength ]
 
-  pub load_not_opened : (loadable_of bs d).refused ≡ true → load_left (load_status (loadable_of bs d).why nothing_named) bs d ≡ lent_load f bs d
+  pub load_not_opened : {e : Refusal} → Err e ≡ loadable_of bs d → load_left (load_status e nothing_named) bs d ≡ lent_load f bs d
   unfolding loadable_of without unheld
-  load_not_opened h = go (eqb (length d) dictionary_length) (holds_sound bs d) refl refl h
+  load_not_opened {e} h =
+      let q : e ≡ why_of (loadable_of bs d) = ap why_of h in
+      rw q (go (eqb (length d) dictionary_length) (holds_sound bs d) refl refl (fails_so h))
     where
       go : (a b : Bool) → eqb (length d) dictionary_length ≡ a → holds_sound bs d ≡ b →
-          (cond a (cond b not_refused (refused_for NotSound)) (refused_for DictionaryLength)).refused ≡ true →
-          load_left (load_status (cond a (cond b not_refused (refused_for NotSound)) (refused_for DictionaryLength)).why nothing_named) bs d
+          is_err (cond a (cond b not_refused (refused_for NotSound)) (refused_for DictionaryLength)) ≡ true →
+          load_left (load_status (why_of (cond a (cond b not_refused (refused_for NotSound)) (refused_for DictionaryLength))) nothing_named) bs d
           ≡ lent_load f bs d
       go false b e k r = load_refuses DictionaryLength refl refl (λ g. load_no_length f (state_of bs) d e) (λ g. ap unheld e)
       go true false e k r =

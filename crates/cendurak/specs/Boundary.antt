@@ -8,7 +8,8 @@ use Rattle.state.specs.declared.Refusal.TheVariants.{WrongState, FileTooShort, T
 use Rattle.rules_dictionary.specs.TheNode.{is_node_id}
 use Rattle.rules_dictionary.specs.Table.{dictionary_length}
 use Rattle.rules_services.specs.Load.{Named, nothing_named}
-use Rattle.rules.specs.Calls.{Call, power_up_call, frame_call, event_call, load_call, Outcome, answer, refusal_number, output_for, LoadOutcome, load_answer}
+use Rattle.rules.specs.Calls.{Call, power_up_call, frame_call, event_call, load_call, Outcome, answer, refusal_number, output_for}
+use Rattle.rules.specs.Calls.{LoadOutcome, load_answer}
 use Rattle.form.specs.Form.{state_length, state_of, form, is_form}
 
 -- what a call leaves: the number that it returns, and the bytes of the three buffers

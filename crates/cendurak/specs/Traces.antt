@@ -5,7 +5,8 @@ use Rattle.std.specs.Prelude.{ℕ, ◌/◌, ◌%◌, ◌^◌, ◌≤◌, ◌≡�
 use Rattle.rules_dictionary.specs.Numbers.{are_bytes}
 use Rattle.rules_dictionary.specs.TheNode.{is_node_id}
 use Rattle.rules_dictionary.specs.Table.{dictionary_length}
-use Rattle.rules.specs.Calls.{Call, power_up_call, frame_call, event_call, load_call, Outcome, LoadOutcome, load_answer, refusal_number, output_length}
+use Rattle.rules.specs.Calls.{Call, power_up_call, frame_call, event_call, load_call, Outcome, LoadOutcome, load_answer, refusal_number}
+use Rattle.rules.specs.Calls.{output_length}
 use Rattle.theorems.specs.Promises.{Stand}
 use Rattle.form.specs.Form.{state_length, form}
 use Rattle.cendurak.specs.Boundary.{status, load_status}

@@ -11,22 +11,7 @@ use state::Refusal;
 fn refusal_number(why: Refusal) -> u32
     ensures { (result ≡ refusal_number why) × (result ≤ 14) }
 {
-    match why {
-        Refusal::Accepted => 0,
-        Refusal::DictionaryLength => 1,
-        Refusal::OutputLength => 2,
-        Refusal::NodeId => 3,
-        Refusal::NotSound => 4,
-        Refusal::BadFrame => 5,
-        Refusal::BadEvent => 6,
-        Refusal::OutOfPlace => 7,
-        Refusal::WrongState => 9,
-        Refusal::FileTooShort => 10,
-        Refusal::TooManyEntries => 11,
-        Refusal::FileMisfit => 12,
-        Refusal::ControlWordEntry => 13,
-        Refusal::EntryAborted => 14,
-    }
+    why as u32
 }
 
 // The refusal times 256 plus the number of frames.
@@ -34,7 +19,7 @@ fn number_of(refusal: u32, frames: u8) -> u32
     requires { refusal ≤ 14 }
     ensures { result ≡ 256 * refusal + frames }
 {
-    256 * refusal + (frames as u32)
+    256 * refusal + u32::from(frames)
 }
 
 // The number that C gets of a refused call.
@@ -48,8 +33,7 @@ pub fn refused(why: Refusal) -> u32
 pub fn told(given: Given) -> u32
     ensures { result ≡ status given.refusal given.frames }
 {
-    let why = given.refusal;
-    number_of(refusal_number(why), given.frames)
+    number_of(refusal_number(given.refusal), given.frames)
 }
 
 // Where the parts of a load's number stand: above the abort code the entry, above it the refusal.
@@ -57,13 +41,13 @@ const ENTRY: u64 = 0x1_0000_0000;
 
 const LOAD_REFUSAL: u64 = 0x1_0000_0000_0000;
 
-// The number that C gets of a load.
+// The number that C gets of a load. Stays beside `told`, as `load_refused` beside `refused`: `Boundary.status` and `Boundary.load_status` give C two
+// forms of number, of 32 and of 64 bits, so that one trait for both would name each form once more.
 pub fn load_told(given: LoadGiven) -> u64
     ensures { result ≡ load_status given.refusal (record { entry = given.entry; code = given.code }) }
 {
-    let why = given.refusal;
-    let refusal = refusal_number(why) as u64;
-    LOAD_REFUSAL * refusal + ENTRY * (given.entry as u64) + (given.code as u64)
+    let refusal = u64::from(refusal_number(given.refusal));
+    LOAD_REFUSAL * refusal + ENTRY * u64::from(given.entry) + u64::from(given.code)
 }
 
 // The number that C gets of a load that its file has no part in refusing.

@@ -1,30 +1,22 @@
--- Laws of the defaults: bytes copied one by one, and the identifiers that count up from the node-ID.
+-- Laws of the defaults: the default bytes, and the identifiers that count up from the node-ID.
 -- Assumes nothing.
-use Prim.Native.Nat.{ℕ, zero, suc, ◌+◌, ◌<◌, ◌≤◌}
+use Prim.Native.Nat.{ℕ, zero, suc, ◌+◌, ◌*◌, ◌≤◌}
 use mathlib.Core.Path.{◌≡◌, refl, sym, ◌∙◌, ap}
 use mathlib.Core.List.{List, [], ◌∷◌, ◌++◌, append-nil}
 use native.Mathlib.Nat.{zero-add, add-zero, add-suc, suc-add}
 use native.Mathlib.Numerals.{add-one}
 use native.Mathlib.Omega.{arith}
 use lib.ListN.{length, get_or, drop, set, drop_of_length-le}
-use lib.Seq.{paste, paste-suc, take_all, drop-cons}
+use lib.Seq.{paste, take_all, drop-cons}
 use Rattle.rules_dictionary.specs.Numbers.{bytes, filter}
 use Rattle.rules_dictionary.specs.Table.{table, error_code, error_register, emergency_identifier, each_way, place_of, dictionary_length, is_reset}
-use Rattle.rules_dictionary.specs.Table.{open_table}
+use Rattle.rules_dictionary.specs.Table.{identifier, open_table}
 use Rattle.rules_dictionary.specs.Values.{store, stored, to_defaults, packed_defaults}
 use Rattle.rules_dictionary.proofs.Defaults.{all_defaults}
 use Rattle.rules_dictionary.specs.Members.{In}
 use Rattle.rules_dictionary.proofs.LookUp.{found_in}
 use Rattle.rules_dictionary.proofs.Packing.{within}
 use Rattle.dictionary.specs.Identifiers.{four_from, node_identifiers}
-
--- one more byte copied
-pub copied : (before d s : List ℕ) (i : ℕ) → d ≡ paste before 0 s i → i < length s → i < length before →
-    set d i (get_or s i 0) ≡ paste before 0 s (i + 1)
-copied before d s i e hs hd =
-    ap (λ (l : List ℕ). set l i (get_or s i 0)) e
-    ∙ ap (λ (k : ℕ). set (paste before 0 s i) k (get_or s i 0)) (sym (zero-add i))
-    ∙ rw add-one (paste-suc before 0 s i 0 (omega arith) hs)
 
 length_defaults : length (packed_defaults 0 table) ≡ dictionary_length
 unfolding packed_defaults table bytes dictionary_length
@@ -82,3 +74,23 @@ pub communication_for_node : (n : ℕ) (d : List ℕ) → length d ≡ dictionar
 communication_for_node n d h =
     let whole = rw zero-add at (spread_is d 0 (place_of error_code) (omega (arith, within code_in))) in
     computed n d ∙ ap (λ (l : List ℕ). stored (to_defaults n (filter is_reset table)) l) whole
+
+-- ---- the identifiers of four PDOs, one by one
+
+-- those of so many of them
+unfoldable pub some_from : ℕ → ℕ → ℕ → ℕ → List ℕ → List ℕ
+some_from zero p first n d = d
+some_from (suc k) p first n d = store (identifier (p + k)) (first + 0x100 * k + n) (some_from k p first n d)
+
+pub none_from : (p first n : ℕ) (d : List ℕ) → d ≡ some_from 0 p first n d
+unfolding some_from
+none_from p first n d = refl
+
+pub one_more_from : (k p first n : ℕ) (d : List ℕ) →
+    store (identifier (p + k)) (first + 0x100 * k + n) (some_from k p first n d) ≡ some_from (k + 1) p first n d
+unfolding some_from
+one_more_from k p first n d = rw add-one refl
+
+pub four_is : (p first n : ℕ) (d : List ℕ) → some_from 4 p first n d ≡ four_from p first n d
+unfolding some_from four_from
+four_is p first n d = simp add-zero

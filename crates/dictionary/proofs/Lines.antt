@@ -86,7 +86,8 @@ unfolding sizes_from open_table
 left_test = refl
 
 pub left-fits : (lines : List ℕ) (k : ℕ) → lines ≡ map line_of table → k < entries → sizes_from lines k (entries - k) ≤ dictionary_length
-left-fits lines k e h = rw e (leb-true _ _ (below (λ k. leb (sizes_from (map line_of table) k (entries - k)) dictionary_length) entries k left_test h))
+left-fits lines k e h =
+    rw e (leb-true _ _ (below (λ k. leb (sizes_from (map line_of table) k (entries - k)) dictionary_length) entries k left_test h))
 
 -- ---- halving: a width that is a power of two
 

@@ -2,8 +2,10 @@
 -- Assumes nothing.
 use Prim.Native.Nat.{ℕ, ◌+◌, ◌-◌, ◌*◌, ◌%◌, ◌<◌, ◌≤◌, ◌^◌}
 use native.Mathlib.Omega.{arith}
-use mathlib.Core.Path.{◌≡◌}
+use mathlib.Core.Path.{◌≡◌, ◌∙◌}
+use mathlib.Core.Logic.{⊎_elim}
 use borrow.Author.Tests.{lt-ltb, le-ltb}
+use Rattle.std.proofs.lemmas.Bool.{cases_lt}
 use Rattle.rules_dictionary.specs.Members.{In}
 use Rattle.rules_dictionary.specs.Table.{Row, size_of, table, each_way, record_place, place_of, communication_count, identifier, transmission_type}
 use Rattle.rules_dictionary.specs.Table.{communication_place}
@@ -21,6 +23,12 @@ module _ (place size : ℕ → ℕ) (p : ℕ) (is : place p ≡ record_place pla
   transmits h l =
       let e : p % each_way ≡ p - each_way = omega arith in
       rw (is, le-ltb p each_way h, e)
+
+-- .. and so the place is, in one direction or the other
+pub recorded : (place size : ℕ → ℕ) (p : ℕ) → place p ≡ record_place place size p → IsPdo p → {at : ℕ} →
+    (p < each_way → at ≡ place 0 + size 0 * p) → (each_way ≤ p → at ≡ place each_way + size each_way * (p - each_way)) → at ≡ place p
+recorded place size p is l low high =
+    ⊎_elim (λ h. low h ∙ receives place size p is h) (λ h. high h ∙ transmits place size p is h l) (cases_lt p each_way)
 
 -- behind the record's place
 pub identifier_at : {p at : ℕ} → IsPdo p → at ≡ communication_place p → at + size_of (communication_count 0) ≡ place_of (identifier p)

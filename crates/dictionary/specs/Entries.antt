@@ -1,6 +1,6 @@
 -- What the code keeps of a row, its entry, and what a look-up finds.
 -- Assumes nothing.
-use Rattle.std.specs.Prelude.{ℕ, ◌+◌, ◌≤◌, ◌≡◌, List}
+use Rattle.std.specs.Prelude.{ℕ, ◌+◌, ◌≤◌, ◌≡◌, List, Result, Ok, Err, ⊤}
 use Rattle.std.proofs.lemmas.List.Edits.{sets}
 use Rattle.rules_dictionary.specs.Members.{In}
 use Rattle.rules_dictionary.specs.Numbers.{value, bytes, part}
@@ -10,10 +10,10 @@ use Rattle.dictionary.specs.declared.Spot.{Spot}
 use Rattle.dictionary.specs.declared.Entry.{Entry}
 use Rattle.dictionary.specs.declared.Found.{Found}
 use Rattle.dictionary.specs.declared.Found.TheVariants as found
-use Rattle.dictionary.specs.declared.Presence.{Presence}
-use Rattle.dictionary.specs.declared.Presence.TheVariants as presence
+use Rattle.dictionary.specs.declared.Missing.{Missing}
+use Rattle.dictionary.specs.declared.Missing.TheVariants as missing
 use Rattle.dictionary.specs.Sizes.{IsSize}
-use Rattle.dictionary.specs.Lines.{entry_in}
+use Rattle.dictionary.specs.Lines.{line_of, entry_in}
 
 abbrev pub entry_of : rows.Row → Entry
 entry_of x =
@@ -43,15 +43,22 @@ pub record Stands (i s : ℕ) (e : Entry) : Type 0 where
   pub writes : (v : ℕ) (d : List ℕ) → sets d e.place (bytes e.size v) ≡ values.store row v d
 
 -- what the look-up of an index and subindex finds: the row, the device name, or that nothing is there
-abbrev pub IsFound : ℕ → ℕ → Found → Type 0
-IsFound i s (found.Row p) = Stands i s (entry_at p)
-IsFound i s found.DeviceName = rows.lookup i s ≡ rows.the_name
-IsFound i s found.NoObject = rows.lookup i s ≡ rows.no_object
-IsFound i s found.NoSubindex = rows.lookup i s ≡ rows.no_subindex
+abbrev pub IsFound : ℕ → ℕ → Result Found Missing → Type 0
+IsFound i s (Ok (found.Row p)) = Stands i s (entry_at p)
+IsFound i s (Ok found.DeviceName) = rows.lookup i s ≡ rows.the_name
+IsFound i s (Err missing.NoObject) = rows.lookup i s ≡ rows.no_object
+IsFound i s (Err missing.NoSubindex) = rows.lookup i s ≡ rows.no_subindex
+
+-- .. as the code has it: of a row its line and its place
+abbrev pub found_as : rows.Found → Result Found Missing
+found_as (rows.found x) = Ok (found.Row (record { line = line_of x; place = rows.place_of x }))
+found_as rows.the_name = Ok found.DeviceName
+found_as rows.no_object = Err missing.NoObject
+found_as rows.no_subindex = Err missing.NoSubindex
 
 -- .. and whether anything is
-abbrev pub presence_of : rows.Found → Presence
-presence_of (rows.found x) = presence.Listed
-presence_of rows.the_name = presence.Listed
-presence_of rows.no_object = presence.NoObject
-presence_of rows.no_subindex = presence.NoSubindex
+abbrev pub presence_of : rows.Found → Result ⊤ Missing
+presence_of (rows.found x) = Ok tt
+presence_of rows.the_name = Ok tt
+presence_of rows.no_object = Err missing.NoObject
+presence_of rows.no_subindex = Err missing.NoSubindex

@@ -1,6 +1,6 @@
 -- The lines of the flat table: what a line holds of its row, and what the regular structure of the table tells of it.
 -- Assumes nothing.
-use Rattle.std.specs.Prelude.{ℕ, zero, suc, ◌+◌, ◌-◌, ◌*◌, ◌/◌, ◌%◌, ◌^◌, ◌<◌, ◌≤◌, List, cond, eqb, ltb, length, get_or}
+use Rattle.std.specs.Prelude.{ℕ, zero, suc, ◌+◌, ◌-◌, ◌*◌, ◌/◌, ◌%◌, ◌<◌, ◌≤◌, List, cond, eqb, ltb, length, get_or}
 use Rattle.rules_dictionary.specs.Table as rows
 use Rattle.rules_dictionary.specs.declared.Access.{Access}
 use Rattle.rules_dictionary.specs.declared.Access.TheVariants.{Constant, NodeWritten, Writable}
@@ -141,10 +141,3 @@ pub record LastUpTo (k rank : ℕ) : Type 0 where
   pub listed : rank < rows.entries
   pub low : 0 < rank → rows.key (rows.row_at rank) ≤ k
   pub high : suc rank < rows.entries → k < rows.key (rows.row_at (suc rank))
-
--- what a look-up finds, in one number: the line of the row, and below it in 16 bits its place; or one of three that no row has
-abbrev pub spot_of : rows.Found → ℕ
-spot_of (rows.found x) = line_of x * 2 ^ 16 + rows.place_of x
-spot_of rows.no_subindex = 2 ^ 16 - 1
-spot_of rows.no_object = 2 ^ 16 - 2
-spot_of rows.the_name = 2 ^ 16 - 3

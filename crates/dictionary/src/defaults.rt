@@ -55,17 +55,12 @@ const DEFAULTS: [u8; DICTIONARY_LENGTH] = *b"\
     \x05\0\0\0";
 
 // The first default bytes into the dictionary, so many; those behind them stay.
+#[tactic(auto, unfolding(rules_dictionary::specs::Table::open_table))]
 fn write_first(d: &mut [u8], count: usize)
     requires { (length d.old ≡ dictionary_length) × (count ≤ dictionary_length) }
     ensures { d.new ≡ paste d.old 0 (packed_defaults 0 table) count }
 {
-    let all = DEFAULTS;
-    let end = count as u32;
-    let mut i: u32 = 0;
-    while i < end {
-        d[i as usize] = all[i as usize];
-        i += 1;
-    }
+    d[..count].copy_from_slice(&DEFAULTS[..count]);
 }
 
 // The identifiers of the four PDOs from PDO p on, in steps of 100h, plus n.
@@ -73,11 +68,9 @@ fn write_identifiers(d: &mut [u8], p: usize, first: u32, n: u8)
     requires { (length d.old ≡ dictionary_length) × ((p ≤ each_way) × ((first ≤ 0x40000180) × (n ≤ last_node))) }
     ensures { d.new ≡ four_from p first n d.old }
 {
-    let node = n as u32;
-    set_identifier(d, p, first + node);
-    set_identifier(d, p + 1, first + 0x100 + node);
-    set_identifier(d, p + 2, first + 0x200 + node);
-    set_identifier(d, p + 3, first + 0x300 + node);
+    for k in 0..EACH_WAY {
+        set_identifier(d, p + k, first + 0x100 * (k as u32) + u32::from(n));
+    }
 }
 
 // The identifiers that count up from the node-ID, 1014h and those of the PDOs, to their defaults on node n.
@@ -90,7 +83,8 @@ fn write_node_identifiers(d: &mut [u8], n: u8)
     write_identifiers(d, EACH_WAY, 0x4000_0180, n);
 }
 
-// Every row to its default on node n.
+// Every row to its default on node n. It and the next stay two: one with a count would keep 1001h in one case, and not in the other.
+#[tactic(auto, unfolding(rules_dictionary::specs::Table::open_table))]
 pub fn write_defaults(d: &mut [u8], n: u8)
     requires { (length d.old ≡ dictionary_length) × ((first_node ≤ n) × (n ≤ last_node)) }
     ensures { d.new ≡ stored (to_defaults n table) d.old }
@@ -101,6 +95,7 @@ pub fn write_defaults(d: &mut [u8], n: u8)
 
 // The communication objects, 1000h to 1FFFh without 1001h, to their defaults on node n: all in front of the drive's, of which 603Fh is
 // the first.
+#[tactic(auto, unfolding(rules_dictionary::specs::Table::open_table))]
 pub fn write_communication_defaults(d: &mut [u8], n: u8)
     requires { (length d.old ≡ dictionary_length) × ((first_node ≤ n) × (n ≤ last_node)) }
     ensures { d.new ≡ stored (to_defaults n (filter is_reset table)) d.old }

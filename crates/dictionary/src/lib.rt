@@ -23,7 +23,8 @@ pub struct Spot {
     pub place: u16,
 }
 
-// A row taken apart: where its value stands and what it may be.
+// A row taken apart: where its value stands and what it may be. `size` stays a number: it is compared with sizes of downloads and files, and added
+// to places; `IsSize` says that it is 1, 2 or 4.
 #[derive(Clone, Copy)]
 pub struct Entry {
     pub place: u16,
@@ -39,14 +40,11 @@ pub struct Entry {
 pub enum Found {
     Row(Spot),
     DeviceName,
-    NoObject,
-    NoSubindex,
 }
 
-// Whether it finds anything.
-#[derive(Clone, Copy)]
-pub enum Presence {
-    Listed,
+// Why it finds nothing.
+#[derive(Clone, Copy, PartialEq, Eq)]
+pub enum Missing {
     NoObject,
     NoSubindex,
 }

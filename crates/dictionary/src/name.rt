@@ -13,8 +13,5 @@ const NAME: [u8; NAME_LENGTH] = *b"Cendurak servo node";
 pub fn name_at(i: usize) -> u8
     ensures { result ≡ get_or device_name i 0 }
 {
-    if i < NAME_LENGTH {
-        return NAME[i];
-    }
-    0
+    NAME.get(i).copied().unwrap_or(0)
 }

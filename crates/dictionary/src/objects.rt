@@ -1,6 +1,11 @@
-// The objects that the node itself reads and writes, by name.
+// The objects that the node itself reads and writes, by name. They stay a function each: a generic one would need an impl of as many lines for
+// each row (its type, place, row and proof), and the callers would write `read::<StatusWord>(d)` for `status_word(d)`.
+
+#![tactic(auto, unfolding(rules_dictionary::specs::Values::open_values, rules_dictionary::specs::Table::open_table))]
+
 ghost use Rattle.std.specs.Prelude.{◌≡◌, length};
-ghost use Rattle.rules_dictionary.specs.Table.{device_type, error_register, sync_identifier, emergency_identifier, heartbeat_time, identity_count, vendor};
+ghost use Rattle.rules_dictionary.specs.Table.{device_type, error_register, sync_identifier, emergency_identifier, heartbeat_time};
+ghost use Rattle.rules_dictionary.specs.Table.{identity_count, vendor};
 ghost use Rattle.rules_dictionary.specs.Table.{control_word, status_word, mode, mode_display, position, position_window, window_time, velocity};
 ghost use Rattle.rules_dictionary.specs.Table.{velocity_window, velocity_threshold, target_position, limit_count, minimum_position, maximum_position};
 ghost use Rattle.rules_dictionary.specs.Table.{profile_velocity, profile_acceleration, profile_deceleration, target_velocity, supported_modes};

@@ -1,5 +1,6 @@
 // Where the values stand in the dictionary: each row behind the one before it, in the table's order. This is the one list of places: a
 // row that is put in moves those behind it by its size.
+// Places, default bytes and the lines of `ROWS` stay three lists: the look-up halves words alone, and the default bytes are copied at one stroke.
 
 // ---- the node's rows
 

@@ -1,7 +1,7 @@
 // The records of the PDOs, which are regular: PDO 0 to 3 receive, 4 to 7 transmit.
-ghost use Rattle.std.specs.Prelude.{◌≡◌, ◌<◌, ◌^◌, length};
+ghost use Rattle.std.specs.Prelude.{◌≡◌, ◌+◌, ◌-◌, ◌*◌, ◌<◌, ◌≤◌, ◌^◌, length};
 ghost use Rattle.rules_dictionary.specs.Table.{communication_count, identifier, transmission_type, map_count, communication_place, mapping_place};
-ghost use Rattle.rules_dictionary.specs.Table.{words_place, dictionary_length};
+ghost use Rattle.rules_dictionary.specs.Table.{words_place, each_way, dictionary_length};
 ghost use Rattle.rules_dictionary.specs.Values.{read, store};
 ghost use Rattle.dictionary.specs.Sizes.{IsPdo};
 
@@ -13,15 +13,29 @@ pub const INVALID: u32 = 0x8000_0000;
 
 pub const IDENTIFIERS: u32 = 0x800;
 
+// Where a PDO's record of a kind stands: so many of that length on from the first of its direction.
+fn record_place(p: usize, receive: usize, transmit: usize, length: usize) -> usize
+    requires { IsPdo p × ((receive < 2 ^ 15) × ((transmit < 2 ^ 15) × (length < 2 ^ 8))) }
+    ensures receives { p < each_way → result ≡ receive + length * p }
+    ensures transmits { each_way ≤ p → result ≡ transmit + length * (p - each_way) }
+{
+    if p < places::EACH_WAY {
+        return receive + length * p;
+    }
+    transmit + length * (p - places::EACH_WAY)
+}
+
 // Where a PDO's communication record stands.
 pub fn communication_place(p: usize) -> usize
     requires { IsPdo p }
     ensures { (result ≡ communication_place p) × (result < 2 ^ 16) }
 {
-    if p < places::EACH_WAY {
-        return places::RECEIVE_COMMUNICATION + places::COMMUNICATION_LENGTH * p;
-    }
-    places::TRANSMIT_COMMUNICATION + places::COMMUNICATION_LENGTH * (p - places::EACH_WAY)
+    record_place(
+        p,
+        places::RECEIVE_COMMUNICATION,
+        places::TRANSMIT_COMMUNICATION,
+        places::COMMUNICATION_LENGTH,
+    )
 }
 
 // Where a PDO's mapping record stands.
@@ -29,10 +43,12 @@ pub fn mapping_place(p: usize) -> usize
     requires { IsPdo p }
     ensures { (result ≡ mapping_place p) × (result < 2 ^ 16) }
 {
-    if p < places::EACH_WAY {
-        return places::RECEIVE_MAPPING + places::MAPPING_LENGTH * p;
-    }
-    places::TRANSMIT_MAPPING + places::MAPPING_LENGTH * (p - places::EACH_WAY)
+    record_place(
+        p,
+        places::RECEIVE_MAPPING,
+        places::TRANSMIT_MAPPING,
+        places::MAPPING_LENGTH,
+    )
 }
 
 // Where a PDO's mapping words stand, one after another.
@@ -42,6 +58,9 @@ pub fn words_place(p: usize) -> usize
 {
     mapping_place(p) + places::WORDS
 }
+
+// The readers stay a function each, as those of objects: one over a field of the record would say `read(d, p, Field::Identifier)` for
+// `identifier(d, p)`, and give back one type for three.
 
 // The entries of a PDO's communication record.
 pub fn communication_count(d: &[u8], p: usize) -> u8

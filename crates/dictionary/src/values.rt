@@ -4,19 +4,8 @@ ghost use Rattle.std.proofs.lemmas.List.Edits.{sets};
 ghost use Rattle.rules_dictionary.specs.Numbers.{value, bytes, part};
 ghost use Rattle.dictionary.specs.Sizes.{IsSize};
 
-// A byte as a number of 16 bits.
-fn wide2(x: u8) -> u16
-    ensures { (result ≡ x) × (result < 256) }
-{
-    x as u16
-}
-
-// A byte as a number of 32 bits.
-fn wide4(x: u8) -> u32
-    ensures { (result ≡ x) × (result < 256) }
-{
-    x as u32
-}
+// Reading and writing stay three functions each: a trait would have these bodies in three impls, each with its type, width and laws, and
+// the callers `u32::read_at(d, p)` for `read4(d, p)`.
 
 // The value of the byte at a place.
 pub fn read1(d: &[u8], place: usize) -> u8
@@ -31,8 +20,7 @@ pub fn read2(d: &[u8], place: usize) -> u16
     requires { place + 2 ≤ length d.now }
     ensures { result ≡ value (part place 2 d.now) }
 {
-    let next = place + 1;
-    wide2(d[place]) + 256 * wide2(d[next])
+    u16::from_le_bytes([d[place], d[place + 1]])
 }
 
 // The value of four bytes from a place on.
@@ -40,13 +28,7 @@ pub fn read4(d: &[u8], place: usize) -> u32
     requires { place + 4 ≤ length d.now }
     ensures { result ≡ value (part place 4 d.now) }
 {
-    let second = place + 1;
-    let third = second + 1;
-    let fourth = third + 1;
-    wide4(d[place])
-        + 0x100 * wide4(d[second])
-        + 0x1_0000 * wide4(d[third])
-        + 0x100_0000 * wide4(d[fourth])
+    u32::from_le_bytes([d[place], d[place + 1], d[place + 2], d[place + 3]])
 }
 
 // A value into the byte at a place.
@@ -62,9 +44,9 @@ pub fn write2(d: &mut [u8], place: usize, v: u16)
     requires { place + 2 ≤ length d.old }
     ensures { d.new ≡ sets d.old place (bytes 2 v) }
 {
-    let next = place + 1;
-    d[place] = (v % 256) as u8;
-    d[next] = (v / 256 % 256) as u8;
+    let [low, high] = v.to_le_bytes();
+    d[place] = low;
+    d[place + 1] = high;
 }
 
 // A value into four bytes from a place on.
@@ -72,39 +54,33 @@ pub fn write4(d: &mut [u8], place: usize, v: u32)
     requires { place + 4 ≤ length d.old }
     ensures { d.new ≡ sets d.old place (bytes 4 v) }
 {
-    let second = place + 1;
-    let third = second + 1;
-    let fourth = third + 1;
-    d[place] = (v % 256) as u8;
-    d[second] = (v / 256 % 256) as u8;
-    d[third] = (v / 256 / 256 % 256) as u8;
-    d[fourth] = (v / 256 / 256 / 256 % 256) as u8;
+    let [first, second, third, fourth] = v.to_le_bytes();
+    d[place] = first;
+    d[place + 1] = second;
+    d[place + 2] = third;
+    d[place + 3] = fourth;
 }
 
-// The value of 1, 2 or 4 bytes from a place on.
+// The value of 1, 2 or 4 bytes from a place on. `size` stays a number, as in `Entry` and `Move`.
 pub fn read(d: &[u8], place: usize, size: u8) -> u32
     requires { (place + size ≤ length d.now) × IsSize size }
     ensures { result ≡ value (part place size d.now) }
 {
-    if size == 1 {
-        return read1(d, place) as u32;
+    match size {
+        1 => u32::from(read1(d, place)),
+        2 => u32::from(read2(d, place)),
+        _ => read4(d, place),
     }
-    if size == 2 {
-        return read2(d, place) as u32;
-    }
-    read4(d, place)
 }
 
-// A value into 1, 2 or 4 bytes from a place on.
+// A value into 1, 2 or 4 bytes from a place on. The remainders stay: a cast has to lose nothing.
 pub fn write(d: &mut [u8], place: usize, size: u8, v: u32)
     requires { (place + size ≤ length d.old) × IsSize size }
     ensures { d.new ≡ sets d.old place (bytes size v) }
 {
-    if size == 1 {
-        write1(d, place, (v % 256) as u8);
-    } else if size == 2 {
-        write2(d, place, (v % 65536) as u16);
-    } else {
-        write4(d, place, v);
+    match size {
+        1 => write1(d, place, (v % 0x100) as u8),
+        2 => write2(d, place, (v % 0x1_0000) as u16),
+        _ => write4(d, place, v),
     }
 }

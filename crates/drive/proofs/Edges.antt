@@ -1,11 +1,7 @@
 -- The edges of 'Drive states' and 'Set-points', by computation: every command in every state, both ends of each window and limit,
 -- what is taken and what is not.
 -- Assumes nothing.
-use Prim.Native.Nat.{ℕ}
-use mathlib.Core.Path.{◌≡◌, refl}
-use mathlib.Core.Bool.{Bool, true, false}
-use mathlib.Core.List.{List, [], ◌∷◌, map}
-use lib.ListN.{replicate}
+use Rattle.std.proofs.Common.{ℕ, ◌≡◌, refl, Bool, true, false, List, [], ◌∷◌, map, replicate}
 use Rattle.rules_dictionary.specs.declared.Mode.TheVariants.{NoMode, ProfilePosition, ProfileVelocity}
 use Rattle.drive.specs.declared.DriveState.{DriveState}
 use Rattle.drive.specs.declared.DriveState.TheVariants.{NotReady, SwitchOnDisabled, ReadyToSwitchOn, SwitchedOn, OperationEnabled}
@@ -17,7 +13,8 @@ use Rattle.drive.specs.declared.Store.TheVariants.{Empty, Rested, Moving, Queued
 use Rattle.drive.specs.declared.Drive.{Drive}
 use Rattle.rules_dictionary.specs.Numbers.{open_numbers}
 use Rattle.rules_dictionary.specs.Table.{control_word, mode, position, position_window, target_position, minimum_position, maximum_position, velocity}
-use Rattle.rules_dictionary.specs.Table.{velocity_window, velocity_threshold, target_velocity, profile_velocity, profile_acceleration, profile_deceleration}
+use Rattle.rules_dictionary.specs.Table.{velocity_window, velocity_threshold, target_velocity, profile_velocity, profile_acceleration}
+use Rattle.rules_dictionary.specs.Table.{profile_deceleration}
 use Rattle.rules_dictionary.specs.Table.{dictionary_length, open_table}
 use Rattle.rules_dictionary.specs.Values.{Write, write, stored, open_values}
 use Rattle.drive.specs.DriveStates.{command, next, resets, open_drive_states}

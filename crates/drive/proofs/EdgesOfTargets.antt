@@ -1,11 +1,7 @@
 -- 'Set-points' in literal numbers, by computation: what each store says, the edge of bit 4, targets at and past the limits of 607Dh and
 -- of i32, and what leaving Operation enabled or mode 1 clears.
 -- Assumes nothing.
-use Prim.Native.Nat.{ℕ}
-use mathlib.Core.Path.{◌≡◌, refl}
-use mathlib.Core.Bool.{Bool, true, false}
-use mathlib.Core.List.{List, [], ◌∷◌, map}
-use lib.ListN.{replicate}
+use Rattle.std.proofs.Common.{ℕ, ◌≡◌, refl, Bool, true, false, List, [], ◌∷◌, map, replicate}
 use Rattle.rules_dictionary.specs.declared.Mode.{Mode}
 use Rattle.rules_dictionary.specs.declared.Mode.TheVariants.{NoMode, ProfilePosition, ProfileVelocity}
 use Rattle.drive.specs.declared.DriveState.{DriveState}

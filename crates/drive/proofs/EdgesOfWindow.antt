@@ -1,11 +1,7 @@
 -- Ticket 2 in literal numbers, by computation: which target the position is held against, both ends of the window, how ticks are counted and
 -- where they are counted from 0 again, and bit 10 of 6041h with the window time 6068h.
 -- Assumes nothing.
-use Prim.Native.Nat.{ℕ}
-use mathlib.Core.Path.{◌≡◌, refl}
-use mathlib.Core.Bool.{Bool, true, false}
-use mathlib.Core.List.{List, [], ◌∷◌, map}
-use lib.ListN.{replicate}
+use Rattle.std.proofs.Common.{ℕ, ◌≡◌, refl, Bool, true, false, List, [], ◌∷◌, map, replicate}
 use Rattle.rules_dictionary.specs.declared.Mode.{Mode}
 use Rattle.rules_dictionary.specs.declared.Mode.TheVariants.{NoMode, ProfilePosition, ProfileVelocity}
 use Rattle.drive.specs.declared.Store.{Store}
@@ -71,8 +67,8 @@ counted_told = (refl, refl, refl)
 
 -- "counted while inside whatever 6068h and bit 8 are": 6068h 0, 5, 7, 8 and 65,535; 6040h 010Fh, standing still and not
 counted_whatever : map (λ ws. counts true ws (Moving (point 60) ∷ []))
-    ((write window_time 0 ∷ []) ∷ (write window_time 5 ∷ []) ∷ (write window_time 7 ∷ []) ∷ (write window_time 8 ∷ []) ∷ (write window_time 65535 ∷ [])
-    ∷ (write control_word 0x10F ∷ []) ∷ (write control_word 0x10F ∷ write velocity 1 ∷ write window_time 5 ∷ []) ∷ [])
+    ((write window_time 0 ∷ []) ∷ (write window_time 5 ∷ []) ∷ (write window_time 7 ∷ []) ∷ (write window_time 8 ∷ [])
+    ∷ (write window_time 65535 ∷ []) ∷ (write control_word 0x10F ∷ []) ∷ (write control_word 0x10F ∷ write velocity 1 ∷ write window_time 5 ∷ []) ∷ [])
     ≡ replicate 7 ((1 ∷ 8 ∷ 65535 ∷ []) ∷ [])
 unfolding counts counting open_edges
 counted_whatever = refl

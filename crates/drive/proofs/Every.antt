@@ -1,8 +1,6 @@
 -- A test of every state of the drive, and of every command in it, with a cause and without.
 -- Assumes nothing.
-use mathlib.Core.Path.{◌≡◌}
-use mathlib.Core.Bool.{Bool, true, false, ◌&&◌}
-use mathlib.Core.List.{List, [], ◌∷◌}
+use Rattle.std.proofs.Common.{◌≡◌, Bool, true, false, ◌&&◌, List, [], ◌∷◌}
 use Rattle.rules_dictionary.specs.Members.{In, here, there}
 use Rattle.rules_dictionary.specs.Numbers.{all}
 use Rattle.rules_dictionary.proofs.Tests.{and_left, and_right, all_in}

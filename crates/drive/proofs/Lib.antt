@@ -6,5 +6,4 @@ pub mod EdgesOfWord
 pub mod EdgesOfWindow
 pub mod Tempting
 pub mod Raised
-pub mod Ways
 pub mod Shown

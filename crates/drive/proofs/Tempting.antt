@@ -1,9 +1,7 @@
 -- Document 01, "Tempting and wrong: .. bit 4 as a level": while bit 4 stays 1, nothing is taken and no mark moves.
 -- Assumes nothing.
-use Prim.Native.Nat.{ℕ}
-use mathlib.Core.Path.{◌≡◌}
-use mathlib.Core.Bool.{true, and-false}
-use mathlib.Core.List.{List}
+use Rattle.std.proofs.Common.{ℕ, ◌≡◌, true, List}
+use mathlib.Core.Bool.{and-false}
 use Rattle.drive.specs.declared.Drive.{Drive}
 use Rattle.rules_dictionary.specs.Numbers.{bit}
 use Rattle.drive.specs.SetPoints.{set_point_rule, new_set_point_bit}

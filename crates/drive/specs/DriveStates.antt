@@ -115,7 +115,8 @@ asked reset was_reset voltage quick_stop switch_on enable =
 
 unfoldable pub command : ℕ → ℕ → Command
 command old word =
-    asked (bit fault_reset_bit word) (bit fault_reset_bit old) (bit voltage_bit word) (bit quick_stop_bit word) (bit switch_on_bit word) (bit enable_bit word)
+    asked (bit fault_reset_bit word) (bit fault_reset_bit old) (bit voltage_bit word) (bit quick_stop_bit word) (bit switch_on_bit word)
+    (bit enable_bit word)
 
 -- ---- what each does
 

@@ -13,21 +13,21 @@ pub mod words;
 
 use rules_dictionary::Mode;
 
-// The drive states, in the order in which document 01 lists their status words.
-#[derive(Clone, Copy)]
+// The drive states, each with its part of the status word, in the order in which document 01 lists these.
+#[derive(Clone, Copy, Debug, PartialEq, Eq)]
 pub enum DriveState {
-    NotReady,
-    SwitchOnDisabled,
-    ReadyToSwitchOn,
-    SwitchedOn,
-    OperationEnabled,
-    QuickStopActive,
-    FaultReactionActive,
-    Fault,
+    NotReady = 0x00,
+    SwitchOnDisabled = 0x40,
+    ReadyToSwitchOn = 0x21,
+    SwitchedOn = 0x23,
+    OperationEnabled = 0x27,
+    QuickStopActive = 0x07,
+    FaultReactionActive = 0x0F,
+    Fault = 0x08,
 }
 
-// What a control word asks of the drive.
-#[derive(Clone, Copy)]
+// What a control word asks of the drive. `None` stays a variant: the definitions `command`, `next` and `resets` are about this type.
+#[derive(Clone, Copy, Debug, PartialEq, Eq)]
 pub enum Command {
     None,
     FaultReset,
@@ -74,11 +74,4 @@ pub struct Drive {
 pub struct Controlled {
     pub drive: Drive,
     pub reset: bool,
-}
-
-// Where a set-point is aimed: at a target, as a word, or outside the limits.
-#[derive(Clone, Copy)]
-pub enum Aim {
-    At(u32),
-    Outside,
 }

@@ -9,7 +9,7 @@ ghost use Rattle.drive.specs.Words.{aim_of, set_point_to};
 
 use crate::states::{command, has, is_enabled, next, resets};
 use crate::words::aim;
-use crate::{Aim, Controlled, Drive, DriveState, SetPoint, Store};
+use crate::{Controlled, Drive, DriveState, SetPoint, Store};
 use dictionary::objects;
 use rules_dictionary::{Mode, PROFILE_POSITION, PROFILE_VELOCITY};
 
@@ -25,36 +25,21 @@ impl Store {
     pub fn is_empty(self) -> bool
         ensures { result ≡ is_empty self }
     {
-        match self {
-            Store::Empty => true,
-            Store::Rested(_) => false,
-            Store::Moving(_) => false,
-            Store::Queued(_, _) => false,
-        }
+        matches!(self, Store::Empty)
     }
 
     // Are there two set-points.
     pub fn is_queued(self) -> bool
         ensures { result ≡ is_queued self }
     {
-        match self {
-            Store::Empty => false,
-            Store::Rested(_) => false,
-            Store::Moving(_) => false,
-            Store::Queued(_, _) => true,
-        }
+        matches!(self, Store::Queued(_, _))
     }
 
     // Is there a set-point to move to: Moving or Queued.
     pub fn is_moving(self) -> bool
         ensures { result ≡ is_moving self }
     {
-        match self {
-            Store::Empty => false,
-            Store::Rested(_) => false,
-            Store::Moving(_) => true,
-            Store::Queued(_, _) => true,
-        }
+        matches!(self, Store::Moving(_) | Store::Queued(_, _))
     }
 
     // The last taken target; where there is none, the position, 6064h.
@@ -64,8 +49,7 @@ impl Store {
         match self {
             Store::Empty => here,
             Store::Rested(t) => t,
-            Store::Moving(a) => a.target,
-            Store::Queued(_, b) => b.target,
+            Store::Moving(a) | Store::Queued(_, a) => a.target,
         }
     }
 
@@ -74,8 +58,7 @@ impl Store {
         ensures { result ≡ behind self p }
     {
         match self {
-            Store::Empty => Store::Moving(p),
-            Store::Rested(_) => Store::Moving(p),
+            Store::Empty | Store::Rested(_) => Store::Moving(p),
             Store::Moving(a) => Store::Queued(a, p),
             Store::Queued(_, _) => self,
         }
@@ -86,8 +69,7 @@ impl Store {
         ensures { result ≡ reached self }
     {
         match self {
-            Store::Empty => self,
-            Store::Rested(_) => self,
+            Store::Empty | Store::Rested(_) => self,
             Store::Moving(a) => Store::Rested(a.target),
             Store::Queued(_, b) => Store::Moving(b),
         }
@@ -98,24 +80,18 @@ impl Store {
 fn is_position(m: Mode) -> bool
     ensures { result ≡ is_position m }
 {
-    match m {
-        Mode::NoMode => false,
-        Mode::ProfilePosition => true,
-        Mode::ProfileVelocity => false,
-    }
+    matches!(m, Mode::ProfilePosition)
 }
 
-// The mode of a legal 6060h.
+// The mode of a legal 6060h. Stays a `match`: the definition `mode_of` gives every other number `NoMode`, where TryFrom would bring an error
+// that nobody tells.
 pub fn mode_of(number: u8) -> Mode
     ensures { result ≡ mode_of number }
 {
-    if number == PROFILE_POSITION {
-        return Mode::ProfilePosition;
-    }
-    if number == PROFILE_VELOCITY {
-        Mode::ProfileVelocity
-    } else {
-        Mode::NoMode
+    match number {
+        PROFILE_POSITION => Mode::ProfilePosition,
+        PROFILE_VELOCITY => Mode::ProfileVelocity,
+        _ => Mode::NoMode,
     }
 }
 
@@ -125,76 +101,52 @@ impl Drive {
     pub fn with_state(self, s: DriveState) -> Drive
         ensures { result ≡ with_state s self }
     {
-        let mode = self.mode;
-        let store = self.store;
-        Drive {
-            state: s,
-            mode: mode,
-            store: store,
-            taken: self.taken,
-            limit: self.limit,
-            cause: self.cause,
-            stay: self.stay,
-        }
+        Drive { state: s, ..self }
     }
 
     // The drive in that mode, and all else as it was.
     pub fn with_mode(self, m: Mode) -> Drive
         ensures { result ≡ with_mode m self }
     {
-        let state = self.state;
-        let store = self.store;
-        Drive {
-            state: state,
-            mode: m,
-            store: store,
-            taken: self.taken,
-            limit: self.limit,
-            cause: self.cause,
-            stay: self.stay,
-        }
+        Drive { mode: m, ..self }
     }
 
     // A fault's cause present or not, and all else as it was.
-    pub fn with_cause(mut self, present: bool) -> Drive
+    pub fn with_cause(self, present: bool) -> Drive
         ensures { result ≡ with_cause present self }
     {
-        self.cause = present;
-        self
+        Drive {
+            cause: present,
+            ..self
+        }
     }
 
     // That store, and all else as it was.
     pub fn with_store(self, s: Store) -> Drive
         ensures { result ≡ with_store s self }
     {
-        let state = self.state;
-        let mode = self.mode;
-        Drive {
-            state: state,
-            mode: mode,
-            store: s,
-            taken: self.taken,
-            limit: self.limit,
-            cause: self.cause,
-            stay: self.stay,
-        }
+        Drive { store: s, ..self }
     }
 
     // That count of ticks inside the window, and all else as it was.
-    pub fn with_stay(mut self, ticks: u16) -> Drive
+    pub fn with_stay(self, ticks: u16) -> Drive
         ensures { result ≡ with_stay ticks self }
     {
-        self.stay = ticks;
-        self
+        Drive {
+            stay: ticks,
+            ..self
+        }
     }
 
     // Those two marks, taken and limit, and all else as it was.
-    pub fn with_marks(mut self, taken: bool, limit: bool) -> Drive
+    pub fn with_marks(self, taken: bool, limit: bool) -> Drive
         ensures { result ≡ with_marks taken limit self }
     {
-        self.taken = taken;
-        self.limit = limit;
-        self
+        Drive {
+            taken,
+            limit,
+            ..self
+        }
     }
 }
 
@@ -204,16 +156,11 @@ impl Drive {
     pub fn positions(self) -> bool
         ensures { result ≡ positions self }
     {
-        let state = self.state;
-        let mode = self.mode;
-        if is_enabled(state) {
-            is_position(mode)
-        } else {
-            false
-        }
+        is_enabled(self.state) && is_position(self.mode)
     }
 
     // "It empties, and both marks clear, on leaving Operation enabled or mode 1."
+    #[tactic(auto, unfolding(crate::specs::SetPoints::emptied))]
     pub fn emptied(self) -> Drive
         ensures { result ≡ emptied self }
     {
@@ -225,12 +172,12 @@ impl Drive {
     }
 
     // Event 6. Of two set-points the second becomes the active one, and ticks inside the window are counted from 0 again.
+    #[tactic(auto, unfolding(crate::specs::SetPoints::moved_on))]
     pub fn moved_on(self) -> Drive
         ensures { result ≡ moved_on self }
     {
-        let held = self.store;
-        let next = self.with_store(held.reached());
-        if held.is_queued() {
+        let next = self.with_store(self.store.reached());
+        if self.store.is_queued() {
             next.with_stay(0)
         } else {
             next
@@ -238,6 +185,7 @@ impl Drive {
     }
 
     // The drive in that state, left as the rules leave it.
+    #[tactic(auto, unfolding(crate::specs::SetPoints::enters))]
     pub fn enters(self, s: DriveState) -> Drive
         ensures { result ≡ enters s self }
     {
@@ -245,6 +193,7 @@ impl Drive {
     }
 
     // 6060h, acted on as it now stands in the dictionary.
+    #[tactic(auto, unfolding(crate::specs::SetPoints::mode_written))]
     pub fn mode_written(self, d: &[u8]) -> Drive
         requires { length d.now ≡ dictionary_length }
         ensures { result ≡ mode_written d.now self }
@@ -261,33 +210,30 @@ fn base(relative: bool, held: Store, here: u32) -> u32
 }
 
 // "target is 607Ah, or with bit 6 the last taken target (Empty: 6064h) plus 607Ah", where it is inside 607Dh.
-fn aim_of(d: &[u8], word: u16, held: Store) -> Aim
+#[tactic(auto, unfolding(crate::specs::Words::aim_of, crate::specs::SetPoints::target))]
+fn aim_of(d: &[u8], word: u16, held: Store) -> Option<u32>
     requires { length d.now ≡ dictionary_length }
     ensures { result ≡ aim_of d.now word held }
 {
-    let from = base(has(word, RELATIVE), held, objects::position(d));
-    let step = objects::target_position(d);
     aim(
-        from,
-        step,
+        base(has(word, RELATIVE), held, objects::position(d)),
+        objects::target_position(d),
         objects::minimum_position(d),
         objects::maximum_position(d),
     )
 }
 
 // A set-point to that target, "taken with 6081h, 6083h, 6084h".
+#[tactic(auto, unfolding(crate::specs::Words::set_point_to))]
 fn set_point(d: &[u8], target: u32) -> SetPoint
     requires { length d.now ≡ dictionary_length }
     ensures { result ≡ set_point_to d.now target }
 {
-    let velocity = objects::profile_velocity(d);
-    let acceleration = objects::profile_acceleration(d);
-    let deceleration = objects::profile_deceleration(d);
     SetPoint {
-        target: target,
-        velocity: velocity,
-        acceleration: acceleration,
-        deceleration: deceleration,
+        target,
+        velocity: objects::profile_velocity(d),
+        acceleration: objects::profile_acceleration(d),
+        deceleration: objects::profile_deceleration(d),
     }
 }
 
@@ -295,7 +241,7 @@ fn set_point(d: &[u8], target: u32) -> SetPoint
 fn is_full(at_once: bool, held: Store) -> bool
     ensures { result ≡ (not at_once && is_queued held) }
 {
-    if at_once { false } else { held.is_queued() }
+    !at_once && held.is_queued()
 }
 
 // The edge of bit 4, and 6040h acted on.
@@ -308,15 +254,15 @@ impl Drive {
     }
 
     // "bit 5 replaces all, else Moving, or Queued behind one". For a new active set-point ticks inside the window are counted from 0 again.
+    #[tactic(auto, unfolding(crate::specs::SetPoints::with_taken))]
     fn take(self, word: u16, p: SetPoint) -> Drive
         ensures { result ≡ with_taken word p self }
     {
-        let held = self.store;
         if has(word, AT_ONCE) {
             return self.holds(Store::Moving(p)).with_stay(0);
         }
-        let holding = self.holds(held.behind(p));
-        if held.is_moving() {
+        let holding = self.holds(self.store.behind(p));
+        if self.store.is_moving() {
             holding
         } else {
             holding.with_stay(0)
@@ -324,22 +270,22 @@ impl Drive {
     }
 
     // "with bit 5 zero and Queued, not taken; .. outside 607Dh or i32, not taken, limit mark set. Otherwise taken".
+    #[tactic(auto, unfolding(crate::specs::SetPoints::open_set_points, crate::specs::Words::set_point_to, crate::specs::Words::aim_of, crate::specs::Words::aimed))]
     fn offered(self, d: &[u8], word: u16) -> Drive
         requires { length d.now ≡ dictionary_length }
         ensures { result ≡ offered d.now word self }
     {
-        let held = self.store;
-        if is_full(has(word, AT_ONCE), held) {
+        if is_full(has(word, AT_ONCE), self.store) {
             return self;
         }
-        let found = aim_of(d, word, held);
-        match found {
-            Aim::At(target) => self.take(word, set_point(d, target)),
-            Aim::Outside => self.with_marks(self.taken, true),
+        match aim_of(d, word, self.store) {
+            Some(target) => self.take(word, set_point(d, target)),
+            None => self.with_marks(self.taken, true),
         }
     }
 
     // "if enabled in mode 1 and bit 4 rose against the old 6040h"; "bit 4 zero clears the taken mark".
+    #[tactic(auto, unfolding(crate::specs::SetPoints::set_point_rule))]
     fn set_point_rule(self, d: &[u8], old: u16, word: u16) -> Drive
         requires { length d.now ≡ dictionary_length }
         ensures { result ≡ set_point_rule d.now old word self }
@@ -347,10 +293,7 @@ impl Drive {
         if !has(word, NEW_SET_POINT) {
             return self.with_marks(false, self.limit);
         }
-        if has(old, NEW_SET_POINT) {
-            return self;
-        }
-        if self.positions() {
+        if self.positions() && !has(old, NEW_SET_POINT) {
             self.offered(d, word)
         } else {
             self
@@ -358,19 +301,17 @@ impl Drive {
     }
 
     // 6040h, acted on as it now stands in the dictionary: the drive command first, then the set-point. `old` is 6040h before the write.
+    #[tactic(auto, unfolding(crate::specs::SetPoints::control_written))]
     pub fn control_written(self, d: &[u8], old: u16) -> Controlled
         requires { length d.now ≡ dictionary_length }
         ensures { result ≡ control_written d.now old self }
     {
-        let state = self.state;
         let word = objects::control_word(d);
         let asked = command(old, word);
-        let entered = self.enters(next(self.cause, state, asked));
-        let drive = entered.set_point_rule(d, old, word);
-        let reset = resets(self.cause, state, asked);
+        let entered = self.enters(next(self.cause, self.state, asked));
         Controlled {
-            drive: drive,
-            reset: reset,
+            drive: entered.set_point_rule(d, old, word),
+            reset: resets(self.cause, self.state, asked),
         }
     }
 }

@@ -27,46 +27,43 @@ const ACK_SHOWN: u16 = 0x1000;
 
 const HALT: u16 = 0x100;
 
-// The bit of that weight, where the flag is set.
+// The bit of that weight, where the flag is set. For a word alone: one function for bytes too would need a trait with a zero and its law.
+// Stays an `if`: `weight * u16::from(on)` is no plainer, and makes a product of a choice.
 fn shown(weight: u16, on: bool) -> u16
     ensures { result ≡ shown weight on }
 {
     if on { weight } else { 0 }
 }
 
-// A number of 16 bits as one of 32.
-fn wide(x: u16) -> u32
-    ensures { result ≡ x }
-{
-    x as u32
-}
-
 // Is the magnitude of 606Ch at most 606Fh.
+#[tactic(auto, unfolding(crate::specs::StatusWord::slow))]
 fn is_slow(d: &[u8]) -> bool
     requires { length d.now ≡ dictionary_length }
     ensures { result ≡ slow d.now }
 {
     is_within(
-        wide(objects::velocity_threshold(d)),
+        u32::from(objects::velocity_threshold(d)),
         objects::velocity(d),
         0,
     )
 }
 
 // "bit 12 in mode 1, taken or Queued; in mode 3, magnitude of 606Ch at most 606Fh".
+#[tactic(auto, unfolding(crate::specs::StatusWord::ack_in_mode))]
 fn is_ack(m: Mode, v: Drive, d: &[u8]) -> bool
     requires { length d.now ≡ dictionary_length }
     ensures { result ≡ ack_in_mode m v d.now }
 {
-    let store = v.store;
     match m {
         Mode::NoMode => false,
-        Mode::ProfilePosition => if v.taken { true } else { store.is_queued() },
+        Mode::ProfilePosition => v.taken || v.store.is_queued(),
         Mode::ProfileVelocity => is_slow(d),
     }
 }
 
 // "in mode 1 Rested or active target within 6067h of 6064h (Empty: 0)".
+// Stays a `match` beside that of `is_inside`: the two differ where the store is at rest, and each is one definition of ticket 2 or document 01.
+#[tactic(auto, unfolding(crate::specs::StatusWord::reached_at_once))]
 fn is_reached_at_once(store: Store, d: &[u8]) -> bool
     requires { length d.now ≡ dictionary_length }
     ensures { result ≡ reached_at_once store d.now }
@@ -74,41 +71,39 @@ fn is_reached_at_once(store: Store, d: &[u8]) -> bool
     match store {
         Store::Empty => false,
         Store::Rested(_) => true,
-        Store::Moving(a) => is_near(a.target, d),
-        Store::Queued(a, _) => is_near(a.target, d),
+        Store::Moving(a) | Store::Queued(a, _) => is_near(a.target, d),
     }
 }
 
 // "bit 10 .. needs the position inside 6067h .. for the window time 6068h .. At 0 the answer is as before."
+#[tactic(auto, unfolding(crate::specs::StatusWord::position_reached))]
 fn is_position_reached(v: Drive, d: &[u8]) -> bool
     requires { length d.now ≡ dictionary_length }
     ensures { result ≡ position_reached v d.now }
 {
-    let store = v.store;
     let time = objects::window_time(d);
     if time == 0 {
-        return is_reached_at_once(store, d);
-    }
-    if v.stay < time {
-        false
+        is_reached_at_once(v.store, d)
     } else {
-        is_inside(store, d)
+        time <= v.stay && is_inside(v.store, d)
     }
 }
 
 // "in mode 3 60FFh within 606Dh of 606Ch".
+#[tactic(auto, unfolding(crate::specs::StatusWord::velocity_reached))]
 fn is_velocity_reached(d: &[u8]) -> bool
     requires { length d.now ≡ dictionary_length }
     ensures { result ≡ velocity_reached d.now }
 {
     is_within(
-        wide(objects::velocity_window(d)),
+        u32::from(objects::velocity_window(d)),
         objects::target_velocity(d),
         objects::velocity(d),
     )
 }
 
 // With bit 8 of 6040h set: "606Ch is 0".
+#[tactic(auto, unfolding(crate::specs::StatusWord::stands_still))]
 fn stands_still(d: &[u8]) -> bool
     requires { length d.now ≡ dictionary_length }
     ensures { result ≡ stands_still d.now }
@@ -125,44 +120,38 @@ fn halts(d: &[u8]) -> bool
 }
 
 // "Bit 10 with bit 8 of 6040h set (modes 1, 3): 606Ch is 0; else .."
+#[tactic(auto, unfolding(crate::specs::StatusWord::reached_in_mode))]
 fn is_reached(m: Mode, v: Drive, d: &[u8]) -> bool
     requires { length d.now ≡ dictionary_length }
     ensures { result ≡ reached_in_mode m v d.now }
 {
     match m {
         Mode::NoMode => false,
-        Mode::ProfilePosition => if halts(d) {
-            stands_still(d)
-        } else {
-            is_position_reached(v, d)
-        },
-        Mode::ProfileVelocity => if halts(d) {
-            stands_still(d)
-        } else {
-            is_velocity_reached(d)
-        },
+        _ if halts(d) => stands_still(d),
+        Mode::ProfilePosition => is_position_reached(v, d),
+        Mode::ProfileVelocity => is_velocity_reached(d),
     }
 }
 
 // "Enabled only": bits 12, 11 and 10.
+#[tactic(auto, unfolding(crate::specs::StatusWord::enabled_bits))]
 fn enabled_bits(v: Drive, d: &[u8]) -> u16
     requires { length d.now ≡ dictionary_length }
     ensures { result ≡ enabled_bits v d.now }
 {
-    let mode = v.mode;
-    shown(ACK_SHOWN, is_ack(mode, v, d))
+    shown(ACK_SHOWN, is_ack(v.mode, v, d))
         + shown(LIMIT_SHOWN, v.limit)
-        + shown(REACHED_SHOWN, is_reached(mode, v, d))
+        + shown(REACHED_SHOWN, is_reached(v.mode, v, d))
 }
 
 // "Bit 4 voltage; bit 9 not Stopped; rest below, else 0." The flags: not Stopped, voltage.
+#[tactic(auto, unfolding(crate::specs::StatusWord::status))]
 pub fn status(remote: bool, voltage: bool, v: Drive, d: &[u8]) -> u16
     requires { length d.now ≡ dictionary_length }
     ensures { result ≡ status remote voltage v d.now }
 {
-    let state = v.state;
-    let always = state_word(state) + shown(VOLTAGE_SHOWN, voltage) + shown(REMOTE_SHOWN, remote);
-    if is_enabled(state) {
+    let always = state_word(v.state) + shown(VOLTAGE_SHOWN, voltage) + shown(REMOTE_SHOWN, remote);
+    if is_enabled(v.state) {
         always + enabled_bits(v, d)
     } else {
         always

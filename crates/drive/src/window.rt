@@ -8,10 +8,8 @@ use crate::Store;
 use crate::words::is_within;
 use dictionary::objects;
 
-// "to 65,535 at most".
-const MOST_TICKS: u16 = 65535;
-
 // Is the target within 6067h of 6064h.
+#[tactic(auto, unfolding(crate::specs::Window::near))]
 pub fn is_near(target: u32, d: &[u8]) -> bool
     requires { length d.now ≡ dictionary_length }
     ensures { result ≡ near target d.now }
@@ -20,6 +18,7 @@ pub fn is_near(target: u32, d: &[u8]) -> bool
 }
 
 // Is the position "inside 6067h of the active target (Rested: of the target at rest)".
+#[tactic(auto, unfolding(crate::specs::Window::inside))]
 pub fn is_inside(store: Store, d: &[u8]) -> bool
     requires { length d.now ≡ dictionary_length }
     ensures { result ≡ inside store d.now }
@@ -27,14 +26,13 @@ pub fn is_inside(store: Store, d: &[u8]) -> bool
     match store {
         Store::Empty => false,
         Store::Rested(target) => is_near(target, d),
-        Store::Moving(a) => is_near(a.target, d),
-        Store::Queued(a, _) => is_near(a.target, d),
+        Store::Moving(a) | Store::Queued(a, _) => is_near(a.target, d),
     }
 }
 
-// One tick more.
+// One tick more, "to 65,535 at most".
 pub fn one_more(ticks: u16) -> u16
     ensures { result ≡ one_more ticks }
 {
-    if ticks < MOST_TICKS { ticks + 1 } else { ticks }
+    ticks.saturating_add(1)
 }

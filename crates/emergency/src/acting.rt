@@ -13,7 +13,7 @@ use dictionary::objects;
 use drive::Drive;
 use form::{put_drive, read_drive, read_node};
 use output::{Done, nothing_done};
-use state::{Node, Occasion};
+use state::Node;
 
 // The emergency code of a fault that is gone.
 const FAULT_GONE: u16 = 0x0000;
@@ -26,15 +26,13 @@ fn fault_reset(node: Node, d: &mut [u8], output: &mut [u8]) -> Done
     objects::set_error_register(d, 0);
     let frames = emergency(FAULT_GONE, node, d, output);
     Done {
-        frames: frames,
+        frames,
         touched: true,
-        remapped: false,
-        occasion: Occasion::Plain,
-        quiet: false,
+        ..nothing_done(false)
     }
 }
 
-// 6060h acted on, where it was written.
+// 6060h acted on, where it was written. By value, for 6040h acts on the same drive: in the bytes it would be put and read once more.
 fn mode_acted(drive: Drive, d: &[u8], written: bool) -> Drive
     requires { length d.now ≡ dictionary_length }
     ensures { result ≡ mode_acts written drive d.now }
@@ -53,11 +51,9 @@ fn control_acted(old: u16, drive: Drive, state: &mut [u8], d: &mut [u8], output:
         d.old output.old result state.new d.new output.new × (result.quiet ≡ false) }
 {
     let controlled = drive.control_written(d, old);
-    let after = controlled.drive;
-    put_drive(state, after);
+    put_drive(state, controlled.drive);
     if controlled.reset {
-        let node = read_node(state);
-        return fault_reset(node, d, output);
+        return fault_reset(read_node(state), d, output);
     }
     nothing_done(false)
 }
@@ -80,8 +76,7 @@ pub fn acted(
         return control_acted(old, drive, state, d, output);
     }
     if mode {
-        let drive = read_drive(state);
-        put_drive(state, drive.mode_written(d));
+        put_drive(state, read_drive(state).mode_written(d));
         return nothing_done(false);
     }
     nothing_done(false)

@@ -20,7 +20,6 @@ use form::{put_drive, put_node, read_drive, read_node};
 use nmt::tick;
 use output::{Done, nothing_done};
 use rules_services::Event;
-use state::Occasion;
 
 // Bit 0 of 1001h.
 const GENERIC_ERROR: u8 = 1;
@@ -53,18 +52,18 @@ fn faulted(code: u16, register: u8, state: &mut [u8], d: &mut [u8], output: &mut
 {
     let node = read_node(state);
     let drive = read_drive(state);
-    let was = drive.state;
     let before = objects::error_register(d);
     objects::set_error_code(d, code);
     objects::set_error_register(d, before | (register | GENERIC_ERROR));
-    put_drive(state, drive.enters(reaction_from(was)).with_cause(true));
+    put_drive(
+        state,
+        drive.enters(reaction_from(drive.state)).with_cause(true),
+    );
     let frames = emergency(code, node, d, output);
     Done {
-        frames: frames,
+        frames,
         touched: true,
-        remapped: false,
-        occasion: Occasion::Plain,
-        quiet: false,
+        ..nothing_done(false)
     }
 }
 
@@ -76,26 +75,19 @@ fn fed_back(at: u32, speed: u32, d: &mut [u8]) -> Done
     objects::set_position(d, at);
     objects::set_velocity(d, speed);
     Done {
-        frames: 0,
         touched: true,
-        remapped: false,
-        occasion: Occasion::Plain,
-        quiet: false,
+        ..nothing_done(false)
     }
 }
 
-// What an event does. Only a tick is quiet.
+// What an event does. Only a tick is quiet. The drive is read within the arms that move it: a tick and feedback never look at it.
 pub fn happens(e: Event, state: &mut [u8], d: &mut [u8], output: &mut [u8]) -> Done
     requires { Lent frame_size state.old d.old output.old }
     ensures { LeavesIn (happens e) (is_tick e) state.old d.old output.old
         result state.new d.new output.new }
 {
     match e {
-        Event::Started => {
-            let drive = read_drive(state);
-            moved(state, drive.enters(DriveState::SwitchOnDisabled))
-        }
-        Event::QuickStopDone => {
+        Event::Started | Event::QuickStopDone => {
             let drive = read_drive(state);
             moved(state, drive.enters(DriveState::SwitchOnDisabled))
         }

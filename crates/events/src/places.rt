@@ -9,22 +9,18 @@ use form::read_drive;
 use rules_services::Event;
 
 // Is the event in place, in the state that the bytes hold.
+#[tactic(auto, unfolding(rules_services::specs::Events::is_in_place))]
 pub fn is_in_place(e: Event, state: &[u8]) -> bool
     requires { length state.now ≡ state_length }
     ensures { result ≡ is_in_place e (state_of state.now) }
 {
     let drive = read_drive(state);
-    let is = drive.state;
-    let store = drive.store;
     match e {
-        Event::Started => is_not_ready(is),
-        Event::QuickStopDone => is_quick_stop(is),
-        Event::Fault(_, _) => true,
-        Event::ReactionDone => is_reaction(is),
-        Event::Feedback(_, _) => true,
-        Event::SetPointReached => store.is_moving(),
-        Event::Tick => true,
+        Event::Started => is_not_ready(drive.state),
+        Event::QuickStopDone => is_quick_stop(drive.state),
+        Event::ReactionDone => is_reaction(drive.state),
+        Event::SetPointReached => drive.store.is_moving(),
         Event::CauseGone => drive.cause,
-        Event::Voltage(_) => true,
+        Event::Fault(_, _) | Event::Feedback(_, _) | Event::Tick | Event::Voltage(_) => true,
     }
 }

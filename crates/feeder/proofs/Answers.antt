@@ -7,7 +7,7 @@ use mathlib.Core.List.{map-append}
 use Rattle.theorems.proofs.Words.{ℕ, ◌+◌, ◌≤◌, arith, ◌≡◌, refl, sym, ◌∙◌, ap, subst, inl, inr, Bool, true, false, cond, not, ◌&&◌, ◌||◌, false≢true}
 use Rattle.theorems.proofs.Words.{List, [], ◌∷◌, ◌++◌, append-nil, append_assoc, length, length-append, length-drop, drop, drop-drop, In, here, there}
 use Rattle.theorems.proofs.Words.{Drive, Store, Empty, Rested, Moving, Queued, SetPoint, and_left, and_right, either, not-true, and_both, or-false}
-use Rattle.theorems.proofs.Words.{Event, Told, Happened, Bad, Started, QuickStopDone, ReactionDone, SetPointReached, Tick, CauseGone, Feedback}
+use Rattle.theorems.proofs.Words.{Event, Option, Some, None, Started, QuickStopDone, ReactionDone, SetPointReached, Tick, CauseGone, Feedback}
 use Rattle.theorems.proofs.Words.{Voltage}
 use Rattle.theorems.proofs.Decisions.{Decided, decided_by}
 use Rattle.theorems.proofs.Demands.{run_rests}
@@ -22,7 +22,8 @@ use Rattle.rules_services.specs.Written.{wrote}
 use Rattle.rules_services.specs.Events.{event_of, is_in_place}
 use Rattle.rules_services.specs.declared.Event.TheVariants.{Fault}
 use Rattle.rules.specs.Calls.{Call, power_up_call, frame_call, event_call, load_call, Decision}
-use Rattle.theorems.specs.Promises.{Step, Stand, left, after, octets, AllOctets, Run, SoundAt, points, held_at, reached_in, is_accepted, tells_reached}
+use Rattle.theorems.specs.Promises.{Step, Stand, left, after, octets, AllOctets, Run, SoundAt, points, held_at, reached_in, is_accepted}
+use Rattle.theorems.specs.Promises.{tells_reached}
 use Rattle.theorems.specs.Promises.{decided_at, is_reached, begun}
 use Rattle.theorems.specs.PromisesOfDrive.{told_values, values_in, brought_by, acted, acted_all, stored_all, StandsWith, takes_over, tells_fault}
 use Rattle.feeder.specs.declared.Answer.{Answer}
@@ -53,7 +54,8 @@ record Goes (u : Answer) (done came : Bool) (fs : List (List Write)) (v : Drive)
   linked : Linked v.store (taken_of_all fs v d)
 
 -- two stretches are one: what is owed, and what is held
-pub joined_lengths : (xs ys : List Taking) (c : List ℤ) {a b : List ℤ} → lengths_of xs ++ b ≡ a → lengths_of ys ++ c ≡ b → lengths_of (xs ++ ys) ++ c ≡ a
+pub joined_lengths : (xs ys : List Taking) (c : List ℤ) {a b : List ℤ} → lengths_of xs ++ b ≡ a → lengths_of ys ++ c ≡ b →
+    lengths_of (xs ++ ys) ++ c ≡ a
 joined_lengths xs ys c p q =
     ap (λ zs. zs ++ c) (map-append far xs ys) ∙ append_assoc (lengths_of xs) (lengths_of ys) c ∙ ap (λ zs. lengths_of xs ++ zs) q ∙ p
 
@@ -162,17 +164,17 @@ module _ (k : Step) (a : Stand) where
   abbrev six : Bool
   six = is_accepted (decided_at k a) && tells_reached k.call
 
-  told_none : (t : Told) → is_reached t ≡ true → told_values t ≡ []
-  told_none (Happened SetPointReached) h = refl
-  told_none Bad h = absurd (false≢true h)
-  told_none (Happened Started) h = absurd (false≢true h)
-  told_none (Happened QuickStopDone) h = absurd (false≢true h)
-  told_none (Happened ReactionDone) h = absurd (false≢true h)
-  told_none (Happened Tick) h = absurd (false≢true h)
-  told_none (Happened CauseGone) h = absurd (false≢true h)
-  told_none (Happened (Fault code register)) h = absurd (false≢true h)
-  told_none (Happened (Feedback p q)) h = absurd (false≢true h)
-  told_none (Happened (Voltage b)) h = absurd (false≢true h)
+  told_none : (t : Option Event) → is_reached t ≡ true → told_values t ≡ []
+  told_none (Some SetPointReached) h = refl
+  told_none None h = absurd (false≢true h)
+  told_none (Some Started) h = absurd (false≢true h)
+  told_none (Some QuickStopDone) h = absurd (false≢true h)
+  told_none (Some ReactionDone) h = absurd (false≢true h)
+  told_none (Some Tick) h = absurd (false≢true h)
+  told_none (Some CauseGone) h = absurd (false≢true h)
+  told_none (Some (Fault code register)) h = absurd (false≢true h)
+  told_none (Some (Feedback p q)) h = absurd (false≢true h)
+  told_none (Some (Voltage b)) h = absurd (false≢true h)
 
   call_none : (c : Call) → tells_reached c ≡ true → values_in c a.state a.dictionary ≡ []
   call_none (power_up_call n) h = refl
@@ -187,7 +189,7 @@ module _ (k : Step) (a : Stand) where
       either_none true = refl
       either_none false = refl
 
-  reached_placed : (e : Event) → is_reached (Happened e) ≡ true → is_in_place e a.state ≡ true → is_moving a.state.axis.drive.store ≡ true
+  reached_placed : (e : Event) → is_reached (Some e) ≡ true → is_in_place e a.state ≡ true → is_moving a.state.axis.drive.store ≡ true
   unfolding is_in_place
   reached_placed SetPointReached h placed = placed
   reached_placed Started h placed = absurd (false≢true h)

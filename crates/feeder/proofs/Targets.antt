@@ -11,7 +11,8 @@ use Rattle.theorems.proofs.Words.{Drive, Store, Empty, Rested, Moving, Queued, S
 use Rattle.theorems.proofs.Words.{leb-true}
 use Rattle.theorems.proofs.Dictionary.{minimum_in, maximum_in}
 use Rattle.drive.proofs.Raised.{word_small}
-use Rattle.rules_dictionary.specs.Table.{Row, table, size_of, dictionary_length, target_position, position, minimum_position, maximum_position, open_table}
+use Rattle.rules_dictionary.specs.Table.{Row, table, size_of, dictionary_length, target_position, position, minimum_position}
+use Rattle.rules_dictionary.specs.Table.{maximum_position, open_table}
 use Rattle.rules_dictionary.specs.Numbers.{are_bytes, bit, integer}
 use Rattle.rules_dictionary.specs.Values.{Write, read, stored}
 use Rattle.drive.specs.SetPoints.{relative_bit, is_queued, behind, last_target, target, within_limits, set_point}

@@ -6,7 +6,8 @@ use lib.ListN.{length-map}
 use mir.Syntax.{w32}
 use mir.Val.{SFits}
 use Rattle.theorems.proofs.Words.{ℕ, zero, suc, ◌+◌, ◌≤◌, ◌<◌, arith, ◌≡◌, refl, sym, ◌∙◌, ap, ap₂, subst, ◌⊎◌, inl, inr, Bool, true, false, cond}
-use Rattle.theorems.proofs.Words.{not, ◌||◌, false≢true, List, [], ◌∷◌, ◌++◌, append-nil, append_assoc, length, get_or, take, drop, eqb-true, ltb-true}
+use Rattle.theorems.proofs.Words.{not, ◌||◌, false≢true, List, [], ◌∷◌, ◌++◌, append-nil, append_assoc, length, get_or, take, drop}
+use Rattle.theorems.proofs.Words.{eqb-true, ltb-true}
 use Rattle.theorems.proofs.Words.{ltb-false, In, here, there, Store, Empty, Rested, Moving, Queued, SetPoint, ProfilePosition, and_left, and_right}
 use Rattle.theorems.proofs.Words.{either, clash, by_test, not-true, or_false_left, or_false_right, take_at, suc-add}
 use Rattle.theorems.proofs.Demands.{nothing_stale, run_rests}
@@ -24,8 +25,10 @@ use Rattle.theorems.specs.Promises.{Step, Stand, left, after, AllOctets, Run, re
 use Rattle.feeder.specs.declared.Feeder.{Feeder}
 use Rattle.feeder.specs.declared.Answer.{Answer}
 use Rattle.feeder.specs.Feeder.{most_lengths, is_too_long, first_feeder, feed_word, wait_word, feeds, next_length, moved, answered, step}
-use Rattle.feeder.specs.Feeding.{Taking, far, taken_in, lengths_of, points_of, Turn, answer_at, calls_of, Premise, throughout, before_next, brought_in}
-use Rattle.feeder.specs.Feeding.{is_present, is_written, target_first, without_other_writes, without_faults, without_state_changes, without_mode_changes}
+use Rattle.feeder.specs.Feeding.{Taking, far, taken_in, lengths_of, points_of, Turn, answer_at, calls_of, Premise, throughout, before_next}
+use Rattle.feeder.specs.Feeding.{brought_in}
+use Rattle.feeder.specs.Feeding.{is_present, is_written, target_first, without_other_writes, without_faults, without_state_changes}
+use Rattle.feeder.specs.Feeding.{without_mode_changes}
 use Rattle.feeder.specs.Feeding.{inside_limits, Feeding}
 use Rattle.feeder.specs.Promises.{EachTaken, FeedsInOrder, TakesEach, Counted, PositionCounts, Linked, TargetsAreSums, HoldsWhatIsFed}
 use Rattle.feeder.specs.Promises.{EmptyListTakesNothing}
@@ -156,9 +159,9 @@ module _ (p : Premise) (lengths : List ℤ) (f : Feeder) (t : Turn) (ts : List T
   abbrev said : Answer
   said = answer_at lengths f t
 
-  first_firing : throughout p lengths f (t ∷ ts) a ≡ true → p said t a ≡ true
+  holds_at_first : throughout p lengths f (t ∷ ts) a ≡ true → p said t a ≡ true
   unfolding throughout
-  first_firing h = and_left (p said t a) _ h
+  holds_at_first h = and_left (p said t a) _ h
 
   rest_of : throughout p lengths f (t ∷ ts) a ≡ true → throughout p lengths said.feeder ts (after t.calls a) ≡ true
   unfolding throughout
@@ -180,11 +183,11 @@ unfolding calls_of
 turn_calls {lengths} {f} {t} {ts} {a} h =
     record {
       octets = octets_first t.calls (calls_of ts) h.bytes;
-      no_faults = first_firing without_faults lengths f t ts a h.no_faults;
-      not_over = first_firing without_state_changes lengths f t ts a h.no_state_changes;
-      answers = first_firing without_other_writes lengths f t ts a h.no_other_writes;
-      mode_one = first_firing without_mode_changes lengths f t ts a h.no_mode_changes;
-      inside = first_firing inside_limits lengths f t ts a h.inside;
+      no_faults = holds_at_first without_faults lengths f t ts a h.no_faults;
+      not_over = holds_at_first without_state_changes lengths f t ts a h.no_state_changes;
+      answers = holds_at_first without_other_writes lengths f t ts a h.no_other_writes;
+      mode_one = holds_at_first without_mode_changes lengths f t ts a h.no_mode_changes;
+      inside = holds_at_first inside_limits lengths f t ts a h.inside;
     }
 
 turns_later : {lengths : List ℤ} {f : Feeder} {t : Turn} {ts : List Turn} {a : Stand} → Left lengths f (t ∷ ts) a →
@@ -243,7 +246,7 @@ module _ (lengths : List ℤ) (short : is_too_long lengths ≡ false) (signed : 
     reply = answered lengths f t.told
 
     told_now : t.told ≡ read from.dictionary status_word
-    told_now = eqb-true _ _ (first_firing is_present lengths f t ts from h.present)
+    told_now = eqb-true _ _ (holds_at_first is_present lengths f t ts from h.present)
 
     is_reply : answer_at lengths f t ≡ reply
     is_reply = answers lengths short signed f t.told between.in_list
@@ -255,7 +258,7 @@ module _ (lengths : List ℤ) (short : is_too_long lengths ≡ false) (signed : 
     goes =
         calls_go reply (speaks lengths short signed f t.told) r t.calls
         (subst (λ (u : Answer). FairCalls u t.calls from) is_reply (turn_calls h))
-        (first_firing target_first lengths f t ts from h.targets_first)
+        (holds_at_first target_first lengths f t ts from h.targets_first)
         (begins lengths short signed r f t.told between told_now)
 
     -- what it owes, by the status word at that step
@@ -334,7 +337,8 @@ module _ (lengths : List ℤ) (short : is_too_long lengths ≡ false) (signed : 
               (linked_both (store_at from) (store_at (after ks from)) xs ys goes.linked goes.last others.linked);
         }
 
-  turns_fed : (r : Run) (f : Feeder) (ts : List Turn) → Between lengths f (reached r) → Left lengths f ts (reached r) → AllFed lengths f ts (reached r)
+  turns_fed : (r : Run) (f : Feeder) (ts : List Turn) → Between lengths f (reached r) → Left lengths f ts (reached r) →
+      AllFed lengths f ts (reached r)
   unfolding calls_of EachTaken Counted taken_in after reached_in before_next Linked
   turns_fed r f [] between h =
       record {

@@ -17,7 +17,8 @@ use Rattle.rules_dictionary.specs.Legal.{mode_number}
 use Rattle.drive.specs.declared.Command.TheVariants.{Enable}
 use Rattle.drive.specs.declared.DriveState.TheVariants.{OperationEnabled}
 use Rattle.drive.specs.DriveStates.{command}
-use Rattle.drive.specs.SetPoints.{new_set_point_bit, is_queued, last_target, target, within_limits, set_point, with_taken, offered, set_point_rule, mode_written}
+use Rattle.drive.specs.SetPoints.{new_set_point_bit, is_queued, last_target, target, within_limits, set_point, with_taken, offered}
+use Rattle.drive.specs.SetPoints.{set_point_rule, mode_written}
 use Rattle.drive.specs.SetPoints.{control_written, with_marks}
 use Rattle.rules_services.specs.Written.{wrote}
 use Rattle.theorems.specs.Promises.{points}

@@ -1,5 +1,5 @@
--- Ticket 3, runs of the node in which the feeder's answers are written: the set-points that are taken along calls, the feeder's turns, and the ticket's
--- premises, each by its phrase.
+-- Ticket 3, runs of the node in which the feeder's answers are written: the set-points that are taken along calls, the feeder's turns, and
+-- the ticket's premises, each by its phrase.
 -- Assumes nothing.
 use Rattle.std.specs.Prelude.{ℕ, ◌≡◌, Bool, true, false, cond, not, ◌&&◌, ◌||◌, List, [], ◌∷◌, ◌++◌, map, eqb, ℤ, ◌-ℤ◌}
 use Rattle.std.specs.Int.{w32}

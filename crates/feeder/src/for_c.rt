@@ -17,22 +17,14 @@ const REFUSAL: u64 = 0x1000_0000_0000_0000;
 fn refusal_number(why: Refusal) -> u32
     ensures { (result ≡ refusal_number why) × (result ≤ 2) }
 {
-    match why {
-        Refusal::Accepted => 0,
-        Refusal::ListTooLong => 1,
-        Refusal::PastTheList => 2,
-    }
+    why as u32
 }
-
-// How many words of 32 bits there are.
-const WORDS: i64 = 0x1_0000_0000;
 
 // A target as an unsigned word: one below zero stands that much higher.
 fn word_of(target: i32) -> u64
     ensures { (result ≡ of_z w32 target) × (result < 2 ^ 32) }
 {
-    let higher = (target as i64) + WORDS;
-    (higher as u64) % WORD
+    u64::from(target.cast_unsigned())
 }
 
 // The number that C gets of a step.
@@ -40,11 +32,10 @@ fn told(answer: Answer) -> u64
     requires { answer.feeder.position ≤ most_lengths }
     ensures { result ≡ told answer }
 {
-    let why = answer.refusal;
-    let refusal = refusal_number(why) as u64;
-    let feeder = answer.feeder;
+    let refusal = u64::from(refusal_number(answer.refusal));
+    let position = u64::from(answer.feeder.position);
     let target = word_of(answer.target);
-    REFUSAL * refusal + POSITION * (feeder.position as u64) + WORD * (answer.word as u64) + target
+    REFUSAL * refusal + POSITION * position + WORD * u64::from(answer.word) + target
 }
 
 // Whether the list can be fed.

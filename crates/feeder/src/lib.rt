@@ -10,12 +10,13 @@ ghost use Rattle.rules_dictionary.specs.Numbers.{bit};
 ghost use Rattle.drive.specs.StatusWord.{ack_shown};
 ghost use Rattle.feeder.specs.Feeder.{most_lengths, wait_word, feed_word, moved, started, step, refused};
 
-// Why a list or a step is refused.
+// Why a list or a step is refused, by the numbers of the C interface; 0 is none. It stays beside the answer, in no `Result`: the theorems on
+// `started` and `step` (specs/Feeder.antt) and include/feeder.h speak of it so.
 #[derive(Clone, Copy)]
 pub enum Refusal {
-    Accepted,
-    ListTooLong,
-    PastTheList,
+    Accepted = 0,
+    ListTooLong = 1,
+    PastTheList = 2,
 }
 
 // How many lengths of the list were taken or are on their way.
@@ -55,7 +56,8 @@ pub fn start(lengths: &[i32]) -> Refusal
     Refusal::Accepted
 }
 
-// Whether the status word shows the acknowledge.
+// Whether the status word shows the acknowledge. Stays beside the drive's `has`, of a word of 16 bits: one function for both needs a trait of the
+// arithmetic, and is longer than this line.
 fn is_acknowledged(status: u32) -> bool
     ensures { result ≡ bit ack_shown status }
 {

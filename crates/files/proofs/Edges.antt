@@ -1,11 +1,7 @@
 -- The edges of concise DCF files, by computation: small files written out byte by byte, with what they list. They are what a wrong order, size, place
 -- or count breaks.
 -- Assumes nothing.
-use Prim.Native.Nat.{ℕ}
-use mathlib.Core.Path.{◌≡◌, refl}
-use mathlib.Core.Bool.{true, false}
-use mathlib.Core.List.{List, [], ◌∷◌, ◌++◌, map}
-use lib.ListN.{take, drop, replicate}
+use Rattle.std.proofs.Common.{ℕ, ◌≡◌, refl, true, false, List, [], ◌∷◌, ◌++◌, map, take, drop, replicate}
 use Rattle.rules_dictionary.specs.Numbers.{all, open_numbers}
 use Rattle.files.specs.ConciseDcf.{Entry, misfit, whole, count_in, reading_of, entries_in, is_too_short, is_overfull, is_misfit, open_concise_dcf}
 use Rattle.files.specs.Listings.{listing_of}

@@ -1,25 +1,12 @@
 -- The head and the data of the entry at a place, in the bytes of the file.
 -- Assumes nothing.
-use Prim.Native.Nat.{ℕ, ◌+◌, ◌-◌, ◌<◌, ◌≤◌}
-use native.Mathlib.Omega.{arith}
-use mathlib.Core.Path.{◌≡◌, refl, sym, ◌∙◌, ap}
-use mathlib.Core.Bool.{Bool, true, false}
-use mathlib.Core.List.{List}
-use borrow.Author.Tests.{le-leb, lt-leb, leb-true, leb-false}
-use lib.Dec.{leb}
-use lib.ListN.{length, get_or, take, drop, length-take, length-drop, get_or-eq_default}
-use lib.Seq.{drop-drop, get_or-take, get_or-drop}
+use Rattle.std.proofs.Common.{ℕ, ◌+◌, ◌-◌, ◌<◌, ◌≤◌, arith, ◌≡◌, refl, sym, ◌∙◌, ap, Bool, true, false, List, le-leb, leb-true, leb-false, leb}
+use Rattle.std.proofs.Common.{length, get_or, take, drop, length-drop, drop-drop}
+use borrow.Author.Tests.{lt-leb}
 use Rattle.rules_dictionary.specs.Numbers.{value, part}
 use Rattle.files.specs.ConciseDcf.{index_size, subindex_size, size_size, head_size, size_at, entry_size, is_there}
 use Rattle.files.specs.Listings.{StandsAt}
 use Rattle.dictionary.proofs.Bytes.{value_step, value_none}
-
--- a byte of some data, and none behind it
-pub byte_inside : (start size : ℕ) (f : List ℕ) (k : ℕ) → k < size → get_or f (start + k) 0 ≡ get_or (part start size f) k 0
-byte_inside start size f k h = rw (get_or-take, get_or-drop)
-
-pub byte_behind : (start size : ℕ) (f : List ℕ) (k : ℕ) → size ≤ k → 0 ≡ get_or (part start size f) k 0
-byte_behind start size f k h = sym (get_or-eq_default (part start size f) 0 (simp length-take (omega arith)))
 
 -- a test by a difference is the test by a sum
 leb_sub : (k a b : ℕ) → k ≤ b → leb a (b - k) ≡ leb (k + a) b

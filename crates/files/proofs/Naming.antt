@@ -1,11 +1,6 @@
 -- Is there an entry of an index among those that are left? By the one in front.
 -- Assumes nothing.
-use Prim.Native.Nat.{ℕ, suc}
-use mathlib.Core.Path.{◌≡◌, refl, ◌∙◌, ap}
-use mathlib.Core.Bool.{Bool, true, false}
-use mathlib.Core.List.{List}
-use lib.Dec.{eqb}
-use lib.ListN.{drop}
+use Rattle.std.proofs.Common.{ℕ, suc, ◌≡◌, refl, ◌∙◌, ap, Bool, true, false, List, eqb, drop}
 use Rattle.rules_dictionary.specs.Numbers.{any}
 use Rattle.files.specs.ConciseDcf.{Entry, reading, is_whole, entries_of, entry_at}
 use Rattle.files.proofs.Places.{after, next_entries}

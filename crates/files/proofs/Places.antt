@@ -1,17 +1,15 @@
 -- The entries of a file by their places, for a loop over them: with n of them left, what is still to be read is `reading n (drop at f)`.
 -- Assumes nothing.
-use Prim.Native.Nat.{ℕ, zero, suc, ◌+◌, ◌≤◌}
-use native.Mathlib.Omega.{arith}
-use mathlib.Core.Path.{◌≡◌, refl, ◌∙◌, sym, ap}
-use mathlib.Core.Bool.{true, false}
-use mathlib.Core.List.{List, [], ◌∷◌}
-use borrow.Author.Tests.{leb-true}
-use lib.Dec.{eqb, eqb-zero-suc, eqb-suc-suc}
-use lib.ListN.{length, drop, length-drop}
-use lib.Seq.{drop-drop}
-use Rattle.files.specs.ConciseDcf.{in_front, reading, is_whole, entries_of, entry_at, entry_size, is_there}
+use Rattle.std.proofs.Common.{ℕ, zero, suc, ◌+◌, ◌-◌, ◌≤◌, arith, ◌≡◌, refl, ◌∙◌, sym, ap, true, false, List, [], ◌∷◌, leb-true, eqb, length, drop}
+use Rattle.std.proofs.Common.{length-drop, drop-drop}
+use lib.Dec.{eqb-zero-suc, eqb-suc-suc}
+use Rattle.files.specs.ConciseDcf.{count_in, in_front, reading, is_whole, entries_of, entry_at, entry_size, is_there}
 use Rattle.files.specs.Listings.{StandsAt}
 use Rattle.files.proofs.Readings.{front_there, front_read, front_cut, whole_behind, entries_behind}
+
+-- how many entries are left behind so many
+abbrev pub left : List ℕ → ℕ → ℕ
+left f k = count_in f - k
 
 -- with none left, the file ends there
 pub ends : (at : ℕ) (f : List ℕ) → at ≤ length f → is_whole (reading zero (drop at f)) ≡ eqb at (length f)

@@ -1,12 +1,8 @@
 -- Laws of reading entries from the front of some bytes.
 -- Assumes nothing.
-use Prim.Native.Nat.{ℕ, zero, suc}
-use native.Mathlib.Omega.{arith}
-use mathlib.Core.Path.{◌≡◌, refl}
-use mathlib.Core.Bool.{Bool, true, false, cond, false≢true}
-use mathlib.Core.List.{List, [], ◌∷◌}
-use borrow.Author.Tests.{leb-true}
-use lib.ListN.{length, drop, length-take, length-drop}
+use Rattle.std.proofs.Common.{ℕ, zero, suc, arith, ◌≡◌, refl, Bool, true, false, cond, List, [], ◌∷◌, leb-true, length, drop, length-take}
+use Rattle.std.proofs.Common.{length-drop}
+use mathlib.Core.Bool.{false≢true}
 use Rattle.rules_dictionary.specs.Numbers.{padded}
 use Rattle.files.specs.ConciseDcf.{Entry, Reading, misfit, whole, in_front, reading, is_whole, entries_of, entry_at, entry_size, is_there}
 use Rattle.files.specs.Listings.{first_bytes, listing_of}

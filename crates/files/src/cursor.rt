@@ -1,10 +1,12 @@
-// A cursor: a file and a place in it. Each function over one is proved by hand, so they are few and thin: they hand on to the readers of
-// entries.rt, which take the file and the place. Loops call `listing_at` and `behind`, whose parameters are plain.
+// A cursor: a file and a place in it. `listing_at` and `behind` stay beside it for the loops, which keep the place alone: they say
+// `at = behind(file, at)` for `at = Cursor::open(file, at).behind()`.
 ghost use Rattle.std.specs.Prelude.{◌≡◌, ◌+◌, drop};
 ghost use Rattle.files.specs.ConciseDcf.{entry_size};
 ghost use Rattle.files.specs.Listings.{listing_of, StandsAt};
 
-use crate::{Listing, entries};
+use crate::Listing;
+use crate::entries::{HEAD_SIZE, SUBINDEX, first_of, size_at};
+use dictionary::read2;
 
 #[derive(Clone, Copy)]
 pub struct Cursor<'a> {
@@ -25,7 +27,13 @@ impl<'a> Cursor<'a> {
         requires { StandsAt self.at self.file.now }
         ensures { result ≡ listing_of (drop self.entry.at self.entry.file.now) }
     {
-        entries::listing_in(self.file, self.at)
+        let size = size_at(self.file, self.at);
+        Listing {
+            index: read2(self.file, self.at),
+            subindex: self.file[self.at + SUBINDEX],
+            size,
+            first: first_of(self.file, self.at + HEAD_SIZE, size),
+        }
     }
 
     // The place behind it.
@@ -33,7 +41,7 @@ impl<'a> Cursor<'a> {
         requires { StandsAt self.at self.file.now }
         ensures { result ≡ self.entry.at + entry_size (drop self.entry.at self.entry.file.now) }
     {
-        entries::behind_in(self.file, self.at)
+        self.at + HEAD_SIZE + size_at(self.file, self.at) as usize
     }
 }
 

@@ -17,6 +17,7 @@ use dictionary::read4;
 pub const COUNT_SIZE: usize = 4;
 
 // An entry as it stands in a file: index and subindex, how many bytes of data it has, and the first four of these, zero where it has fewer.
+// Size and array stay fields: the definition `listing_of` is about them, and no entry is refused for data that is longer than the array.
 #[derive(Clone, Copy)]
 pub struct Listing {
     pub index: u16,
@@ -33,19 +34,18 @@ pub fn count_in(file: &[u8]) -> u32
     read4(file, 0)
 }
 
-// Does it have all of them, and nothing behind them?
+// Does it have all of them, and nothing behind them? This walk and that of `names` stay loops over the count: an iterator of entries would be a
+// type with `next` and Iterator's laws, for three lines in each, and here an entry may be cut short.
 pub fn is_whole(file: &[u8]) -> bool
     requires { Counted file.now }
     ensures { result ≡ is_whole (reading_of file.now) }
 {
-    let mut left = count_in(file);
     let mut at = COUNT_SIZE;
-    while 0 < left {
+    for _entry in 0..count_in(file) {
         if !entries::is_there(file, at) {
             return false;
         }
         at = behind(file, at);
-        left -= 1;
     }
     at == file.len()
 }
@@ -55,15 +55,13 @@ pub fn names(file: &[u8], index: u16) -> bool
     requires { Counted file.now × (is_whole (reading_of file.now) ≡ true) }
     ensures { result ≡ any (λ (e : Entry). eqb e.index index) (entries_in file.now) }
 {
-    let mut left = count_in(file);
     let mut at = COUNT_SIZE;
-    while 0 < left {
+    for _entry in 0..count_in(file) {
         let listing = listing_at(file, at);
         if listing.index == index {
             return true;
         }
         at = behind(file, at);
-        left -= 1;
     }
     false
 }

@@ -1,15 +1,8 @@
 -- A state's form read back is that state, and passes the tests of specs/Own.antt.
 -- Assumes nothing.
-use Prim.Native.Nat.{ℕ, zero, suc, ◌+◌, ◌*◌, ◌/◌, ◌%◌, ◌^◌, ◌<◌, ◌≤◌}
-use native.Mathlib.Nat.{add-zero}
-use native.Mathlib.Omega.{arith}
-use mathlib.Core.Path.{◌≡◌, refl, sym, ◌∙◌, ap}
-use mathlib.Core.Bool.{Bool, true, false, cond}
-use mathlib.Core.List.{List, [], ◌∷◌, ◌++◌, append-nil, append_assoc}
-use borrow.Author.Tests.{eq-eqb, lt-ltb}
-use lib.Dec.{eqb, lit<}
-use lib.ListN.{length, get_or, take, drop, length-append, length-drop}
-use lib.Seq.{get_or-drop, drop-drop, drop_at, take_at}
+use Rattle.std.proofs.Common.{ℕ, zero, suc, ◌+◌, ◌*◌, ◌/◌, ◌%◌, ◌^◌, ◌<◌, ◌≤◌, add-zero, arith, ◌≡◌, refl, sym, ◌∙◌, ap, Bool, true, false, cond}
+use Rattle.std.proofs.Common.{List, [], ◌∷◌, ◌++◌, append-nil, append_assoc, eq-eqb, lt-ltb, eqb, lit<, length, get_or, take, drop, length-append}
+use Rattle.std.proofs.Common.{length-drop, get_or-drop, drop-drop, drop_at, take_at}
 use Rattle.rules_dictionary.specs.declared.Mode.{Mode}
 use Rattle.rules_dictionary.specs.declared.Mode.TheVariants.{NoMode, ProfilePosition, ProfileVelocity}
 use Rattle.rules_dictionary.specs.declared.Move.{Move}
@@ -38,8 +31,10 @@ use Rattle.state.specs.declared.State.{State}
 use Rattle.rules_dictionary.proofs.Rows.{value_bytes}
 use Rattle.form.specs.Form.{word_length, word_at, numbers_behind, set_point_words, due_offset, pace_length, pace_form, pace_at}
 use Rattle.form.specs.Form.{flag_number, flag_of, nmt_number, nmt_of}
-use Rattle.form.specs.Form.{state_number, drive_state_of, each, joined, node_form, node_at, set_point_form, set_point_at, store_kind, first_set_point, second_of}
-use Rattle.form.specs.Form.{store_form, store_at, drive_form, drive_at, data_form, data_at, half, move_form, move_at, plan_form, plan_at, head_form, form}
+use Rattle.form.specs.Form.{state_number, drive_state_of, each, joined, node_form, node_at, set_point_form}
+use Rattle.form.specs.Form.{set_point_at, store_kind, first_set_point, second_of}
+use Rattle.form.specs.Form.{store_form, store_at, drive_form, drive_at, data_form, data_at, half, move_form}
+use Rattle.form.specs.Form.{move_at, plan_form, plan_at, head_form, form}
 use Rattle.form.specs.Form.{state_of, nmt_offset, voltage_offset, heartbeat_offset, node_length, velocity_offset, acceleration_offset}
 use Rattle.form.specs.Form.{deceleration_offset, set_point_length, mode_offset, taken_offset, limit_offset, cause_offset, stay_offset, store_offset}
 use Rattle.form.specs.Form.{drive_length, data_length, move_length, plan_length, node_place, drive_place, store_place, ready_place, held_place}
@@ -48,8 +43,8 @@ use Rattle.form.specs.Form.{step_offset, receipt_words, transfer_length, transfe
 use Rattle.form.specs.Own.{every_at, own_flag, flags_own, every_word, is_zero, small, node_own, transfer_own, store_own, drive_own}
 use Rattle.form.specs.Own.{paces_own, plan_own, plans_own, head_own, is_own}
 use Rattle.form.specs.Typed.{Many, none, more, SetPointTyped, StoreTyped, AnyPace, DataTyped, MoveTyped, PlanTyped, Typed}
-use Rattle.form.proofs.Rows.{each_element, length_node, length_transfer, length_set_point, length_drive, length_data, length_move}
-use Rattle.form.proofs.Rows.{length_plan, length_frames, length_pace, length_paces}
+use Rattle.form.specs.Lengths.{length_data, length_pace, length_move, length_plan}
+use Rattle.form.proofs.Rows.{each_element, length_node, length_transfer, length_set_point, length_drive, length_frames, length_paces}
 
 -- ---- enums and flags
 
@@ -200,7 +195,8 @@ module _ (bs : List ℕ) where
   unfolding store_own set_point_form bytes
   unused_back place Empty rest k e = rw k (zeros_back (2 * set_point_words) (place + 1) rest e)
   unused_back place (Rested t) rest k e =
-      rw k (zeros_back (numbers_behind + set_point_words) (place + 1 + velocity_offset) rest (behind (place + 1) word_length (bytes word_length t) e refl))
+      rw k (zeros_back (numbers_behind + set_point_words) (place + 1 + velocity_offset) rest
+      (behind (place + 1) word_length (bytes word_length t) e refl))
   unused_back place (Moving a) rest k e =
       rw k (zeros_back set_point_words (place + 1 + set_point_length) rest (behind (place + 1) set_point_length (set_point_form a) e refl))
   unused_back place (Queued a b) rest k e = rw k
@@ -246,7 +242,7 @@ module _ (bs : List ℕ) where
   unfolding plan_form plan_at plan_own every_word
   plan_back place p rest t e =
       let count : get_or bs place 0 ≡ p.count = rw add-zero at (byte_at place 0 e) in
-      let moves = row_back move_form MoveTyped (λ i. move_at i bs) (λ i. small (word_at i bs)) move_length (λ m _. length_move m) move_back
+      let moves = row_back move_form MoveTyped (λ i. move_at i bs) (λ i. small (word_at i bs)) move_length length_move move_back
       (place + 1) rest t.moves (behind place 1 (p.count ∷ []) e refl) in
       (rw (count, moves.0), moves.1)
 
@@ -289,7 +285,7 @@ module _ (bs : List ℕ) where
       (each each_way paces_place pace_length (λ i. pace_at i bs) ≡ ps) × (paces_own bs ≡ true)
   unfolding paces_own
   paces_back rest m e =
-      row_back pace_form AnyPace (λ i. pace_at i bs) (λ i. own_flag (get_or bs (i + due_offset) 0)) pace_length (λ p _. length_pace p) pace_back
+      row_back pace_form AnyPace (λ i. pace_at i bs) (λ i. own_flag (get_or bs (i + due_offset) 0)) pace_length length_pace pace_back
       paces_place rest m e
 
   -- THE LAWS: read back, the form is the state, and it is its own

@@ -1,12 +1,8 @@
 -- What is put into bytes that hold a state: they hold the state with that part.
 -- Assumes nothing.
-use Prim.Native.Nat.{ℕ, zero, suc, ◌+◌, ◌*◌, ◌<◌}
-use native.Mathlib.Omega.{arith}
-use mathlib.Core.Path.{◌≡◌, refl, sym, ◌∙◌, ap}
-use mathlib.Core.Bool.{true}
-use mathlib.Core.List.{List, [], ◌∷◌, ◌++◌, append-nil, append_assoc}
-use lib.ListN.{length, get_or, set, length-append}
-use lib.Seq.{sets, sets-eq, drop_at}
+use Rattle.std.proofs.Common.{ℕ, zero, suc, ◌+◌, ◌*◌, ◌<◌, arith, ◌≡◌, refl, sym, ◌∙◌, ap, true, List, [], ◌∷◌, ◌++◌, append-nil, append_assoc}
+use Rattle.std.proofs.Common.{length, get_or, set, length-append, drop_at}
+use Rattle.std.proofs.lemmas.List.Edits.{sets, sets-eq}
 use Rattle.rules_dictionary.specs.Table.{each_way}
 use Rattle.rules_dictionary.specs.declared.Plan.{Plan}
 use Rattle.rules_dictionary.specs.declared.PdoData.{PdoData}
@@ -23,7 +19,8 @@ use Rattle.form.specs.Form.{heartbeat_offset, node_length, stay_offset, drive_le
 use Rattle.form.specs.Form.{held_place, paces_place, plans_place, state_length, transfer_form, transfer_length, transfer_place}
 use Rattle.form.specs.Typed.{Many, none, more, AnyPace, DataTyped, StoreTyped, PlanTyped, HeadTyped}
 use Rattle.form.specs.Holding.{Holds, planned, readying, holding}
-use Rattle.form.proofs.Rows.{length_node, length_transfer, length_drive, length_data, length_frames, length_paces, length_plans, length_form}
+use Rattle.form.specs.Lengths.{length_data}
+use Rattle.form.proofs.Rows.{length_node, length_transfer, length_drive, length_frames, length_paces, length_plans, length_form}
 use Rattle.form.proofs.OneForm.{state_of_form, form_state_of, typed_read}
 
 -- ---- bytes that hold a state

@@ -1,15 +1,7 @@
 -- Bytes read and laid again are the same bytes, where the tests of specs/Own.antt hold.
 -- Assumes nothing.
-use Prim.Native.Nat.{ℕ, zero, suc, ◌+◌, ◌-◌, ◌*◌, ◌/◌, ◌%◌, ◌^◌, ◌<◌, ◌≤◌}
-use native.Mathlib.Numerals.{add-one}
-use native.Mathlib.Omega.{arith}
-use mathlib.Core.Path.{◌≡◌, refl, sym, ◌∙◌, ap}
-use mathlib.Core.Bool.{Bool, true, false, cond, ◌&&◌}
-use mathlib.Core.List.{List, [], ◌∷◌, ◌++◌}
-use borrow.Author.Tests.{eqb-true, ltb-true}
-use lib.Dec.{eqb}
-use lib.ListN.{length, get_or, drop}
-use lib.Seq.{drop-cons, drop-drop, take-add, take_all}
+use Rattle.std.proofs.Common.{ℕ, zero, suc, ◌+◌, ◌-◌, ◌*◌, ◌/◌, ◌%◌, ◌^◌, ◌<◌, ◌≤◌, add-one, arith, ◌≡◌, refl, sym, ◌∙◌, ap, Bool, true, false, cond}
+use Rattle.std.proofs.Common.{◌&&◌, List, [], ◌∷◌, ◌++◌, eqb-true, ltb-true, eqb, length, get_or, drop, drop-cons, drop-drop, take-add, take_all}
 use Rattle.rules_dictionary.specs.Numbers.{value, bytes, part}
 use Rattle.rules_dictionary.specs.Table.{each_way, most_moves}
 use Rattle.rules_dictionary.specs.Legal.{mode_number}
@@ -18,11 +10,14 @@ use Rattle.drive.specs.declared.Store.TheVariants.{Empty, Rested, Moving, Queued
 use Rattle.drive.specs.SetPoints.{mode_of}
 use Rattle.state.specs.declared.Transfer.TheVariants.{NoTransfer, Uploading, Downloading}
 use Rattle.dictionary.proofs.Bytes.{value_step}
-use Rattle.form.specs.Form.{flag_number, flag_of, nmt_number, nmt_of, state_number, drive_state_of, each, joined, node_form, node_at, word_length, word_at}
+use Rattle.form.specs.Form.{flag_number, flag_of, nmt_number, nmt_of, state_number, drive_state_of, each, joined}
+use Rattle.form.specs.Form.{node_form, node_at, word_length, word_at}
 use Rattle.form.specs.Form.{set_point_form, set_point_at, store_form, store_at, drive_form, drive_at, data_form, data_at}
 use Rattle.form.specs.Form.{due_offset, pace_length, pace_form, pace_at, half}
-use Rattle.form.specs.Form.{move_form, move_at, plan_form, plan_at, head_form, form, state_of, nmt_offset, voltage_offset, heartbeat_offset, node_length}
-use Rattle.form.specs.Form.{velocity_offset, acceleration_offset, deceleration_offset, numbers_behind, set_point_words, set_point_length, store_length}
+use Rattle.form.specs.Form.{move_form, move_at, plan_form, plan_at, head_form, form, state_of}
+use Rattle.form.specs.Form.{nmt_offset, voltage_offset, heartbeat_offset, node_length}
+use Rattle.form.specs.Form.{velocity_offset, acceleration_offset, deceleration_offset, numbers_behind}
+use Rattle.form.specs.Form.{set_point_words, set_point_length, store_length}
 use Rattle.form.specs.Form.{mode_offset, taken_offset, drive_marks, stay_offset, drive_length, data_length, move_length, plan_length, node_place}
 use Rattle.form.specs.Form.{drive_place, store_place, ready_place, held_place, paces_place, plans_place, state_length}
 use Rattle.form.specs.Form.{object_offset, toggle_offset, receipt_form, receipt_at, step_offset, receipt_words, transfer_length, transfer_form}
@@ -123,11 +118,13 @@ module _ (bs : List ℕ) (fits : (i : ℕ) → get_or bs i 0 < 256) where
           transfer_form (cond a NoTransfer (cond b (Uploading step) (Downloading (receipt_at (transfer_place + step_offset) bs))))
           ≡ part transfer_place transfer_length bs
       go true b f g t =
-          laid 0 0 (f refl) (eqb-true step 0 (and_left (is_zero step) _ t)) (zeros_kept receipt_words words (omega arith) (and_right (is_zero step) _ t))
+          laid 0 0 (f refl) (eqb-true step 0 (and_left (is_zero step) _ t))
+          (zeros_kept receipt_words words (omega arith) (and_right (is_zero step) _ t))
       go false true f g t = laid 1 step (g refl) refl (zeros_kept receipt_words words (omega arith) t)
       go false false f g t =
           let flag : flag_number (flag_of toggle) ≡ toggle = eqb-true _ _ (and_right (eqb kind 2) _ t) in
-          laid 2 step (eqb-true kind 2 (and_left (eqb kind 2) _ t)) refl (rw flag (each_element (word_length * receipt_words) words 0 bs (omega arith)))
+          laid 2 step (eqb-true kind 2 (and_left (eqb kind 2) _ t)) refl (rw flag
+          (each_element (word_length * receipt_words) words 0 bs (omega arith)))
 
   set_point_kept : (place : ℕ) → place + set_point_length ≤ length bs → set_point_form (set_point_at place bs) ≡ part place set_point_length bs
   unfolding set_point_form set_point_at
@@ -139,7 +136,8 @@ module _ (bs : List ℕ) (fits : (i : ℕ) → get_or bs i 0 < 256) where
       (rw third (then_part bs (place + acceleration_offset) 4 4 (word (place + acceleration_offset) (omega arith))
       (rw fourth (word (place + deceleration_offset) (omega arith))))))
 
-  store_kept : (place : ℕ) → place + store_length ≤ length bs → store_own place bs ≡ true → store_form (store_at place bs) ≡ part place store_length bs
+  store_kept : (place : ℕ) → place + store_length ≤ length bs → store_own place bs ≡ true →
+      store_form (store_at place bs) ≡ part place store_length bs
   unfolding store_form store_at store_own set_point_form bytes
   store_kept place h t = go (eqb kind 0) (eqb kind 1) (eqb kind 2) (eqb-true kind 0) (eqb-true kind 1) (eqb-true kind 2) t
     where
@@ -163,7 +161,8 @@ module _ (bs : List ℕ) (fits : (i : ℕ) → get_or bs i 0 < 256) where
       go false true c f g i t =
           let zeros = zeros_kept (numbers_behind + set_point_words) (place + 1 + velocity_offset) (omega arith) t in
           laid 1 (g refl)
-          (then_part bs (place + 1) word_length (numbers_behind * word_length + set_point_length) (bytes_value word_length (place + 1) (omega arith)) zeros)
+          (then_part bs (place + 1) word_length (numbers_behind * word_length + set_point_length)
+          (bytes_value word_length (place + 1) (omega arith)) zeros)
       go false false true f g i t = laid 2 (i refl) (points (zeros_kept set_point_words (place + 1 + set_point_length) (omega arith) t))
       go false false false f g i t = laid 3 (eqb-true kind 3 t) (points (set_point_kept (place + 1 + set_point_length) (omega arith)))
 
@@ -181,7 +180,8 @@ module _ (bs : List ℕ) (fits : (i : ℕ) → get_or bs i 0 < 256) where
       let mode : mode_number (mode_of (at mode_offset)) ≡ at mode_offset = eqb-true _ _ (and_left b _ t1) in
       let marks = flags_kept drive_marks (drive_place + taken_offset) (omega arith) (and_left own _ t2) in
       let stay = bytes_value 2 (drive_place + stay_offset) (omega arith) in
-      rw (state, mode) (then_part bs drive_place taken_offset (drive_marks + (2 + store_length)) (each_element taken_offset drive_place 0 bs (omega arith))
+      rw (state, mode) (then_part bs drive_place taken_offset (drive_marks + (2 + store_length))
+      (each_element taken_offset drive_place 0 bs (omega arith))
       (then_part bs (drive_place + taken_offset) drive_marks (2 + store_length) marks
       (then_part bs (drive_place + stay_offset) 2 store_length stay (store_kept store_place h (and_right own _ t2)))))
 
@@ -189,7 +189,8 @@ module _ (bs : List ℕ) (fits : (i : ℕ) → get_or bs i 0 < 256) where
   unfolding data_form
   data_kept place h = each_element data_length place 0 bs h
 
-  move_kept : (place : ℕ) → place + move_length ≤ length bs → small (word_at place bs) ≡ true → move_form (move_at place bs) ≡ part place move_length bs
+  move_kept : (place : ℕ) → place + move_length ≤ length bs → small (word_at place bs) ≡ true →
+      move_form (move_at place bs) ≡ part place move_length bs
   unfolding move_form move_at
   move_kept place h t =
       let w = word_at place bs in

@@ -1,14 +1,8 @@
 -- For the callers: each state has one form, which is read back as that state; bytes that are no state's form are told apart.
 -- Assumes nothing.
-use Prim.Native.Nat.{ℕ, zero, suc, ◌+◌, ◌*◌, ◌^◌, ◌<◌}
-use native.Mathlib.Nat.{pow-suc, mod-lt}
-use native.Mathlib.Omega.{arith}
-use mathlib.Core.Path.{◌≡◌, refl, sym, ◌∙◌, ap}
-use mathlib.Core.Bool.{Bool, true, false, cond, false≢true}
-use mathlib.Core.List.{List, [], ◌∷◌}
-use borrow.Author.Tests.{eq-eqb, eqb-true}
-use lib.Dec.{eqb, lit<}
-use lib.ListN.{length, get_or}
+use Rattle.std.proofs.Common.{ℕ, zero, suc, ◌+◌, ◌*◌, ◌^◌, ◌<◌, pow-suc, mod-lt, arith, ◌≡◌, refl, sym, ◌∙◌, ap, Bool, true, false, cond, List, []}
+use Rattle.std.proofs.Common.{◌∷◌, eq-eqb, eqb-true, eqb, lit<, length, get_or}
+use mathlib.Core.Bool.{false≢true}
 use Rattle.rules_dictionary.specs.Numbers.{value, part}
 use Rattle.rules_dictionary.specs.Table.{each_way, most_moves}
 use Rattle.rules_dictionary.proofs.Tests.{and_left, and_right}

@@ -1,16 +1,14 @@
 -- Things written into bytes one after another, and how long they are.
 -- Assumes nothing.
-use Prim.Native.Nat.{ℕ, zero, suc, ◌+◌, ◌*◌, ◌<◌, ◌≤◌}
-use native.Mathlib.Numerals.{add-one, towards_suc}
-use native.Mathlib.Omega.{arith}
-use mathlib.Core.Path.{◌≡◌, refl, sym, ◌∙◌, ap}
-use mathlib.Core.List.{List, [], ◌∷◌, ◌++◌}
-use borrow.Author.Count.{below_more}
-use lib.ListN.{length, get_or, set, take, drop, length-append, length-drop, drop_of_length-le}
-use lib.Seq.{sets, sets-eq, length-sets, drop-cons, take_all}
+use Rattle.std.proofs.Common.{ℕ, zero, suc, ◌+◌, ◌-◌, ◌*◌, ◌<◌, ◌≤◌, add-one, arith, ◌≡◌, refl, sym, ◌∙◌, ap, List, [], ◌∷◌, ◌++◌, append_assoc}
+use Rattle.std.proofs.Common.{length, get_or, set, take, drop, length-append, length-drop, length-set, drop_of_length-le, drop-cons, drop-drop}
+use Rattle.std.proofs.Common.{take-suc, take_all}
+use borrow.Rule.Slice.PartMut.{put_mid}
+use lib.Seq.{sets, sets-eq, length-sets}
+use denote.Param.Members.{Called, Mut}
+use Rattle.std.specs.Array.{IsFromFnResultFrom, IsFromFnResult}
 use Rattle.rules_dictionary.specs.Numbers.{bytes}
 use Rattle.rules_dictionary.specs.Table.{each_way}
-use Rattle.rules_dictionary.specs.declared.Move.{Move}
 use Rattle.rules_dictionary.specs.declared.PdoData.{PdoData}
 use Rattle.rules_dictionary.specs.declared.Plan.{Plan}
 use Rattle.rules.specs.Outcome.{most_data}
@@ -25,8 +23,9 @@ use Rattle.state.specs.declared.State.{State}
 use Rattle.form.specs.Form.{each, joined, node_form, set_point_form, store_kind, first_set_point, second_of, store_form, drive_form, data_form}
 use Rattle.form.specs.Form.{pace_form, move_form, plan_form, head_form, form, with_plans, form_over, HoldsPlans, node_length, word_length}
 use Rattle.form.specs.Form.{velocity_offset, acceleration_offset, deceleration_offset, set_point_length, drive_length}
-use Rattle.form.specs.Form.{receipt_form, transfer_form, transfer_length, data_length, pace_length, move_length}
+use Rattle.form.specs.Form.{receipt_form, transfer_form, transfer_length, data_length, pace_length}
 use Rattle.form.specs.Form.{plan_length, node_place, transfer_place, drive_place, ready_place, held_place, paces_place, plans_place, state_length}
+use Rattle.form.specs.Lengths.{length_row, length_data, length_pace, length_plan}
 use Rattle.form.specs.Typed.{Many, none, more, AnyPace, DataTyped, PlanTyped, HeadTyped, Typed}
 
 -- what is written behind what was written
@@ -40,48 +39,58 @@ sets_behind d place x xs = rw add-one
 
 -- ---- so many things
 
--- a fact of the things at each index, as one of each thing
-many_at : {A : Type 0} (P : A → Type 0) (z : A) (xs : List A) → ((i : ℕ) → i < length xs → P (get_or xs i z)) → Many P (length xs) xs
-many_at P z [] h = none
-many_at P z (x ∷ xs) h = more (h 0 (omega arith)) (many_at P z xs (λ i g. h (suc i) (omega arith)))
+-- one more behind them
+many_more : {A : Type 0} {P : A → Type 0} {n : ℕ} {xs : List A} {x : A} → Many P n xs → P x → Many P (suc n) (xs ++ x ∷ [])
+many_more none p = more p none
+many_more (more q m) p = more q (many_more m p)
 
--- the length of a row
-pub length_row : {A : Type 0} (f : A → List ℕ) {P : A → Type 0} (width : ℕ) → ((x : A) → P x → length (f x) ≡ width) →
-    {n : ℕ} {xs : List A} → Many P n xs → length (joined f xs) ≡ n * width
-length_row f width h none = omega arith
-length_row f width h (more {x} p m) =
-    let l = h x p in
-    let r = length_row f width h m in
-    rw length-append (omega arith)
-
--- a row of things that are so many bytes each, written as far as k: what is left to write gives the whole; and a fact of each that is written
-pub record Row {A : Type 0} (f : A → List ℕ) (P : A → Type 0) (width : ℕ) (z : A) (xs : List A) (before : List ℕ) (start : ℕ) (bytes : List ℕ)
-    (place k : ℕ) : Type 0 where
-  pub left : sets bytes place (joined f (drop k xs)) ≡ sets before start (joined f xs)
+-- a row of things that are so many bytes each, of which the first k are written: what is left to write gives the whole; and a fact of each
+-- that is written
+pub record Row {A : Type 0} (f : A → List ℕ) (P : A → Type 0) (width : ℕ) (xs : List A)
+    (before : List ℕ) (start : ℕ) (bytes : List ℕ) (k : ℕ) : Type 0 where
+  pub left : sets bytes (start + width * k) (joined f (drop k xs)) ≡ sets before start (joined f xs)
   pub kept : length bytes ≡ length before
-  pub stands : place ≡ start + width * k
-  pub holds : (i : ℕ) → i < k → P (get_or xs i z)
+  pub holds : Many P k (take k xs)
 
-module _ {A : Type 0} {f : A → List ℕ} {P : A → Type 0} {width : ℕ} {z : A} {xs : List A} {before : List ℕ} {start : ℕ} where
-  pub none_yet : Row f P width z xs before start before start 0
-  none_yet = record { left = refl; kept = refl; stands = omega arith; holds = λ i h. absurd (omega arith) }
+module _ {A : Type 0} {f : A → List ℕ} {P : A → Type 0} {width : ℕ} {xs : List A} {before : List ℕ} {start : ℕ} where
+  pub none_yet : Row f P width xs before start before 0
+  none_yet = let e : start + width * 0 ≡ start = omega arith in record { left = rw e; kept = refl; holds = none }
 
-  module _ {bytes : List ℕ} {place k : ℕ} (r : Row f P width z xs before start bytes place k) where
-    pub one_more : {next : List ℕ} → k < length xs → length (f (get_or xs k z)) ≡ width → P (get_or xs k z) →
-        next ≡ sets bytes place (f (get_or xs k z)) → Row f P width z xs before start next (place + width) (k + 1)
-    one_more h l p e =
-        let append = sets_append bytes (f (get_or xs k z)) (joined f (drop (suc k) xs)) place (place + width) (omega arith) in
+  module _ {bytes : List ℕ} {k : ℕ} (r : Row f P width xs before start bytes k) where
+    pub one_more : {next : List ℕ} (z : A) → k < length xs → length (f (get_or xs k z)) ≡ width → P (get_or xs k z) →
+        next ≡ sets bytes (start + width * k) (f (get_or xs k z)) → Row f P width xs before start next (k + 1)
+    one_more z h l p e =
+        let x = get_or xs k z in
+        let place = start + width * k in
+        let append = sets_append bytes (f x) (joined f (drop (suc k) xs)) place (start + width * suc k) (omega arith) in
         record {
           left = rw (e, add-one) (sym append ∙ rw (drop-cons xs k z h) at r.left);
-          kept = ap length e ∙ length-sets bytes place (f (get_or xs k z)) ∙ r.kept;
-          stands = omega (arith, r.stands);
-          holds = below_more (λ i. P (get_or xs i z)) k r.holds p;
+          kept = ap length e ∙ length-sets bytes place (f x) ∙ r.kept;
+          holds = rw (add-one, take-suc xs k z h) (many_more r.holds p);
         }
 
-    pub all_written : {n : ℕ} → length xs ≡ n → n ≤ k → (bytes ≡ sets before start (joined f xs)) × Many P n xs
+    pub all_written : {n : ℕ} → length xs ≡ n → k ≡ n → (bytes ≡ sets before start (joined f xs)) × Many P n xs
     all_written few h =
-        let l : length xs ≤ k = omega arith in
-        (rw (drop_of_length-le xs l) at r.left, rw few at (many_at P z xs (λ i g. r.holds i (omega arith))))
+        let whole : length xs ≤ k = omega arith in
+        (rw (drop_of_length-le xs whole) at r.left, rw (take_all k xs whole, h) at r.holds)
+
+-- what calls at one index after another give, where each gives what stands at its place
+module _ {F B : Type 0} (g : Mut F (ℕ × Unit {0}) B) (K : F → Type 0) (h : ℕ → B) (start width : ℕ)
+    (gives : (i : ℕ) (p q : F) (y : B) → K p → Called g p (i, tt) y q → (y ≡ h (start + width * i)) × K q) where
+  read_each : (ys : List B) (n i : ℕ) (f : F) → K f → i + n ≡ length ys → IsFromFnResultFrom g f ys i n →
+      drop i ys ≡ each n (start + width * i) width h
+  read_each ys zero i f k l r = drop_of_length-le ys (omega arith)
+  read_each ys (suc n) i f k l r =
+      let now = gives i f r.0 r.1 k r.3 in
+      let rest = read_each ys n (i + 1) r.0 now.1 (omega arith) r.4 in
+      let there : i < length ys = omega arith in
+      let next : start + width * (i + 1) ≡ start + width * i + width = omega arith in
+      rw (drop-cons ys i r.1 there, r.2.0, now.0) (ap (λ zs. h (start + width * i) ∷ zs) (rw (← add-one) (rw next at rest)))
+
+  pub read_all : {ys : List B} {n : ℕ} {f : F} → K f → IsFromFnResult g f ys n → ys ≡ each n start width h
+  read_all {ys} {n} {f} k r =
+      let first : start + width * 0 ≡ start = omega arith in
+      rw first at (read_each ys n 0 f k (omega (arith, r.long)) r.each)
 
 -- what is read for one of them
 pub each_at : {A : Type 0} (n place width : ℕ) (f : ℕ → A) (z : A) (p : ℕ) → p < n → get_or (each n place width f) p z ≡ f (place + width * p)
@@ -121,17 +130,21 @@ pub length_set_point : (p : SetPoint) → length (set_point_form p) ≡ set_poin
 unfolding set_point_form bytes
 length_set_point p = refl
 
+-- bytes copied to a place
+copied : (d xs : List ℕ) (place k : ℕ) → length xs ≡ k → place + k ≤ length d → put_mid place k d xs ≡ sets d place xs
+copied d xs place k l h =
+    let behind : place + k ≡ place + length xs = omega arith in
+    let fits : place + length xs ≤ length d = omega arith in
+    rw (sets-eq xs d place fits, drop-drop k place d, behind) (sym (append_assoc (take place d) xs (drop (place + length xs) d)))
+
 -- a PDO's data: its length, and the bytes behind it
-pub frame_written : (d : List ℕ) (place : ℕ) (r : PdoData) → length r.bytes ≡ most_data →
-    let at : ℕ = place + 1 in
-    let byte : ℕ → ℕ = λ i. get_or r.bytes i 0 in
-    set (set (set (set (set (set (set (set (set d place r.length) at (byte 0)) (at + 1) (byte 1)) (at + 2) (byte 2)) (at + 3) (byte 3))
-    (at + 4) (byte 4)) (at + 5) (byte 5)) (at + 6) (byte 6)) (at + 7) (byte 7)
-    ≡ sets d place (data_form r)
+pub frame_written : (d ys : List ℕ) (place : ℕ) (r : PdoData) → ys ≡ r.bytes → length r.bytes ≡ most_data → place + data_length ≤ length d →
+    put_mid (place + 1) (place + 1 + most_data - (place + 1)) (set d place r.length) ys ≡ sets d place (data_form r)
 unfolding data_form
-frame_written d place r l =
-    let listed = each_element most_data 0 0 r.bytes (omega arith) ∙ take_all most_data r.bytes (omega arith) in
-    simp towards_suc (ap (λ (bs : List ℕ). sets d place (r.length ∷ bs)) listed)
+frame_written d ys place r e l h =
+    let long : place + 1 + most_data - (place + 1) ≡ most_data = omega arith in
+    let room : place + 1 + most_data ≤ length (set d place r.length) = simp length-set (omega arith) in
+    rw (e, long) (copied (set d place r.length) r.bytes (place + 1) most_data l room ∙ sets_behind d place r.length r.bytes)
 
 -- a plan: its count, and the row behind it
 pub plan_written : (d : List ℕ) (place : ℕ) (p : Plan) →
@@ -141,7 +154,8 @@ plan_written d place p = sets_behind d place p.count (joined move_form p.moves)
 
 -- a store's kind and its two set-points
 pub store_written : (d : List ℕ) (place : ℕ) (s : Store) →
-    sets (sets (set d place (store_kind s)) (place + 1) (set_point_form (first_set_point s))) (place + 1 + set_point_length) (set_point_form (second_of s))
+    sets (sets (set d place (store_kind s)) (place + 1) (set_point_form (first_set_point s)))
+    (place + 1 + set_point_length) (set_point_form (second_of s))
     ≡ sets d place (store_form s)
 unfolding store_form
 store_written d place s =
@@ -163,27 +177,11 @@ pub length_drive : (v : Drive) → length (drive_form v) ≡ drive_length
 unfolding drive_form store_form set_point_form bytes
 length_drive v = refl
 
-pub length_data : (r : PdoData) → DataTyped r → length (data_form r) ≡ data_length
-unfolding data_form
-length_data r t = ap suc t.size
-
 pub length_frames : {rs : List PdoData} → Many DataTyped each_way rs → length (joined data_form rs) ≡ each_way * data_length
 length_frames m = length_row data_form data_length length_data m
 
-pub length_pace : (p : Pace) → length (pace_form p) ≡ pace_length
-unfolding pace_form
-length_pace p = refl
-
 pub length_paces : {ps : List Pace} → Many AnyPace each_way ps → length (joined pace_form ps) ≡ each_way * pace_length
-length_paces m = length_row pace_form pace_length (λ p _. length_pace p) m
-
-pub length_move : (m : Move) → length (move_form m) ≡ move_length
-unfolding move_form bytes
-length_move m = refl
-
-pub length_plan : (p : Plan) → PlanTyped p → length (plan_form p) ≡ plan_length
-unfolding plan_form
-length_plan p t = ap suc (length_row move_form move_length (λ m _. length_move m) t.moves)
+length_paces m = length_row pace_form pace_length length_pace m
 
 pub length_plans : {ps : List Plan} → Many PlanTyped (2 * each_way) ps → length (joined plan_form ps) ≡ 2 * each_way * plan_length
 length_plans m = length_row plan_form plan_length length_plan m
@@ -257,7 +255,7 @@ head_over bs plans node transfer drive ready held paces h =
 pub typed_whole : (plans : List Plan) (node : Node) (transfer : Transfer) (drive : Drive) (ready held : List PdoData) (paces : List Pace) →
     HeadTyped (with_plans [] node transfer drive ready held paces) → Many PlanTyped (2 * each_way) plans →
     Typed (with_plans plans node transfer drive ready held paces)
-typed_whole plans node transfer drive ready held paces h p =
+typed_whole plans node _ drive ready held paces h p =
     record {
       head = record { heartbeat = h.heartbeat; stay = h.stay; store = h.store; ready = h.ready; held = h.held; paces = h.paces };
       plans = p;

@@ -1,11 +1,10 @@
 -- Tests made one after another, and words together: they are zero just where all their bits together are.
 -- Assumes nothing.
-use Prim.Native.Nat.{ℕ, suc, ◌+◌, ◌*◌, ◌≤◌}
-use native.Mathlib.Omega.{arith}
-use mathlib.Core.Path.{◌≡◌, refl, sym, ◌∙◌}
-use mathlib.Core.Bool.{Bool, true, false, ◌&&◌, and-true, and_assoc}
-use borrow.Author.Tests.{eq-eqb, ne_eqb, eqb-true, eqb-false}
-use lib.Bits.{bit_or, or_add_and, and_le_l, and_le_r}
+use Rattle.std.proofs.Common.{ℕ, zero, suc, ◌+◌, ◌*◌, add-one, arith, ◌≡◌, refl, sym, ◌∙◌, ap, Bool, true, false, ◌&&◌, eq-eqb, ne_eqb, eqb-true}
+use Rattle.std.proofs.Common.{bit_or}
+use mathlib.Core.Bool.{and-true, and_assoc}
+use borrow.Author.Tests.{eqb-false}
+use lib.Bits.{or_add_and, and_le_l, and_le_r}
 use Rattle.form.specs.Own.{every_at, is_zero}
 
 pub or-zero : (a b : ℕ) → is_zero (bit_or a b) ≡ (is_zero a && is_zero b)
@@ -16,25 +15,29 @@ or-zero a b = go (is_zero a) (is_zero b) refl refl
     go true false h i = ne_eqb (bit_or a b) 0 (λ e. eqb-false b 0 i (omega (arith, or_add_and a b, and_le_l a b, e)))
     go false q h i = ne_eqb (bit_or a b) 0 (λ e. eqb-false a 0 h (omega (arith, or_add_and a b, and_le_r a b, e)))
 
--- ---- a row of tests, made as far as some are left: these and what was found give the whole
+-- ---- a row of tests, and one more of them
 
-pub record Tested (test : ℕ → Bool) (n start width : ℕ) (found : Bool) (place left : ℕ) : Type 0 where
-  pub whole : (found && every_at test left place width) ≡ every_at test n start width
-  pub stands : place + width * left ≡ start + width * n
+every_more : (test : ℕ → Bool) (n place width : ℕ) →
+    every_at test (n + 1) place width ≡ (every_at test n place width && test (place + width * n))
+every_more test n place width = rw add-one (go n place)
+  where
+    go : (n place : ℕ) → every_at test (suc n) place width ≡ (every_at test n place width && test (place + width * n))
+    go zero place = let e : place + width * 0 ≡ place = omega arith in rw e (and-true (test place))
+    go (suc n) place =
+        let e : place + width + width * n ≡ place + width * suc n = omega arith in
+        rw (go n (place + width), e) (sym (and_assoc (test place) (every_at test n (place + width) width) (test (place + width * suc n))))
 
-module _ {test : ℕ → Bool} {n start width : ℕ} where
-  pub none_yet : Tested test n start width true start n
-  none_yet = record { whole = refl; stands = refl }
+-- the first k tests were made, and all of them held or one did not
+pub record Tested (test : ℕ → Bool) (place width : ℕ) (found : Bool) (k : ℕ) : Type 0 where
+  pub so_far : found ≡ every_at test k place width
 
-  pub one_more : {found next : Bool} {place left rest : ℕ} → Tested test n start width found place left → left ≡ suc rest →
-      next ≡ (found && test place) → Tested test n start width next (place + width) rest
-  one_more {found} {next} {place} {left} {rest} t l e =
-      record {
-        whole = rw (e, and_assoc found (test place) (every_at test rest (place + width) width)) (rw l at t.whole);
-        stands = omega (arith, rw l at t.stands);
-      }
+module _ {test : ℕ → Bool} {place width : ℕ} where
+  pub none_yet : Tested test place width true 0
+  none_yet = record { so_far = refl }
 
-  pub all_tested : {found : Bool} {place left : ℕ} → Tested test n start width found place left → left ≤ 0 → found ≡ every_at test n start width
-  all_tested {found} {place} {left} t h =
-      let z : left ≡ 0 = omega arith in
-      sym (and-true found) ∙ rw z at t.whole
+  pub one_more : {found next : Bool} {k : ℕ} → Tested test place width found k → next ≡ (found && test (place + width * k)) →
+      Tested test place width next (k + 1)
+  one_more {found} {next} {k} t e = record { so_far = e ∙ ap (λ b. b && test (place + width * k)) t.so_far ∙ sym (every_more test k place width) }
+
+  pub all_tested : {found : Bool} {k : ℕ} (n : ℕ) → Tested test place width found k → k ≡ n → found ≡ every_at test n place width
+  all_tested n t e = t.so_far ∙ ap (λ i. every_at test i place width) e

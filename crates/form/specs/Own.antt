@@ -5,9 +5,11 @@ use Rattle.rules_dictionary.specs.Numbers.{all, value, part}
 use Rattle.rules_dictionary.specs.Table.{each_way, most_moves}
 use Rattle.rules_dictionary.specs.Legal.{mode_number}
 use Rattle.drive.specs.SetPoints.{mode_of}
-use Rattle.form.specs.Form.{flag_number, flag_of, nmt_number, nmt_of, state_number, drive_state_of, each, nmt_offset, voltage_offset, word_length, word_at}
+use Rattle.form.specs.Form.{flag_number, flag_of, nmt_number, nmt_of, state_number, drive_state_of, each}
+use Rattle.form.specs.Form.{nmt_offset, voltage_offset, word_length, word_at}
 use Rattle.form.specs.Form.{velocity_offset, numbers_behind, set_point_words, set_point_length, mode_offset, taken_offset, drive_marks, store_offset}
-use Rattle.form.specs.Form.{step_offset, object_offset, toggle_offset, receipt_words, due_offset, pace_length, plan_length, node_place, transfer_place}
+use Rattle.form.specs.Form.{step_offset, object_offset, toggle_offset, receipt_words, due_offset, pace_length}
+use Rattle.form.specs.Form.{plan_length, node_place, transfer_place}
 use Rattle.form.specs.Form.{drive_place, paces_place, plans_place}
 
 -- does a test hold at each of so many places, one width apart
@@ -43,7 +45,8 @@ node_own place bs =
 
 -- nothing runs: every byte of the transfer is zero
 unfoldable pub idle_at : ℕ → List ℕ → Bool
-idle_at place bs = is_zero (value (part place (step_offset + object_offset) bs)) && every_word is_zero receipt_words (place + step_offset + object_offset) bs
+idle_at place bs = is_zero (value (part place (step_offset + object_offset) bs))
+    && every_word is_zero receipt_words (place + step_offset + object_offset) bs
 
 -- a transfer, by its kind: of its step and the words behind it, what it does not use is zero
 unfoldable pub transfer_own : ℕ → List ℕ → Bool

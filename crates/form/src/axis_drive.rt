@@ -13,13 +13,13 @@ ghost use Rattle.form.specs.Own.{store_own, drive_own};
 
 use crate::layout;
 use crate::node::{flag_number, flag_of};
-use crate::own::{bits_of_words, both, own_flags};
+use crate::own::{bits_of_words, own_flags};
 use dictionary::{read2, read4, write2, write4};
 use drive::set_points::mode_of;
 use drive::window::is_near;
 use drive::{Drive, DriveState, SetPoint, Store};
 
-// The drive state of a number.
+// The drive state of a number. No `From`: the state and the number are other crates' types, and so is the trait.
 fn drive_state_of(b: u8) -> DriveState
     ensures { result ≡ drive_state_of b }
 {
@@ -69,13 +69,10 @@ pub fn read_drive(bytes: &[u8]) -> Drive
     requires { length bytes.now ≡ state_length }
     ensures { result ≡ (state_of bytes.now).axis.drive }
 {
-    let state = drive_state_of(bytes[layout::DRIVE_STATE]);
-    let mode = mode_of(bytes[layout::MODE]);
-    let store = read_store(bytes);
     Drive {
-        state,
-        mode,
-        store,
+        state: drive_state_of(bytes[layout::DRIVE_STATE]),
+        mode: mode_of(bytes[layout::MODE]),
+        store: read_store(bytes),
         taken: flag_of(bytes[layout::TAKEN]),
         limit: flag_of(bytes[layout::LIMIT]),
         cause: flag_of(bytes[layout::CAUSE]),
@@ -96,13 +93,10 @@ pub fn is_position_inside(bytes: &[u8], d: &[u8]) -> bool
     requires { (length bytes.now ≡ state_length) × (length d.now ≡ dictionary_length) }
     ensures { result ≡ inside (state_of bytes.now).axis.drive.store d.now }
 {
-    if bytes[layout::STORE] == 0 {
-        return false;
-    }
-    is_near(read4(bytes, layout::FIRST_SET_POINT), d)
+    bytes[layout::STORE] != 0 && is_near(read4(bytes, layout::FIRST_SET_POINT), d)
 }
 
-// The number of a drive state.
+// The number of a drive state. It stays a `match`: the states' own numbers are those of the status word.
 fn state_number(state: DriveState) -> u8
     ensures { result ≡ state_number state }
 {
@@ -118,7 +112,8 @@ fn state_number(state: DriveState) -> u8
     }
 }
 
-// The number of a store's kind.
+// The number of a store's kind. Stays a `match`, here and where a kind is read: the kinds hold values, so that `as` gives no number for one,
+// and only the form numbers them (specs/Form, `store_kind`).
 fn store_kind(store: Store) -> u8
     ensures { result ≡ store_kind store }
 {
@@ -130,7 +125,7 @@ fn store_kind(store: Store) -> u8
     }
 }
 
-// A set-point that has a target alone.
+// A set-point that has a target alone. Its zeros stand here and nowhere else, so a `..` over a set-point of zeros would be no shorter.
 fn resting(target: u32) -> SetPoint
     ensures { result ≡ resting target }
 {
@@ -149,8 +144,7 @@ fn first_of(store: Store) -> SetPoint
     match store {
         Store::Empty => resting(0),
         Store::Rested(target) => resting(target),
-        Store::Moving(a) => a,
-        Store::Queued(a, _) => a,
+        Store::Moving(a) | Store::Queued(a, _) => a,
     }
 }
 
@@ -159,10 +153,8 @@ fn second_of(store: Store) -> SetPoint
     ensures { result ≡ second_of store }
 {
     match store {
-        Store::Empty => resting(0),
-        Store::Rested(_) => resting(0),
-        Store::Moving(_) => resting(0),
         Store::Queued(_, b) => b,
+        Store::Empty | Store::Rested(_) | Store::Moving(_) => resting(0),
     }
 }
 
@@ -182,11 +174,9 @@ fn write_store(bytes: &mut [u8], store: Store)
     requires { length bytes.old ≡ state_length }
     ensures { (bytes.new ≡ sets bytes.old store_place (store_form store)) × StoreTyped store }
 {
-    let first = first_of(store);
-    let second = second_of(store);
     bytes[layout::STORE] = store_kind(store);
-    write_set_point(bytes, layout::FIRST_SET_POINT, first);
-    write_set_point(bytes, layout::SECOND_SET_POINT, second);
+    write_set_point(bytes, layout::FIRST_SET_POINT, first_of(store));
+    write_set_point(bytes, layout::SECOND_SET_POINT, second_of(store));
 }
 
 // The drive into the bytes.
@@ -194,19 +184,16 @@ pub fn write_drive(bytes: &mut [u8], v: Drive)
     requires { length bytes.old ≡ state_length }
     ensures { (bytes.new ≡ sets bytes.old drive_place (drive_form v)) × ((v.stay < half) × StoreTyped v.store) }
 {
-    let state = v.state;
-    let mode = v.mode;
-    let store = v.store;
-    bytes[layout::DRIVE_STATE] = state_number(state);
-    bytes[layout::MODE] = mode.number();
+    bytes[layout::DRIVE_STATE] = state_number(v.state);
+    bytes[layout::MODE] = v.mode.number();
     bytes[layout::TAKEN] = flag_number(v.taken);
     bytes[layout::LIMIT] = flag_number(v.limit);
     bytes[layout::CAUSE] = flag_number(v.cause);
     write2(bytes, layout::STAY, v.stay);
-    write_store(bytes, store);
+    write_store(bytes, v.store);
 }
 
-// Whether the store's bytes are its form: what a kind of store does not use is zero.
+// Whether the store's bytes are its form: what a kind of store does not use is zero. By the byte, not by `read_store`: that reads any byte.
 fn own_store(bytes: &[u8]) -> bool
     requires { length bytes.now ≡ state_length }
     ensures { result ≡ store_own store_place bytes.now }
@@ -224,12 +211,7 @@ fn own_store(bytes: &[u8]) -> bool
 fn own_mode(b: u8) -> bool
     ensures { result ≡ eqb (mode_number (mode_of b)) b }
 {
-    match b {
-        0 => true,
-        1 => true,
-        3 => true,
-        _ => false,
-    }
+    matches!(b, 0 | 1 | 3)
 }
 
 // Whether the drive's bytes are its form.
@@ -237,13 +219,7 @@ pub fn own_drive(bytes: &[u8]) -> bool
     requires { length bytes.now ≡ state_length }
     ensures { result ≡ drive_own drive_place bytes.now }
 {
-    let state = drive_state_of(bytes[layout::DRIVE_STATE]);
-    let marks = both(
-        own_flags(bytes, layout::TAKEN, layout::DRIVE_MARKS),
-        own_store(bytes),
-    );
-    both(
-        state_number(state) == bytes[layout::DRIVE_STATE],
-        both(own_mode(bytes[layout::MODE]), marks),
-    )
+    let state = bytes[layout::DRIVE_STATE];
+    let marks = own_flags(bytes, layout::TAKEN, layout::DRIVE_MARKS) & own_store(bytes);
+    (state_number(drive_state_of(state)) == state) & (own_mode(bytes[layout::MODE]) & marks)
 }

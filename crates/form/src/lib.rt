@@ -1,6 +1,7 @@
 // The state as bytes of one length, and back: each state has one form. The layout is specs/Form.antt.
 // node: the node's part. transfers: the transfer's. axis_drive: the drive's. pdos: plans, data and what is kept for each PDO.
-// own: which bytes are a form's. putting: one part put into bytes that hold a state. layout: where the parts stand.
+// parts: parts of one length, in rows. own: which bytes are a form's. putting: one part put into bytes that hold a state.
+// layout: where the parts stand.
 
 #![tactic(auto)]
 
@@ -8,6 +9,7 @@ mod axis_drive;
 pub mod layout;
 mod node;
 mod own;
+mod parts;
 mod pdos;
 mod putting;
 mod transfers;
@@ -21,7 +23,7 @@ pub use axis_drive::{is_position_inside, read_drive, read_stay};
 use drive::Drive;
 pub use node::read_node;
 pub use own::bits_of_words;
-use own::both;
+use parts::write_row;
 use pdos::read_ready;
 pub use pdos::{
     read_frame, read_held_frame, read_paces, read_plans, read_ready_frame, write_plans,
@@ -51,9 +53,9 @@ pub fn write_head(
     node::write_node(bytes, node);
     transfers::write_transfer(bytes, transfer);
     axis_drive::write_drive(bytes, drive);
-    pdos::write_frames(bytes, layout::READY, ready);
-    pdos::write_frames(bytes, layout::HELD, held);
-    pdos::write_paces(bytes, paces);
+    write_row(bytes, layout::READY, ready);
+    write_row(bytes, layout::HELD, held);
+    write_row(bytes, layout::PACES, paces);
 }
 
 // A state into the bytes.
@@ -61,16 +63,11 @@ pub fn write_state(bytes: &mut [u8], s: State)
     requires { length bytes.old ≡ state_length }
     ensures { (bytes.new ≡ form s) × Typed s }
 {
-    let node = s.node;
-    let transfer = s.transfer;
     let axis = s.axis;
-    let drive = axis.drive;
-    let plans = axis.plans;
-    let ready = axis.ready;
-    let held = axis.held;
-    let paces = axis.paces;
-    write_plans(bytes, plans);
-    write_head(bytes, node, transfer, drive, ready, held, paces);
+    write_plans(bytes, axis.plans);
+    write_head(
+        bytes, s.node, s.transfer, axis.drive, axis.ready, axis.held, axis.paces,
+    );
 }
 
 // The bytes of a state.
@@ -105,8 +102,5 @@ pub fn is_head_own(bytes: &[u8]) -> bool
     requires { length bytes.now ≡ state_length }
     ensures { result ≡ head_own bytes.now }
 {
-    both(
-        node::own_node(bytes),
-        both(axis_drive::own_drive(bytes), pdos::own_paces(bytes)),
-    )
+    node::own_node(bytes) & (axis_drive::own_drive(bytes) & pdos::own_paces(bytes))
 }

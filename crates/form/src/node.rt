@@ -6,7 +6,7 @@ ghost use Rattle.form.specs.Form.{flag_of, flag_number, nmt_of, nmt_number, stat
 ghost use Rattle.form.specs.Own.{node_own};
 
 use crate::layout;
-use crate::own::{both, own_flag};
+use crate::own::own_flag;
 use dictionary::{read2, write2};
 use state::{NmtState, Node};
 
@@ -17,17 +17,14 @@ pub fn flag_of(b: u8) -> bool
     b == 1
 }
 
-// The NMT state of a number.
+// The NMT state of a number. No `From`: the state and the number are other crates' types, and so is the trait.
 fn nmt_of(b: u8) -> NmtState
     ensures { result ≡ nmt_of b }
 {
-    if b == 0 {
-        return NmtState::PreOperational;
-    }
-    if b == 1 {
-        NmtState::Operational
-    } else {
-        NmtState::Stopped
+    match b {
+        0 => NmtState::PreOperational,
+        1 => NmtState::Operational,
+        _ => NmtState::Stopped,
     }
 }
 
@@ -36,10 +33,9 @@ pub fn read_node(bytes: &[u8]) -> Node
     requires { length bytes.now ≡ state_length }
     ensures { result ≡ (state_of bytes.now).node }
 {
-    let nmt = nmt_of(bytes[layout::NMT]);
     Node {
         id: bytes[layout::NODE_ID],
-        nmt,
+        nmt: nmt_of(bytes[layout::NMT]),
         voltage: flag_of(bytes[layout::VOLTAGE]),
         heartbeat: read2(bytes, layout::HEARTBEAT),
     }
@@ -49,18 +45,14 @@ pub fn read_node(bytes: &[u8]) -> Node
 pub fn flag_number(flag: bool) -> u8
     ensures { result ≡ flag_number flag }
 {
-    if flag { 1 } else { 0 }
+    u8::from(flag)
 }
 
 // The number of an NMT state.
 fn nmt_number(nmt: NmtState) -> u8
     ensures { result ≡ nmt_number nmt }
 {
-    match nmt {
-        NmtState::PreOperational => 0,
-        NmtState::Operational => 1,
-        NmtState::Stopped => 2,
-    }
+    nmt as u8
 }
 
 // The node into the bytes.
@@ -68,21 +60,18 @@ pub fn write_node(bytes: &mut [u8], n: Node)
     requires { length bytes.old ≡ state_length }
     ensures { (bytes.new ≡ sets bytes.old node_place (node_form n)) × (n.heartbeat < half) }
 {
-    let nmt = n.nmt;
     bytes[layout::NODE_ID] = n.id;
-    bytes[layout::NMT] = nmt_number(nmt);
+    bytes[layout::NMT] = nmt_number(n.nmt);
     bytes[layout::VOLTAGE] = flag_number(n.voltage);
     write2(bytes, layout::HEARTBEAT, n.heartbeat);
 }
 
-// Whether the node's bytes are its form.
+// Whether the node's bytes are its form. A number read and written again, as of a flag and a drive state: a trait of numbered types would
+// take an `impl` and a law for each, where each is tested in one line.
 pub fn own_node(bytes: &[u8]) -> bool
     requires { length bytes.now ≡ state_length }
     ensures { result ≡ node_own node_place bytes.now }
 {
-    let nmt = nmt_of(bytes[layout::NMT]);
-    both(
-        nmt_number(nmt) == bytes[layout::NMT],
-        own_flag(bytes[layout::VOLTAGE]),
-    )
+    let nmt = bytes[layout::NMT];
+    (nmt_number(nmt_of(nmt)) == nmt) & own_flag(bytes[layout::VOLTAGE])
 }

@@ -1,4 +1,6 @@
 // What is put into the bytes of a state: they hold the state with that part, and the rest of it stays.
+// One function for each part, though many differ in little more: each is a single line, and promises another of the rules' definitions
+// (`with_node`, `with_heartbeat`, `with_stay`, ..); a generic one would leave it to the callers to name the part's place.
 
 ghost use Rattle.std.specs.Prelude.{◌≡◌, ◌<◌, length};
 ghost use Rattle.rules_dictionary.specs.Table.{each_way};
@@ -11,7 +13,8 @@ ghost use Rattle.form.specs.Holding.{Puts, planned, holding};
 use crate::axis_drive::write_drive;
 use crate::layout;
 use crate::node::write_node;
-use crate::pdos::{write_frame, write_frames, write_paces, write_plans};
+use crate::parts::{Part, write_row};
+use crate::pdos::write_plans;
 use crate::transfers::write_transfer;
 use dictionary::write2;
 use drive::Drive;
@@ -71,19 +74,19 @@ pub fn put_held(state: &mut [u8], p: usize, frame: PdoData)
     requires { (length state.old ≡ state_length) × (p < each_way) }
     ensures { Puts (holding p frame) state.old state.new }
 {
-    write_frame(state, layout::HELD + layout::FRAME_LENGTH * p, frame);
+    frame.write(state, layout::HELD + layout::FRAME_LENGTH * p);
 }
 
-// No held frames.
+// No held frames. The empty frame is written out, here and where else one is needed: a shared constant would be one more public name for it.
 pub fn put_none_held(state: &mut [u8])
     requires { length state.old ≡ state_length }
     ensures { Puts (with_held none_held) state.old state.new }
 {
     let none = PdoData {
         length: 0,
-        bytes: [0; 8],
+        bytes: [0; layout::MOST_DATA],
     };
-    write_frames(state, layout::HELD, [none, none, none, none]);
+    write_row(state, layout::HELD, [none; 4]);
 }
 
 // What is kept of the transmit PDOs.
@@ -91,7 +94,7 @@ pub fn put_paces(state: &mut [u8], paces: [Pace; 4])
     requires { length state.old ≡ state_length }
     ensures { Puts (with_paces paces) state.old state.new }
 {
-    write_paces(state, paces);
+    write_row(state, layout::PACES, paces);
 }
 
 // The plans of the eight PDOs.

@@ -1,13 +1,15 @@
-// The transfer's part of the form.
+// The transfer's part of the form. The four received bytes are copied one by one: `Receipt`, which the rules' `receipt_sound` and the form's
+// `receipt_at` are about, has a field for each.
 
 ghost use Rattle.std.specs.Prelude.{◌≡◌, ◌+◌, length};
 ghost use Rattle.std.proofs.lemmas.List.Edits.{sets};
-ghost use Rattle.form.specs.Form.{step_offset, receipt_at, stepping, transfer_kind, receipt_of, transfer_form, transfer_place, state_length, state_of};
+ghost use Rattle.form.specs.Form.{step_offset, receipt_at, stepping, transfer_kind, receipt_of, transfer_form};
+ghost use Rattle.form.specs.Form.{transfer_place, state_length, state_of};
 ghost use Rattle.form.specs.Own.{idle_at, transfer_own};
 
 use crate::layout;
 use crate::node::{flag_number, flag_of};
-use crate::own::{bits_of_words, both, own_flag};
+use crate::own::{bits_of_words, own_flag};
 use dictionary::read2;
 use state::{Receipt, Transfer};
 
@@ -41,7 +43,7 @@ pub fn read_transfer(bytes: &[u8]) -> Transfer
     }
 }
 
-// The number of a transfer's kind.
+// The number of a transfer's kind. Stays a `match`, as the kind of a store: the kinds hold values.
 fn transfer_kind(t: Transfer) -> u8
     ensures { result ≡ transfer_kind t }
 {
@@ -52,7 +54,7 @@ fn transfer_kind(t: Transfer) -> u8
     }
 }
 
-// A receipt that has a count alone.
+// A receipt that has a count alone. Its zeros stand here and nowhere else, so a `..` over a receipt of zeros would be no shorter.
 fn stepping(k: u8) -> Receipt
     ensures { result ≡ stepping k }
 {
@@ -108,16 +110,16 @@ pub fn is_idle(bytes: &[u8]) -> bool
     (head | words) == 0
 }
 
-// Whether the transfer's bytes are its form: what a kind of transfer does not use is zero.
+// Whether the transfer's bytes are its form: what a kind of transfer does not use is zero. By the byte, since `read_transfer` reads any byte.
 pub fn own_transfer(bytes: &[u8]) -> bool
     requires { length bytes.now ≡ state_length }
     ensures { result ≡ transfer_own transfer_place bytes.now }
 {
     match bytes[layout::TRANSFER] {
-        0 => both(
-            bytes[layout::STEP] == 0,
-            bits_of_words(bytes, layout::OBJECT_INDEX, layout::RECEIPT_WORDS) == 0,
-        ),
+        0 => {
+            (bytes[layout::STEP] == 0)
+                & (bits_of_words(bytes, layout::OBJECT_INDEX, layout::RECEIPT_WORDS) == 0)
+        }
         1 => bits_of_words(bytes, layout::OBJECT_INDEX, layout::RECEIPT_WORDS) == 0,
         2 => own_flag(bytes[layout::TOGGLE]),
         _ => false,

@@ -1,13 +1,10 @@
 -- The entries of a file by the rules, and as the code tries them: for a node in Pre-operational whose drive is at rest, and entries none of which is
 -- for 6040h, both come to the same.
 -- Assumes nothing.
-use Prim.Native.Nat.{ℕ, suc}
-use native.Mathlib.Numerals.{add-one}
-use mathlib.Core.Path.{◌≡◌, refl, sym, ◌∙◌, ap, subst}
-use mathlib.Core.Bool.{Bool, true, false, ◌&&◌, ◌||◌, or-false, or_assoc}
-use mathlib.Core.Logic.{inl, inr}
-use mathlib.Core.List.{List, [], ◌∷◌, ◌++◌, append-nil}
-use lib.Dec.{eqb}
+use Rattle.std.proofs.Common.{◌≡◌, ℕ, suc, Bool, true, false, ◌&&◌, ◌||◌, eqb, List, [], ◌∷◌, ◌++◌, is_ok, Ok, Err, sym, refl, ap, ◌∙◌, subst, inl}
+use Rattle.std.proofs.Common.{inr, append-nil, add-one}
+use mathlib.Core.Bool.{or-false, or_assoc}
+use Rattle.sdo.specs.Verdicts.{abort_of}
 use Rattle.state.specs.declared.State.{State}
 use Rattle.state.specs.declared.NmtState.TheVariants.{PreOperational}
 use Rattle.state.specs.declared.Occasion.TheVariants.{Plain}
@@ -16,7 +13,7 @@ use Rattle.rules_dictionary.specs.Numbers.{any}
 use Rattle.rules_dictionary.specs.Table.{Row, table, Found, found, the_name, no_object, no_subindex, lookup, same, control_word, mode, heartbeat_time}
 use Rattle.rules_dictionary.specs.Table.{is_writable, transmit}
 use Rattle.rules_dictionary.specs.Values.{Write, read, stored}
-use Rattle.rules_dictionary.specs.Aborts.{abort_code, Verdict, good, bad}
+use Rattle.rules_dictionary.specs.Aborts.{Verdict, good, bad}
 use Rattle.rules_dictionary.specs.Legal.{suits}
 use Rattle.rules_dictionary.specs.Members.{In}
 use Rattle.rules_dictionary.proofs.Tests.{none_in}
@@ -31,7 +28,6 @@ use Rattle.theorems.proofs.Booleans.{eqb_comm, or_false_left, or_false_right, or
 use Rattle.theorems.proofs.Settled.{mode_in}
 use Rattle.theorems.proofs.Writes.{InTable, not_wrote, one_row, stored_append}
 use Rattle.output.specs.Leaves.{touches, remaps}
-use Rattle.sdo.proofs.Verdicts.{good_code}
 use Rattle.sdo.proofs.Downloading.{good_writable, unsent}
 use Rattle.load.specs.declared.Tally.{Tally}
 use Rattle.load.specs.Trying.{listing_for, verdict_on, written_by, taking, Tried, tried_with, entries_tried, acted_on}
@@ -89,7 +85,7 @@ pub record Comes (s : State) (d : List ℕ) (t : Tally) (e : Effect) (x : Tried)
   pub unsent : touches e.writes ≡ false
   pub state : e.state ≡ acted_on (wrote heartbeat_time e.writes) (wrote mode e.writes) (stored e.writes d) s
   pub dictionary : x.dictionary ≡ stored e.writes d
-  pub code : x.tally.code ≡ 0
+  pub last : x.tally.last ≡ Ok tt
   pub heartbeat : x.tally.heartbeat ≡ (t.heartbeat || wrote heartbeat_time e.writes)
   pub mode : x.tally.mode ≡ (t.mode || wrote mode e.writes)
   pub mapping : x.tally.mapping ≡ (t.mapping || remaps e.writes)
@@ -97,7 +93,7 @@ pub record Comes (s : State) (d : List ℕ) (t : Tally) (e : Effect) (x : Tried)
 -- or the first one that is aborted
 abbrev pub Agrees : State → List ℕ → Tally → Tried → Loaded → Type 0
 Agrees s d t x (loads e) = Comes s d t e x
-Agrees s d t x (fails n a) = (x.tally.tried ≡ n) × (x.tally.code ≡ abort_code a)
+Agrees s d t x (fails n a) = (x.tally.tried ≡ n) × (x.tally.last ≡ Err (abort_of a))
 
 module _ (s : State) (d : List ℕ) (rest : is_at_rest s.axis.drive.state ≡ true) {ws : List Write} (fits : Fits ws) where
   -- what one entry leaves
@@ -130,7 +126,7 @@ module _ (s : State) (d : List ℕ) (rest : is_at_rest s.axis.drive.state ≡ tr
         state = rw (any_both (is heartbeat_time) ws vs, any_both (is mode) ws vs, stored_append ws vs d)
             (h.state ∙ acted_twice (wrote heartbeat_time ws) (wrote mode ws) (stored ws d) s rest (wrote heartbeat_time vs) (wrote mode vs) _ w);
         dictionary = h.dictionary ∙ sym (stored_append ws vs d);
-        code = h.code;
+        last = h.last;
         heartbeat = h.heartbeat ∙ noted_both _ t.heartbeat ws vs;
         mode = h.mode ∙ noted_both _ t.mode ws vs;
         mapping = h.mapping ∙ noted_both _ t.mapping ws vs;
@@ -144,10 +140,10 @@ module _ (s : State) (d : List ℕ) (t : Tally) (rest : is_at_rest s.axis.drive.
       ((fits : Fits ws) → Agrees (left s d rest fits) (stored ws d) (taking ws t) (entries_tried es (taking ws t) (stored ws d))
       (load_from (suc (suc t.tried)) es (left s d rest fits) (stored ws d))) →
       (let r = tried_with v ws t d in
-      Agrees s d t (elim (eqb r.tally.code 0) [ true ↦ entries_tried es r.tally r.dictionary | false ↦ r ])
+      Agrees s d t (elim (is_ok r.tally.last) [ true ↦ entries_tried es r.tally r.dictionary | false ↦ r ])
       (goes_on (suc t.tried) d (judged_by v ws s d) (load_from (suc (suc t.tried)) es)))
   unfolding tried_with judged_by goes_on
-  by_first (bad a) ws fits others = rw (sym (good_code (bad a))) (add-one t.tried, refl)
+  by_first (bad a) ws fits others = (add-one t.tried, refl)
   by_first good ws fits others =
       let f = fits refl in
       let is = is_taken_lem s d rest f in
@@ -157,10 +153,10 @@ module _ (s : State) (d : List ℕ) (t : Tally) (rest : is_at_rest s.axis.drive.
       (subst (λ (e : Effect). Agrees (left s d rest f) (stored ws d) (taking ws t) x (after e)) (sym is) (others f))
 
 pub tried_as_loaded : (es : List Entry) (s : State) (d : List ℕ) (t : Tally) → s.node.nmt ≡ PreOperational →
-    is_at_rest s.axis.drive.state ≡ true → names_control_word es ≡ false → t.code ≡ 0 →
+    is_at_rest s.axis.drive.state ≡ true → names_control_word es ≡ false → t.last ≡ Ok tt →
     Agrees s d t (entries_tried es t d) (load_from (suc t.tried) es s d)
 unfolding entries_tried load_from stored
-tried_as_loaded [] s d t nmt rest other code =
+tried_as_loaded [] s d t nmt rest other last =
     record {
       sent = refl;
       occasion = refl;
@@ -168,12 +164,12 @@ tried_as_loaded [] s d t nmt rest other code =
       unsent = refl;
       state = refl;
       dictionary = refl;
-      code = code;
+      last = last;
       heartbeat = sym (or-false t.heartbeat);
       mode = sym (or-false t.mode);
       mapping = sym (or-false t.mapping);
     }
-tried_as_loaded (e ∷ es) s d t nmt rest other code =
+tried_as_loaded (e ∷ es) s d t nmt rest other last =
     let f = lookup e.index e.subindex in
     let l = listing_for e in
     let ws = written_by l f in

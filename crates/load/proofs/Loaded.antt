@@ -1,18 +1,15 @@
 -- What a load ends in: refused as a whole, refused for an entry, or with all of its entries taken.
 -- Assumes nothing.
-use Prim.Native.Nat.{ℕ, ◌<◌, ◌≤◌}
-use native.Mathlib.Omega.{arith}
-use mathlib.Core.Path.{◌≡◌, refl, sym, ◌∙◌, ap, subst}
-use mathlib.Core.Bool.{Bool, true, false, cond, false≢true}
-use mathlib.Core.List.{List, [], ◌∷◌}
+use Rattle.std.proofs.Common.{◌≡◌, ℕ, ◌<◌, ◌≤◌, Bool, true, false, cond, List, [], ◌∷◌, is_ok, Ok, Err, Result, sym, refl, ap, ◌∙◌, subst, arith}
 use borrow.Author.Tests.{ne_eqb, eq-eqb}
-use lib.Dec.{eqb}
+use Rattle.std.specs.Prelude.{⊤}
+use Rattle.sdo.specs.declared.aborts.Abort as declared
+use Rattle.sdo.proofs.Verdicts.{error_code, code_is}
 use Rattle.state.specs.declared.State.{State}
 use Rattle.state.specs.declared.Refusal.{Refusal}
 use Rattle.state.specs.declared.Refusal.TheVariants.{WrongState, FileTooShort, TooManyEntries, FileMisfit, ControlWordEntry}
 use Rattle.rules_dictionary.specs.Values.{stored}
 use Rattle.rules_dictionary.specs.Table.{lookup, mode, heartbeat_time}
-use Rattle.rules_dictionary.specs.Aborts.{Abort, bad, abort_code}
 use Rattle.rules_dictionary.proofs.Tests.{and_left, and_right}
 use Rattle.files.specs.ConciseDcf.{Entry, entries_in, is_too_short, is_overfull, is_misfit}
 use Rattle.drive.specs.DriveStates.{is_at_rest}
@@ -27,11 +24,11 @@ use Rattle.form.specs.Form.{state_of}
 use Rattle.form.specs.Holding.{Holds, Puts}
 use Rattle.output.specs.Leaves.{keeping, Calm, Rests}
 use Rattle.output.proofs.Left.{loud, resting, calm_said}
-use Rattle.sdo.proofs.Verdicts.{good_code}
 use Rattle.load.specs.declared.Loading.{Loading}
 use Rattle.load.specs.declared.Tally.{Tally}
 use Rattle.load.specs.Loading.{refusal_of, is_none, LoadsIn, Ends, refused_load, aborted_load, taken_load, Loadable}
-use Rattle.load.specs.Trying.{listing_for, verdict_on, written_by, nothing_tried, Tried, entry_tried, entries_tried, Tries, restarted_if, mode_acted_if}
+use Rattle.load.specs.Trying.{listing_for, verdict_on, written_by, nothing_tried, Tried, entry_tried, entries_tried, Tries}
+use Rattle.load.specs.Trying.{restarted_if, mode_acted_if}
 use Rattle.load.specs.Trying.{acted_on}
 use Rattle.load.proofs.Offers.{pre_operational_lem}
 use Rattle.load.proofs.Steps.{counts_one}
@@ -83,7 +80,8 @@ module _ (f : List ℕ) (bs d : List ℕ) where
             by_entries = rw (served, long, few, whole, others) refl
 
             -- THE LAW: else it ends as its entries do
-            pub not_refused_lem : {r : Loading} {bs' d' : List ℕ} → Ends (load_all (entries_in f) s d) (entries_in f) bs d r bs' d' → LoadsIn f bs d r bs' d'
+            pub not_refused_lem : {r : Loading} {bs' d' : List ℕ} →
+                Ends (load_all (entries_in f) s d) (entries_in f) bs d r bs' d' → LoadsIn f bs d r bs' d'
             not_refused_lem h =
                 let e = by_entries in
                 let n = named_so (load_all (entries_in f) s d) in
@@ -96,9 +94,9 @@ module _ (f : List ℕ) (bs d : List ℕ) where
 
 -- ---- the entries: one is aborted, or all are taken
 
--- no abort's code is 0
-abort_told : (a : Abort) → abort_code a ≡ 0 → ⊥
-abort_told a z = false≢true (good_code (bad a) ∙ eq-eqb (abort_code a) 0 z)
+-- a result is no error where it is good
+not_both : {x : Result ⊤ declared.Abort} {why : declared.Abort} → x ≡ Ok tt → x ≡ Err why → ⊥
+not_both e f = cc
 
 -- each entry that is tried counts
 counts : (e : Entry) (es : List Entry) (t : Tally) (d : List ℕ) → ((u : Tally) (c : List ℕ) → u.tried ≤ (entries_tried es u c).tally.tried) →
@@ -109,7 +107,7 @@ counts e es t d others =
     let f = lookup e.index e.subindex in
     let r = entry_tried l t d in
     let n = counts_one (verdict_on l f d) (written_by l f) t d in
-    by_match (λ (x : Tried). t.tried < x.tally.tried) (eqb r.tally.code 0)
+    by_match (λ (x : Tried). t.tried < x.tally.tried) (is_ok r.tally.last)
     (λ _. omega (arith, n, others r.tally r.dictionary)) (λ _. omega (arith, n))
 
 counts_on : (es : List Entry) (t : Tally) (d : List ℕ) → t.tried ≤ (entries_tried es t d).tally.tried
@@ -137,21 +135,21 @@ module _ (es : List Entry) (bs d : List ℕ) {r : Tally} {d' : List ℕ} (tried 
   abbrev before : State
   before = state_of bs
 
-  ends_aborted : (l : Loaded) → Agrees before d nothing_tried (entries_tried es nothing_tried d) l → (r.code ≡ 0 → ⊥) →
-      Ends l es bs d (aborted_load r) bs d
-  ends_aborted (loads e) h wrong = absurd (wrong (ap (λ (t : Tally). t.code) tried.tally ∙ h.code))
+  ends_aborted : (l : Loaded) → Agrees before d nothing_tried (entries_tried es nothing_tried d) l → {why : declared.Abort} → r.last ≡ Err why →
+      Ends l es bs d (aborted_load r why) bs d
+  ends_aborted (loads e) h wrong = absurd (not_both (ap (λ (t : Tally). t.last) tried.tally ∙ h.last) wrong)
   ends_aborted (fails n a) h wrong =
       record {
         refusal = refl;
         entry = ap (λ (t : Tally). t.tried) tried.tally ∙ h.0;
-        code = ap (λ (t : Tally). t.code) tried.tally ∙ h.1;
+        code = ap error_code (sym wrong ∙ ap (λ (t : Tally). t.last) tried.tally ∙ h.1) ∙ code_is a;
         left = (refl, refl);
       }
 
   ends_taken : {bs' : List ℕ} (l : Loaded) → load_all es before d ≡ l → Agrees before d nothing_tried (entries_tried es nothing_tried d) l →
-      r.code ≡ 0 → Holds bs' (acted_on r.heartbeat r.mode d' before) → Ends l es bs d (taken_load r) bs' d'
+      r.last ≡ Ok tt → Holds bs' (acted_on r.heartbeat r.mode d' before) → Ends l es bs d (taken_load r) bs' d'
   unfolding sent_into
-  ends_taken (fails n a) is h fine held = absurd (abort_told a (sym h.1 ∙ sym (ap (λ (t : Tally). t.code) tried.tally) ∙ fine))
+  ends_taken (fails n a) is h fine held = absurd (not_both fine (ap (λ (t : Tally). t.last) tried.tally ∙ h.1))
   ends_taken (loads e) is h fine held =
       let beat : r.heartbeat ≡ wrote heartbeat_time e.writes = ap (λ (t : Tally). t.heartbeat) tried.tally ∙ h.heartbeat in
       let moded : r.mode ≡ wrote mode e.writes = ap (λ (t : Tally). t.mode) tried.tally ∙ h.mode in
@@ -186,10 +184,11 @@ module _ (f bs d : List ℕ) (may : Loadable f (state_of bs)) {r : Tally} {d' : 
       tried_as_loaded (entries_in f) s d nothing_tried (pre_operational_lem s.node.nmt (and_left a b may.served)) (and_right a b may.served)
       may.others refl
 
-  pub one_aborted : (r.code ≡ 0 → ⊥) → Ends (load_all (entries_in f) (state_of bs) d) (entries_in f) bs d (aborted_load r) bs d
+  pub one_aborted : {why : declared.Abort} → r.last ≡ Err why →
+      Ends (load_all (entries_in f) (state_of bs) d) (entries_in f) bs d (aborted_load r why) bs d
   one_aborted = ends_aborted (entries_in f) bs d tried _ agrees
 
-  pub all_taken : {bs₁ bs' : List ℕ} → r.code ≡ 0 → Holds bs (state_of bs) → Puts (restarted_if r.heartbeat) bs bs₁ →
+  pub all_taken : {bs₁ bs' : List ℕ} → r.last ≡ Ok tt → Holds bs (state_of bs) → Puts (restarted_if r.heartbeat) bs bs₁ →
       Puts (mode_acted_if r.mode d') bs₁ bs' → Ends (load_all (entries_in f) (state_of bs) d) (entries_in f) bs d (taken_load r) bs' d'
   all_taken fine own first then =
       ends_taken (entries_in f) bs d tried _ refl agrees fine (then (restarted_if r.heartbeat (state_of bs)) (first (state_of bs) own))

@@ -12,6 +12,8 @@ use Rattle.rules.specs.Calls.{Decision, refuses, does, loaded_as, load_decision,
 use Rattle.form.specs.Form.{state_of}
 use Rattle.output.specs.declared.Done.{Done}
 use Rattle.output.specs.Leaves.{Leaves, Rests, nothing_done}
+use Rattle.sdo.specs.declared.aborts.Abort.{Abort}
+use Rattle.sdo.specs.Verdicts.{code_of}
 use Rattle.load.specs.declared.Loading.{Loading}
 use Rattle.load.specs.declared.Tally.{Tally}
 
@@ -59,8 +61,8 @@ pub record Ends (l : Loaded) (es : List Entry) (bs d : List ℕ) (r : Loading) (
 abbrev pub refused_load : Refusal → Loading
 refused_load r = record { refusal = r; entry = 0; code = 0; done = nothing_done true }
 
-abbrev pub aborted_load : Tally → Loading
-aborted_load t = record { refusal = EntryAborted; entry = t.tried; code = t.code; done = nothing_done true }
+abbrev pub aborted_load : Tally → Abort → Loading
+aborted_load t why = record { refusal = EntryAborted; entry = t.tried; code = code_of why; done = nothing_done true }
 
 abbrev pub taken_load : Tally → Loading
 taken_load t =

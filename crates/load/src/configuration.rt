@@ -7,7 +7,6 @@ ghost use Rattle.output.specs.Leaves.{Lent};
 ghost use Rattle.load.specs.Loading.{LoadsIn, Loadable, Ends, refused_load, aborted_load, taken_load};
 
 use crate::acting::{act_on_mode, restart};
-use crate::copying::copy;
 use crate::trying::try_entries;
 use crate::{Loading, Tally};
 use dictionary::places;
@@ -15,8 +14,8 @@ use drive::states::is_at_rest;
 use files::{COUNT_SIZE, count_in, is_whole, names};
 use form::{read_drive, read_node};
 use output::{Done, nothing_done};
-use sdo::aborts::GOOD;
-use state::{Occasion, Refusal};
+use sdo::Abort;
+use state::Refusal;
 
 // "count over 512".
 const MOST_ENTRIES: u32 = 512;
@@ -29,11 +28,7 @@ fn may_load(state: &[u8]) -> bool
     requires { length state.now ≡ state_length }
     ensures { result ≡ may_load (state_of state.now) }
 {
-    let node = read_node(state);
-    let nmt = node.nmt;
-    let drive = read_drive(state);
-    let at = drive.state;
-    nmt.is_pre_operational() & is_at_rest(at)
+    read_node(state).nmt.is_pre_operational() & is_at_rest(read_drive(state).state)
 }
 
 // Refused for the whole file: nothing is done.
@@ -41,7 +36,7 @@ fn refused(refusal: Refusal) -> Loading
     ensures { result ≡ refused_load refusal }
 {
     Loading {
-        refusal: refusal,
+        refusal,
         entry: 0,
         code: 0,
         done: nothing_done(true),
@@ -49,13 +44,13 @@ fn refused(refusal: Refusal) -> Loading
 }
 
 // Refused for the last entry that was tried: nothing is done.
-fn aborted(tally: Tally) -> Loading
-    ensures { result ≡ aborted_load tally }
+fn aborted(tally: Tally, why: Abort) -> Loading
+    ensures { result ≡ aborted_load tally why }
 {
     Loading {
         refusal: Refusal::EntryAborted,
         entry: tally.tried,
-        code: tally.code,
+        code: why.code(),
         done: nothing_done(true),
     }
 }
@@ -64,18 +59,14 @@ fn aborted(tally: Tally) -> Loading
 fn taken(tally: Tally) -> Loading
     ensures { result ≡ taken_load tally }
 {
-    let done = Done {
-        frames: 0,
-        touched: false,
-        remapped: tally.mapping,
-        occasion: Occasion::Plain,
-        quiet: tally.tried == 0,
-    };
     Loading {
         refusal: Refusal::Accepted,
         entry: 0,
         code: 0,
-        done: done,
+        done: Done {
+            remapped: tally.mapping,
+            ..nothing_done(tally.tried == 0)
+        },
     }
 }
 
@@ -87,11 +78,11 @@ fn load_entries(file: &[u8], state: &mut [u8], d: &mut [u8]) -> Loading
         state.old d.old result state.new d.new }
 {
     let mut saved = [0u8; places::DICTIONARY_LENGTH];
-    copy(d, &mut saved);
+    saved.copy_from_slice(d);
     let tally = try_entries(file, d);
-    if tally.code != GOOD {
-        copy(&saved, d);
-        return aborted(tally);
+    if let Err(why) = tally.last {
+        d.copy_from_slice(&saved);
+        return aborted(tally, why);
     }
     restart(tally.heartbeat, state);
     act_on_mode(tally.mode, state, d);

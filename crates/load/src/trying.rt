@@ -12,14 +12,13 @@ use crate::Tally;
 use dictionary::{Entry, Found, find, places, write};
 use files::{COUNT_SIZE, Listing, behind, count_in, listing_at};
 use rules_dictionary::Role;
-use sdo::aborts::{GOOD, NO_OBJECT, NO_SUBINDEX, NO_WRITING};
-use sdo::{Brought, is_mapping, offer_verdict, offered};
+use sdo::{Abort, Brought, is_mapping, offer_verdict, offered};
 use state::NmtState;
 
 // The bytes of an object are four at the most: more of them are all one.
 const TOO_MANY: u8 = 5;
 
-// How many bytes an entry of that size brings.
+// How many bytes an entry of that size brings. Stays an `if`: it tells beside its cast that the size fits in a byte.
 fn count_of(size: u32) -> u8
     ensures { result ≡ min size too_many }
 {
@@ -34,11 +33,11 @@ fn count_of(size: u32) -> u8
 fn brought_by(listing: Listing) -> Brought
     ensures { result ≡ brought_by listing }
 {
+    // Its own variable: an array moves out of a field only by a name.
     let bytes = listing.first;
     Brought {
-        told: true,
-        count: count_of(listing.size),
-        bytes: bytes,
+        count: Some(count_of(listing.size)),
+        bytes,
     }
 }
 
@@ -49,7 +48,7 @@ fn taken_at(place: usize, role: Role, tally: Tally) -> Tally
 {
     Tally {
         tried: tally.tried + 1,
-        code: GOOD,
+        last: Ok(()),
         heartbeat: tally.heartbeat | (place == places::HEARTBEAT_TIME),
         mode: tally.mode | (place == places::MODE),
         mapping: tally.mapping | is_mapping(role),
@@ -57,14 +56,15 @@ fn taken_at(place: usize, role: Role, tally: Tally) -> Tally
 }
 
 // One entry more was aborted.
-fn aborted_with(code: u32, tally: Tally) -> Tally
+fn aborted_with(why: Abort, tally: Tally) -> Tally
     requires { tally.tried + 1 < 2 ^ 16 }
-    ensures { result ≡ aborted_with code tally }
+    ensures { result ≡ aborted_with why tally }
 {
-    let mut next = tally;
-    next.tried += 1;
-    next.code = code;
-    next
+    Tally {
+        tried: tally.tried + 1,
+        last: Err(why),
+        ..tally
+    }
 }
 
 // An entry of the file, for an entry of the table.
@@ -73,14 +73,12 @@ fn try_row(e: Entry, listing: Listing, tally: Tally, d: &mut [u8]) -> Tally
     ensures { Tries (entry_tried listing tally d.old) result d.new }
 {
     let offer = offered(brought_by(listing), e.size);
-    let code = offer_verdict(NmtState::PreOperational, d, e, offer);
-    if code != GOOD {
-        return aborted_with(code, tally);
+    if let Err(why) = offer_verdict(NmtState::PreOperational, d, e, offer) {
+        return aborted_with(why, tally);
     }
     let place = e.place as usize;
-    let role = e.role;
     write(d, place, e.size, offer.value);
-    taken_at(place, role, tally)
+    taken_at(place, e.role, tally)
 }
 
 // An entry of the file.
@@ -88,12 +86,10 @@ fn try_entry(listing: Listing, tally: Tally, d: &mut [u8]) -> Tally
     requires { (length d.old ≡ dictionary_length) × (tally.tried + 1 < 2 ^ 16) }
     ensures { Tries (entry_tried listing tally d.old) result d.new }
 {
-    let found = find(listing.index, listing.subindex);
-    match found {
-        Found::Row(row) => try_row(row.entry(), listing, tally, d),
-        Found::DeviceName => aborted_with(NO_WRITING, tally),
-        Found::NoObject => aborted_with(NO_OBJECT, tally),
-        Found::NoSubindex => aborted_with(NO_SUBINDEX, tally),
+    match find(listing.index, listing.subindex) {
+        Ok(Found::Row(row)) => try_row(row.entry(), listing, tally, d),
+        Ok(Found::DeviceName) => aborted_with(Abort::NoWriting, tally),
+        Err(missing) => aborted_with(Abort::from(missing), tally),
     }
 }
 
@@ -103,7 +99,7 @@ fn nothing_tried() -> Tally
 {
     Tally {
         tried: 0,
-        code: GOOD,
+        last: Ok(()),
         heartbeat: false,
         mode: false,
         mapping: false,
@@ -116,15 +112,13 @@ pub fn try_entries(file: &[u8], d: &mut [u8]) -> Tally
     ensures { Tries (entries_tried (entries_in file.now) nothing_tried d.old) result d.new }
 {
     let mut tally = nothing_tried();
-    let mut left = count_in(file);
     let mut at = COUNT_SIZE;
-    while 0 < left {
+    for _ in 0..count_in(file) {
         tally = try_entry(listing_at(file, at), tally, d);
-        if tally.code != GOOD {
+        if tally.last.is_err() {
             return tally;
         }
         at = behind(file, at);
-        left -= 1;
     }
     tally
 }

@@ -152,7 +152,8 @@ module _ (p : ℕ) where
         maps_slot p w k,
         slots_kept n (used + (move_of k).size) ws ks (omega arith) (omega arith),
       )
-      (sym (and_assoc (maps_kept way w k) (mapped_kept way (used + (move_of k).size) (take n ws) (take n ks)) (spare_kept way (drop n ws) (drop n ks))))
+      (sym (and_assoc (maps_kept way w k) (mapped_kept way (used + (move_of k).size) (take n ws) (take n ks))
+      (spare_kept way (drop n ws) (drop n ks))))
 
 -- ---- the words of a plan, as they stand in the bytes
 
@@ -194,7 +195,8 @@ module _ (way : Direction) (d bs : List ℕ) (place at left : ℕ) (h : 0 < left
 
   pub mapped_step : (used : ℕ) →
       mapped_kept way used (words_from left place d) (words_from left at bs)
-      ≡ (maps_kept way word held && mapped_kept way (used + (move_of held).size) (words_from (left - 1) (place + 4) d) (words_from (left - 1) (at + 4) bs))
+      ≡ (maps_kept way word held
+      && mapped_kept way (used + (move_of held).size) (words_from (left - 1) (place + 4) d) (words_from (left - 1) (at + 4) bs))
   unfolding mapped_kept
   mapped_step used = rw (words_step place d, words_step at bs)
 
@@ -248,7 +250,8 @@ module _ (bs d : List ℕ) (p : ℕ) (is : IsPdo p) where
   counted = sym (omega (arith, value_step 0 (mapping_place p) d, value_none (mapping_place p + 1) d))
 
   -- what is no plan of the mapping's is not kept
-  refused : false ≡ (leb (read d (map_count p)) most_moves && (mapping_legal d p && same_plan plan (plan_for (mapped d p)))) → false ≡ plan_kept_in bs d p
+  refused : false ≡ (leb (read d (map_count p)) most_moves && (mapping_legal d p && same_plan plan (plan_for (mapped d p))))
+      → false ≡ plan_kept_in bs d p
   unfolding plan_kept_in
   refused e = sym (and-false (plan_own (plan_place p) bs)) ∙ ap (λ (b : Bool). plan_own (plan_place p) bs && b) e
 

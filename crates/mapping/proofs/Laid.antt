@@ -94,7 +94,8 @@ layable d start first place full before inside ds =
 
 module _ {d start bs : List ℕ} {first place word at k : ℕ} (g : Layable d start first place) (c : Laying d start bs first place word at k) where
   -- the next move, by the word that the code reads and takes apart
-  module _ (h : k < get_or start place 0) {v p s : ℕ} (reads : v ≡ value (part word 4 bs)) (ep : p ≡ (move_of v).place) (es : s ≡ (move_of v).size) where
+  module _ (h : k < get_or start place 0) {v p s : ℕ} (reads : v ≡ value (part word 4 bs))
+      (ep : p ≡ (move_of v).place) (es : s ≡ (move_of v).size) where
     as_begun : v ≡ word_at word start
     as_begun = reads ∙ ap value (part_behind place word 4 bs start c.stays (omega (arith, c.reached.stands)))
 

@@ -13,7 +13,8 @@ use lib.Seq.{drop-drop}
 use Rattle.rules_dictionary.specs.declared.Move.{Move}
 use Rattle.rules_dictionary.specs.declared.Plan.{Plan}
 use Rattle.rules_dictionary.specs.Numbers.{value, part, all, any, sum, padded}
-use Rattle.rules_dictionary.specs.Table.{Row, direction_of, word_length, each_way, pdos, map_count, words_place, most_moves, dictionary_length, open_table}
+use Rattle.rules_dictionary.specs.Table.{Row, direction_of, word_length, each_way, pdos, map_count, words_place}
+use Rattle.rules_dictionary.specs.Table.{most_moves, dictionary_length, open_table}
 use Rattle.rules_dictionary.specs.Values.{read, unpacked}
 use Rattle.rules_dictionary.specs.Aborts.{is_good, good, bad, first_firing, not_mappable, over_length}
 use Rattle.rules_dictionary.specs.Legal.{entry_verdict, count_verdict, map_words, most_bits}
@@ -150,7 +151,8 @@ module _ (p : ℕ) where
   unfolding as_ruled targets
   past used w ws m ms =
       rw (← verdict p w)
-      (regroup (legal w) (same_move m no_move) (all legal ws) true (not (ltb most_bits (8 * used + 0))) (not (ltb most_bits (8 * (used + m.size) + 0)))
+      (regroup (legal w) (same_move m no_move) (all legal ws) true (not (ltb most_bits (8 * used + 0)))
+      (not (ltb most_bits (8 * (used + m.size) + 0)))
       (same_by same_move ms (padded no_move (length ws) []))
       (λ s. more_bits used m.size 0 0 (ap (λ (k : ℕ). 8 * k) (sym (same_size m no_move s)))))
 

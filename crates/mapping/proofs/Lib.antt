@@ -15,3 +15,4 @@ pub mod Keeping
 pub mod Framed
 pub mod Laid
 pub mod Ends
+pub mod PlanWords

@@ -11,7 +11,8 @@ use lib.Arith.{mod-mul}
 use lib.Dec.{eqb, lit<}
 use Rattle.rules_dictionary.specs.Numbers.{all, filter}
 use Rattle.rules_dictionary.specs.Table.{Row, ValueType, u8, u16, u32, i8, i32, size, table, size_of, Direction, receive, transmit}
-use Rattle.rules_dictionary.specs.Table.{direction_of, mapping_word, word_index, word_subindex, word_length, Found, found, the_name, no_object, no_subindex}
+use Rattle.rules_dictionary.specs.Table.{direction_of, mapping_word, word_index, word_subindex, word_length}
+use Rattle.rules_dictionary.specs.Table.{Found, found, the_name, no_object, no_subindex}
 use Rattle.rules_dictionary.specs.Table.{lookup, open_table}
 use Rattle.rules_dictionary.specs.Aborts.{good, bad, is_good, first_firing, not_mappable}
 use Rattle.rules_dictionary.specs.Legal.{suits, target_verdict, entry_verdict}
@@ -188,8 +189,10 @@ module _ (p w : ℕ) where
       unnamed e false false h = h
 
       go : (word_move way w ≡ no_move) ⊎ ((x : Row) × Names way w x) →
-          is_good (elim (eqb w 0) [ true ↦ good | false ↦ target_verdict way w (lookup (word_index w) (word_subindex w)) ]) ≡ (eqb w 0 || names_one way w)
-      go (inl e) = unnamed e (eqb w 0) (is_good (target_verdict way w (lookup (word_index w) (word_subindex w)))) refl ∙ sym (or-none _ _ (names_none e))
+          is_good (elim (eqb w 0) [ true ↦ good | false ↦ target_verdict way w (lookup (word_index w) (word_subindex w)) ])
+          ≡ (eqb w 0 || names_one way w)
+      go (inl e) = unnamed e (eqb w 0) (is_good (target_verdict way w (lookup (word_index w) (word_subindex w)))) refl
+          ∙ sym (or-none _ _ (names_none e))
       go (inr (x, n)) =
           let f = facts n in
           rw (ne_eqb w 0 f.nonzero, f.finds, suited_good way w x f.suited (eq-eqb _ _ f.length)) (sym (names_one_lem n))

@@ -100,7 +100,8 @@ module _ {bs : List ℕ} {place word k : ℕ} (r : Reached bs place word k) wher
       pub step : left_at place bs k ≡ move_of v ∷ left_at place bs (k + 1)
       step = rw (add-one k) (next _ _ k r.fits.each in_count ∙ ap (λ (m : Move). m ∷ left_at place bs (suc k)) here)
 
-      pub place_step : {p : ℕ} → p ≡ (move_of v).place → (x : ℕ) → has_place x (left_at place bs k) ≡ (eqb p x || has_place x (left_at place bs (k + 1)))
+      pub place_step : {p : ℕ} → p ≡ (move_of v).place → (x : ℕ) → has_place x (left_at place bs k)
+          ≡ (eqb p x || has_place x (left_at place bs (k + 1)))
       place_step ep x = rw (step, ep)
 
       pub size_step : {s : ℕ} → s ≡ (move_of v).size → sizes (left_at place bs k) ≡ s + sizes (left_at place bs (k + 1))

@@ -93,7 +93,8 @@ legal_mapping d p h =
     let n = read d (map_count p) in
     let g = and_left (all (λ w. is_good (entry_verdict p w)) ws) _ h in
     let c = sym (good_count ws n) ∙ and_right (all (λ w. is_good (entry_verdict p w)) ws) _ h in
-    let b : 8 * 0 + sum (map word_length (take n ws)) ≤ most_bits = ltb-false most_bits _ (not-true _ (and_right (not (any (eqb 0) (take n ws))) _ c)) in
+    let b : 8 * 0 + sum (map word_length (take n ws)) ≤ most_bits =
+    ltb-false most_bits _ (not-true _ (and_right (not (any (eqb 0) (take n ws))) _ c)) in
     record { words = g; nonzero = and_left (not (any (eqb 0) (take n ws))) _ c; bits = omega arith }
 
 -- ---- a list filled up

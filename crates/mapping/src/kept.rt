@@ -58,7 +58,8 @@ fn is_spare(word: u32, kept: u32, transmit: bool) -> bool
     kept_word(word, transmit) != 0
 }
 
-// Whether so many mapping words name objects, of eight bytes at the most, and the words of their moves are kept.
+// Whether so many mapping words name objects, of eight bytes at the most, and the words of their moves are kept. Both places advance by hand,
+// here and in `is_each_spare`: chunks of two slices would give slices of four bytes, to be made words again, and need the slices cut first.
 fn are_mapped(
     named: &[u32],
     state: &[u8],
@@ -68,17 +69,16 @@ fn are_mapped(
     count: u32,
     transmit: bool,
 ) -> bool
-    requires named_value { named.now ≡ named_for (way_of transmit) }
-    requires count_in_bounds { (moves + 4 * count ≤ length state.now) × (moves < 2 ^ 16) }
-    requires count_in_bounds_2 { (words + 4 * count ≤ length d.now) × ((words < 2 ^ 16) × (count ≤ 8)) }
+    requires slots { named.now ≡ named_for (way_of transmit) }
+    requires moves_in_bounds { (moves + 4 * count ≤ length state.now) × (moves < 2 ^ 16) }
+    requires words_in_bounds { (words + 4 * count ≤ length d.now) × ((words < 2 ^ 16) × (count ≤ 8)) }
     ensures { result ≡
         mapped_kept (way_of transmit) 0 (words_from count words d.now) (words_from count moves state.now) }
 {
     let mut at = moves;
     let mut place = words;
-    let mut left = count;
     let mut used: u32 = 0;
-    while 0 < left {
+    for _ in 0..count {
         let kept = read4(state, at as usize);
         if !is_mapped(named, read4(d, place as usize), kept, transmit) {
             return false;
@@ -86,22 +86,20 @@ fn are_mapped(
         used += size_of(kept) as u32;
         at += STEP;
         place += STEP;
-        left -= 1;
     }
     used <= MOST_DATA
 }
 
 // Whether so many mapping words are legal, and nothing is kept for them: one after another.
 fn is_each_spare(state: &[u8], d: &[u8], moves: u32, words: u32, count: u32, transmit: bool) -> bool
-    requires count_in_bounds { (moves + 4 * count ≤ length state.now) × (moves < 2 ^ 17) }
-    requires count_in_bounds_2 { (words + 4 * count ≤ length d.now) × ((words < 2 ^ 17) × (count ≤ 8)) }
+    requires moves_in_bounds { (moves + 4 * count ≤ length state.now) × (moves < 2 ^ 17) }
+    requires words_in_bounds { (words + 4 * count ≤ length d.now) × ((words < 2 ^ 17) × (count ≤ 8)) }
     ensures { result ≡
         spare_kept (way_of transmit) (words_from count words d.now) (words_from count moves state.now) }
 {
     let mut at = moves;
     let mut place = words;
-    let mut left = count;
-    while 0 < left {
+    for _ in 0..count {
         if !is_spare(
             read4(d, place as usize),
             read4(state, at as usize),
@@ -111,15 +109,14 @@ fn is_each_spare(state: &[u8], d: &[u8], moves: u32, words: u32, count: u32, tra
         }
         at += STEP;
         place += STEP;
-        left -= 1;
     }
     true
 }
 
 // Whether four to eight mapping words are zero and nothing is kept for them: read from both ends, where the reads may share words.
 fn are_empty(state: &[u8], d: &[u8], moves: u32, words: u32, count: u32) -> bool
-    requires count_in_bounds { (moves + 4 * count ≤ length state.now) × (moves < 2 ^ 17) }
-    requires count_in_bounds_2 { (words + 4 * count ≤ length d.now) × ((words < 2 ^ 17) × ((4 ≤ count) × (count ≤ 8))) }
+    requires moves_in_bounds { (moves + 4 * count ≤ length state.now) × (moves < 2 ^ 17) }
+    requires words_in_bounds { (words + 4 * count ≤ length d.now) × ((words < 2 ^ 17) × ((4 ≤ count) × (count ≤ 8))) }
     ensures { result ≡ (ends_empty count moves state.now && ends_empty count words d.now) }
 {
     let behind = STEP * (count - HALF);
@@ -132,8 +129,8 @@ fn are_empty(state: &[u8], d: &[u8], moves: u32, words: u32, count: u32) -> bool
 
 // Whether so many mapping words are legal, and nothing is kept for them. Mostly there is nothing at all, which needs no loop.
 fn are_spare(state: &[u8], d: &[u8], moves: u32, words: u32, count: u32, transmit: bool) -> bool
-    requires count_in_bounds { (moves + 4 * count ≤ length state.now) × (moves < 2 ^ 17) }
-    requires count_in_bounds_2 { (words + 4 * count ≤ length d.now) × ((words < 2 ^ 17) × (count ≤ 8)) }
+    requires moves_in_bounds { (moves + 4 * count ≤ length state.now) × (moves < 2 ^ 17) }
+    requires words_in_bounds { (words + 4 * count ≤ length d.now) × ((words < 2 ^ 17) × (count ≤ 8)) }
     ensures { result ≡
         spare_kept (way_of transmit) (words_from count words d.now) (words_from count moves state.now) }
 {
@@ -154,9 +151,9 @@ pub fn is_plan_kept(
     map: u32,
     transmit: bool,
 ) -> bool
-    requires named_value { named.now ≡ named_for (way_of transmit) }
-    requires plan_length_in_bounds { (plan + plan_length ≤ length state.now) × (plan < 2 ^ 15) }
-    requires record_length_in_bounds { (map + record_length ≤ length d.now) × (map < 2 ^ 15) }
+    requires slots { named.now ≡ named_for (way_of transmit) }
+    requires plan_in_bounds { (plan + plan_length ≤ length state.now) × (plan < 2 ^ 15) }
+    requires record_in_bounds { (map + record_length ≤ length d.now) × (map < 2 ^ 15) }
     ensures { result ≡ plan_kept_at (way_of transmit) plan map state.now d.now }
 {
     let mapped = d[map as usize];
@@ -183,7 +180,8 @@ pub fn is_plan_kept(
     )
 }
 
-// Whether the bytes at a place of the state are the value at a place of the dictionary.
+// Whether the bytes at a place of the state are the value at a place of the dictionary. By size, one comparison of words each, where slices
+// would be compared byte by byte. The size is a number, as in `Move`, which the rules' `plans_of` is about.
 fn is_value(state: &[u8], d: &[u8], at: usize, place: usize, size: u8) -> bool
     requires { (at + size ≤ length state.now) × ((place + size ≤ length d.now) × IsSize size) }
     ensures { result ≡ eqb (value (part at size state.now)) (value (part place size d.now)) }
@@ -216,19 +214,19 @@ fn are_zero(bytes: &[u8], place: u32, count: u32) -> bool
     true
 }
 
-// Whether the frame at a place is the one that the plan at a place gives: the bytes that it maps, one value behind another, then zeros.
+// Whether the frame at a place is the one that the plan at a place gives: the bytes that it maps, one value behind another, then zeros. Not over
+// `moves_in`: that finds a plan by its PDO's number, and this by its place.
 pub fn is_frame_kept(state: &[u8], d: &[u8], frame: u32, plan: u32) -> bool
-    requires data_length_in_bounds { (frame + data_length ≤ length state.now) × (plan + plan_length ≤ length state.now) }
-    requires frame_bound { (frame < 2 ^ 16) × (plan < 2 ^ 16) }
-    requires d_len { (length d.now ≡ dictionary_length) × MovesFit (plan_at plan state.now).moves (plan_at plan state.now).count }
+    requires in_bounds { (frame + data_length ≤ length state.now) × (plan + plan_length ≤ length state.now) }
+    requires small_places { (frame < 2 ^ 16) × (plan < 2 ^ 16) }
+    requires moves_fit { (length d.now ≡ dictionary_length) × MovesFit (plan_at plan state.now).moves (plan_at plan state.now).count }
     ensures { result ≡ frame_kept_at frame plan state.now d.now }
 {
     let count = state[plan as usize] as u32;
     let first = frame + DATA_OFFSET;
     let mut moves = plan + MOVES_OFFSET;
     let mut at = first;
-    let mut k: u32 = 0;
-    while k < count {
+    for _ in 0..count {
         let word = read4(state, moves as usize);
         let size = size_of(word);
         if !is_value(state, d, at as usize, place_of(word) as usize, size) {
@@ -236,7 +234,6 @@ pub fn is_frame_kept(state: &[u8], d: &[u8], frame: u32, plan: u32) -> bool
         }
         at += size as u32;
         moves += STEP;
-        k += 1;
     }
     let mapped = at - first;
     if state[frame as usize] as u32 != mapped {

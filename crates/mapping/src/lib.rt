@@ -6,6 +6,7 @@
 mod words; // the move that a mapping word names
 mod frames; // the data of a PDO, compared
 mod plans; // the plan that a PDO's mapping gives
+mod moves; // the moves of a plan, one after another
 mod received; // the values of a received frame
 mod afresh; // all plans
 mod ready; // the ready frames, worked where they stand

@@ -11,18 +11,17 @@ use crate::words::move_of;
 use dictionary::{places, read4, records};
 use rules_dictionary::{Move, Plan};
 
-// The moves that the first mapping words from a place on name, then spare slots.
+// The moves that the first mapping words from a place on name, then spare slots. The words' place goes along by its own step: an iterator of
+// the words would need a slice of them cut, and each made of its four bytes.
 fn moves_of(d: &[u8], first: usize, count: u32, transmit: bool) -> [Move; 8]
     requires { (first + 4 * most_moves ≤ length d.now) × ((first < 2 ^ 16) × (count ≤ most_moves)) }
     ensures { result ≡ moves_named (way_of transmit) count first d.now }
 {
     let mut moves = [Move { place: 0, size: 0 }; 8];
     let mut at = first;
-    let mut k: u32 = 0;
-    while k < count {
+    for k in 0..count {
         moves[k as usize] = move_of(read4(d, at), transmit);
         at += places::WORD_LENGTH;
-        k += 1;
     }
     moves
 }

@@ -20,17 +20,17 @@ use form::{layout, read_frame};
 
 // The values that the plan at a place maps into the bytes from a place before it on, one behind another. Where they end.
 fn lay_values(state: &mut [u8], d: &[u8], first: u32, plan: u32) -> u32
-    requires most_data_bound { (first + most_data ≤ plan) × ((plan + plan_length ≤ length state.old) × (plan < 2 ^ 15)) }
-    requires d_len { (length d.now ≡ dictionary_length) × MovesFit (plan_at plan state.old).moves (plan_at plan state.old).count }
-    ensures state_after { state.new ≡
+    requires in_bounds { (first + most_data ≤ plan) × ((plan + plan_length ≤ length state.old) × (plan < 2 ^ 15)) }
+    requires moves_fit { (length d.now ≡ dictionary_length) × MovesFit (plan_at plan state.old).moves (plan_at plan state.old).count }
+    ensures laid { state.new ≡
         sets state.old first (joined_moves d.now (moves_of (plan_at plan state.old))) }
-    ensures value { result ≡ first + length (joined_moves d.now (moves_of (plan_at plan state.old))) }
+    ensures end { result ≡ first + length (joined_moves d.now (moves_of (plan_at plan state.old))) }
 {
     let count = state[plan as usize] as u32;
     let mut at = first;
     let mut spot = plan + MOVES_OFFSET;
-    let mut k: u32 = 0;
-    while k < count {
+    // Not over the plan's moves as an iterator: that lends the state, which the loop writes.
+    for _ in 0..count {
         let word = read4(state, spot as usize);
         let size = size_of(word);
         write(
@@ -41,15 +41,14 @@ fn lay_values(state: &mut [u8], d: &[u8], first: u32, plan: u32) -> u32
         );
         at += size as u32;
         spot += STEP;
-        k += 1;
     }
     at
 }
 
 // The frame that the plan at a place gives into the bytes at a place before it: its length, the values that are mapped, then zeros.
 fn lay(state: &mut [u8], d: &[u8], frame: u32, plan: u32)
-    requires data_length_bound { (frame + data_length ≤ plan) × ((plan + plan_length ≤ length state.old) × (plan < 2 ^ 15)) }
-    requires d_len { (length d.now ≡ dictionary_length) × MovesFit (plan_at plan state.old).moves (plan_at plan state.old).count }
+    requires in_bounds { (frame + data_length ≤ plan) × ((plan + plan_length ≤ length state.old) × (plan < 2 ^ 15)) }
+    requires moves_fit { (length d.now ≡ dictionary_length) × MovesFit (plan_at plan state.old).moves (plan_at plan state.old).count }
     ensures { state.new ≡ sets state.old frame (data_form (ready_by d.now (plan_at plan state.old))) }
 {
     let first = frame + DATA_OFFSET;
@@ -63,9 +62,9 @@ fn lay(state: &mut [u8], d: &[u8], frame: u32, plan: u32)
 fn renew(state: &mut [u8], d: &[u8], t: usize) -> bool
     requires holds { Holds state.old (state_of state.old) × ((length d.now ≡ dictionary_length) × (t < each_way)) }
     requires moves_fit { MovesFit (plan_in state.old (each_way + t)).moves (plan_in state.old (each_way + t)).count }
-    ensures holds_2 { Holds state.new
+    ensures after { Holds state.new
         (readying t (ready_by d.now (plan_in state.old (each_way + t))) (state_of state.old)) }
-    ensures value { result ≡ not (same_data (ready_in state.old t) (ready_by d.now (plan_in state.old (each_way + t)))) }
+    ensures change { result ≡ not (same_data (ready_in state.old t) (ready_by d.now (plan_in state.old (each_way + t)))) }
 {
     let plan = plan_place(EACH_WAY + t);
     let frame = (layout::READY + layout::FRAME_LENGTH * t) as u32;
@@ -81,10 +80,8 @@ pub fn renew_all(state: &mut [u8], d: &[u8]) -> [bool; 4]
     ensures value { result ≡ which_change (state_of state.old).axis.ready (ready_of d.now) }
 {
     let mut changed = [false; 4];
-    let mut t: usize = 0;
-    while t < EACH_WAY {
+    for t in 0..EACH_WAY {
         changed[t] = renew(state, d, t);
-        t += 1;
     }
     changed
 }

@@ -8,10 +8,10 @@ ghost use Rattle.rules_dictionary.specs.Table.{each_way, dictionary_length};
 ghost use Rattle.form.specs.Form.{plan_in, plan_place};
 ghost use Rattle.mapping.specs.Received.{PlanFits, moves_of, sizes, is_legal, moves_legal, stored_moves, has_place};
 
-use crate::kept::{MOVES_OFFSET, STEP};
+use crate::moves::moves_in;
 use crate::words::{place_of, size_of};
 use dictionary::choices::is_mode;
-use dictionary::{places, read, read4, write};
+use dictionary::{places, read, write};
 use form::layout;
 
 // Where the plan of PDO p stands.
@@ -27,15 +27,9 @@ pub fn length_of(state: &[u8], p: usize) -> u8
     requires { PlanFits state.now p }
     ensures { result ≡ sizes (moves_of (plan_in state.now p)) }
 {
-    let plan = plan_place(p);
-    let count = state[plan as usize] as u32;
-    let mut spot = plan + MOVES_OFFSET;
     let mut total: u8 = 0;
-    let mut k: u32 = 0;
-    while k < count {
-        total += size_of(read4(state, spot as usize));
-        spot += STEP;
-        k += 1;
+    for word in moves_in(state, p) {
+        total += size_of(word);
     }
     total
 }
@@ -45,18 +39,7 @@ pub fn maps(state: &[u8], p: usize, place: u16) -> bool
     requires { PlanFits state.now p }
     ensures { result ≡ has_place place (moves_of (plan_in state.now p)) }
 {
-    let plan = plan_place(p);
-    let count = state[plan as usize] as u32;
-    let mut spot = plan + MOVES_OFFSET;
-    let mut k: u32 = 0;
-    while k < count {
-        if place_of(read4(state, spot as usize)) == place {
-            return true;
-        }
-        spot += STEP;
-        k += 1;
-    }
-    false
+    moves_in(state, p).any(|word| place_of(word) == place)
 }
 
 // Whether a value may be received for the object at a place.
@@ -76,20 +59,13 @@ pub fn are_legal(state: &[u8], p: usize, content: [u8; 8]) -> bool
     requires { PlanFits state.now p }
     ensures { (result ≡ moves_legal (moves_of (plan_in state.now p)) content) × (are_bytes content ≡ true) × (length content ≡ 8) }
 {
-    let plan = plan_place(p);
-    let count = state[plan as usize] as u32;
-    let mut spot = plan + MOVES_OFFSET;
-    let mut at: u32 = 0;
-    let mut k: u32 = 0;
-    while k < count {
-        let word = read4(state, spot as usize);
+    let mut byte: u32 = 0;
+    for word in moves_in(state, p) {
         let size = size_of(word);
-        if !is_legal(place_of(word), read(&content, at as usize, size)) {
+        if !is_legal(place_of(word), read(&content, byte as usize, size)) {
             return false;
         }
-        at += size as u32;
-        spot += STEP;
-        k += 1;
+        byte += size as u32;
     }
     true
 }
@@ -99,13 +75,8 @@ pub fn store_values(d: &mut [u8], state: &[u8], p: usize, content: [u8; 8])
     requires { (length d.old ≡ dictionary_length) × PlanFits state.now p }
     ensures { d.new ≡ stored_moves (moves_of (plan_in state.now p)) content d.old }
 {
-    let plan = plan_place(p);
-    let count = state[plan as usize] as u32;
-    let mut spot = plan + MOVES_OFFSET;
     let mut at: u32 = 0;
-    let mut k: u32 = 0;
-    while k < count {
-        let word = read4(state, spot as usize);
+    for word in moves_in(state, p) {
         let size = size_of(word);
         write(
             d,
@@ -114,7 +85,5 @@ pub fn store_values(d: &mut [u8], state: &[u8], p: usize, content: [u8; 8])
             read(&content, at as usize, size),
         );
         at += size as u32;
-        spot += STEP;
-        k += 1;
     }
 }

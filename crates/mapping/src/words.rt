@@ -30,6 +30,7 @@ pub const SLOT_LENGTH: u32 = 2;
 const NAMED_LENGTH: usize = (SLOTS * SLOT_LENGTH) as usize;
 
 // The objects that may be received, each at the slot of its mapping word. A free slot holds zeros; zero is a word of slot 0, which is not free.
+// Words in turn, not pairs: `named_for` in specs/Words is this list of numbers.
 const RECEIVED: [u32; NAMED_LENGTH] = [
     0x607A_00_20,
     FOUR_BYTES + places::TARGET_POSITION as u32,
@@ -70,6 +71,7 @@ const TRANSMITTED: [u32; NAMED_LENGTH] = [
 ];
 
 // The slots of each direction. Whoever looks at many words has them made once, and lends them on.
+// Two functions, and a flag for the direction: the definition `named_for` has a table for each, and `way_of` names the flag in the contracts.
 pub fn receive_slots() -> [u32; NAMED_LENGTH]
     ensures { result ≡ named_for receive }
 {
@@ -89,7 +91,8 @@ pub fn slot_of(word: u32) -> u32
     word / HALF * MULTIPLIER / DIVISOR % SLOTS
 }
 
-// The word of the move of the object that a mapping word of a receive PDO names; 0 where it names none.
+// The word of the move of the object that a mapping word of a receive PDO names; 0 where it names none. Not an Option: 0 is what the form keeps
+// for a spare slot (`spares_kept`, and `word_move` for `move_of`). One list for each direction: the two share no arm.
 fn receive_word(word: u32) -> u32
     ensures { result ≡ kept_word receive word }
 {
@@ -125,12 +128,13 @@ pub fn kept_word(word: u32, transmit: bool) -> u32
     ensures { result ≡ kept_word (way_of transmit) word }
 {
     if transmit {
-        return transmit_word(word);
+        transmit_word(word)
+    } else {
+        receive_word(word)
     }
-    receive_word(word)
 }
 
-// The place in a move's word.
+// The place in a move's word. No `From<u32> for Move`: both types are other crates', and the tests want the place or the size alone.
 pub fn place_of(word: u32) -> u16
     ensures { result ≡ (move_of word).place }
 {

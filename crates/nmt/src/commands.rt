@@ -25,15 +25,7 @@ fn enter(state: &mut [u8], nmt: NmtState)
     ensures { Puts (with_nmt nmt) state.old state.new }
 {
     let node = read_node(state);
-    put_node(
-        state,
-        Node {
-            id: node.id,
-            nmt: nmt,
-            voltage: node.voltage,
-            heartbeat: node.heartbeat,
-        },
-    );
+    put_node(state, Node { nmt, ..node });
 }
 
 // The node in that NMT state, where receive PDOs do not work: no held frames.
@@ -46,6 +38,7 @@ fn leave(state: &mut [u8], nmt: NmtState)
 }
 
 // A command for this node: "01h Operational, 02h Stopped, 80h Pre-operational, 81h as power-up, 82h ..". One that is unknown changes nothing.
+// Stays one `match` on the byte: an enum of the commands would be made by this `match` and taken apart by a second one.
 fn command(c: u8, state: &mut [u8], d: &mut [u8], output: &mut [u8]) -> Done
     requires { Commandable state.old d.old output.old }
     ensures { LeavesIn (λ s d. commanded (command_of c) s) never state.old d.entry.now output.old
@@ -63,9 +56,7 @@ fn command(c: u8, state: &mut [u8], d: &mut [u8], output: &mut [u8]) -> Done
             nothing_done(false)
         }
         0x80 => {
-            let node = read_node(state);
-            let nmt = node.nmt;
-            if nmt.is_pre_operational() {
+            if read_node(state).nmt.is_pre_operational() {
                 return nothing_done(false);
             }
             leave(state, NmtState::PreOperational);

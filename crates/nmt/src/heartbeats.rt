@@ -10,7 +10,7 @@ ghost use Rattle.nmt.specs.Commanding.{ticked};
 
 use dictionary::objects;
 use form::{put_heartbeat, read_node};
-use output::{Done, send};
+use output::{Done, nothing_done, send};
 use rules_dictionary::PdoData;
 use state::{NmtState, Occasion};
 
@@ -20,7 +20,8 @@ const HEARTBEAT_BASE: u16 = 0x700;
 // The byte of a boot-up.
 const BOOT_UP: u8 = 0x00;
 
-// "04h Stopped, 05h Operational, 7Fh".
+// "04h Stopped, 05h Operational, 7Fh". Stays a function: `From` for an enum of another crate would be neither crate's own, and
+// the enum's numbers are those of the kept state (`nmt_number`), not these.
 fn state_byte(m: NmtState) -> u8
     ensures { result ≡ state_byte m }
 {
@@ -31,7 +32,7 @@ fn state_byte(m: NmtState) -> u8
     }
 }
 
-// One byte of data.
+// One byte of data. The zeros stand in place: `[0; 8]` and an assignment would be two lines for one.
 fn one_byte(b: u8) -> PdoData
     ensures { result ≡ pdo_data (b ∷ []) }
 {
@@ -62,11 +63,9 @@ fn ticked(frames: usize) -> Done
     ensures { result ≡ ticked frames }
 {
     Done {
-        frames: frames,
-        touched: false,
-        remapped: false,
+        frames,
         occasion: Occasion::Ticked,
-        quiet: true,
+        ..nothing_done(true)
     }
 }
 
@@ -81,12 +80,11 @@ pub fn tick(state: &mut [u8], d: &[u8], output: &mut [u8]) -> Done
         return ticked(0);
     }
     let node = read_node(state);
-    let nmt = node.nmt;
     if node.heartbeat < period - 1 {
         put_heartbeat(state, node.heartbeat + 1);
         return ticked(0);
     }
     put_heartbeat(state, 0);
-    send_byte(output, node.id, state_byte(nmt));
+    send_byte(output, node.id, state_byte(node.nmt));
     ticked(1)
 }

@@ -11,9 +11,9 @@ use dictionary::{write_communication_defaults, write_defaults};
 use drive::states::next;
 use drive::{Command, Drive, DriveState, Store};
 use form::{put_drive, put_no_transfer, put_node, put_none_held, read_drive, read_node};
-use output::Done;
+use output::{Done, nothing_done};
 use rules_dictionary::Mode;
-use state::{NmtState, Node, Occasion};
+use state::{NmtState, Node};
 
 // The drive after Disable voltage.
 pub fn disable_voltage(state: &mut [u8])
@@ -21,11 +21,8 @@ pub fn disable_voltage(state: &mut [u8])
     ensures { Puts voltage_disabled state.old state.new }
 {
     let drive = read_drive(state);
-    let before = drive.state;
-    put_drive(
-        state,
-        drive.enters(next(drive.cause, before, Command::DisableVoltage)),
-    );
+    let after = next(drive.cause, drive.state, Command::DisableVoltage);
+    put_drive(state, drive.enters(after));
 }
 
 // "Power-up ends in Pre-operational, Not ready, voltage off": the node n.
@@ -66,8 +63,7 @@ pub fn start(d: &mut [u8], output: &mut [u8], n: u8) -> Done
         frames: 1,
         touched: true,
         remapped: true,
-        occasion: Occasion::Plain,
-        quiet: false,
+        ..nothing_done(false)
     }
 }
 
@@ -105,10 +101,9 @@ pub fn reset_communication(state: &mut [u8], d: &mut [u8], output: &mut [u8]) ->
     put_node(
         state,
         Node {
-            id: node.id,
             nmt: NmtState::PreOperational,
-            voltage: node.voltage,
             heartbeat: 0,
+            ..node
         },
     );
     disable_voltage(state);
@@ -116,9 +111,7 @@ pub fn reset_communication(state: &mut [u8], d: &mut [u8], output: &mut [u8]) ->
     put_no_transfer(state);
     Done {
         frames: 1,
-        touched: false,
         remapped: true,
-        occasion: Occasion::Plain,
-        quiet: false,
+        ..nothing_done(false)
     }
 }

@@ -1,12 +1,14 @@
 -- Frames in the output: the frame that `send` lays is the encoded one; frames emitted, one after another.
 -- Assumes nothing.
-use Prim.Native.Nat.{ℕ, suc, ◌+◌, ◌-◌, ◌*◌, ◌/◌, ◌%◌, ◌<◌, ◌≤◌}
-use native.Mathlib.Numerals.{add-one}
+use Prim.Native.Nat.{ℕ, suc, ◌+◌, ◌-◌, ◌*◌, ◌≤◌}
 use native.Mathlib.Omega.{arith}
 use mathlib.Core.Path.{◌≡◌, refl, sym, ◌∙◌, ap}
 use mathlib.Core.List.{List, [], ◌∷◌, ◌++◌, append-nil, append_assoc}
-use lib.ListN.{length, get_or, set, take, drop, length-append, length-drop, drop_of_length-le, take-append-drop}
-use lib.Seq.{sets, paste, paste-suc, take_all, length-take-le, drop-drop, take-append-add, drop-append-add}
+use lib.ListN.{length, take, drop, length-append, length-drop, drop_of_length-le, take-append-drop}
+use lib.Seq.{take_all, length-take-le, drop-drop, take-append-add, drop-append-add}
+use Rattle.std.proofs.Common.{slice_set}
+use Rattle.std.specs.Int.{to_le_bytes, w16}
+use borrow.Rule.Slice.PartMut.{put_mid}
 use Rattle.rules_dictionary.specs.declared.PdoData.{PdoData}
 use Rattle.rules_dictionary.specs.Numbers.{bytes, padded}
 use Rattle.rules_dictionary.specs.Plans.{pdo_data}
@@ -18,24 +20,14 @@ use Rattle.output.specs.Laying.{head_size, framed, IsData, frame_of, emitted}
 
 -- ---- what the code leaves
 
--- the head stored
-abbrev pub headed : ℕ → PdoData → List ℕ → List ℕ
-headed i content o = sets o 0 (i % 256 ∷ i / 256 % 256 ∷ content.length ∷ [])
-
--- one more byte of the data
-pub one_more_byte : (before o bs : List ℕ) (i : ℕ) → o ≡ paste before head_size bs i → length o ≡ length before →
-    head_size + i < length o → i < length bs → set o (head_size + i) (get_or bs i 0) ≡ paste before head_size bs (i + 1)
-one_more_byte before o bs i e l h w =
-    ap (λ (x : List ℕ). set x (head_size + i) (get_or bs i 0)) e ∙ rw add-one (paste-suc before head_size bs i 0 (omega arith) w)
-
--- head and data over the first bytes
-pub head_and_data : (o : List ℕ) (i : ℕ) (content : PdoData) → frame_size ≤ length o → length content.bytes ≡ most_data →
-    paste (headed i content o) head_size content.bytes most_data ≡ framed i content ++ drop frame_size o
+-- the identifier laid, then the length, then the data
+pub laid_as : (i : ℕ) (content : PdoData) (o head behind : List ℕ) → frame_size ≤ length o → head ≡ to_le_bytes w16 i → behind ≡ content.bytes →
+    put_mid head_size most_data (slice_set (head ++ drop 2 o) 2 content.length) behind ≡ framed i content ++ drop frame_size o
 unfolding framed bytes
-head_and_data [] i content h l = absurd (omega arith)
-head_and_data (x ∷ []) i content h l = absurd (omega arith)
-head_and_data (x ∷ y ∷ []) i content h l = absurd (omega arith)
-head_and_data (x ∷ y ∷ z ∷ o) i content h l = rw (take_all most_data content.bytes (omega arith))
+laid_as i content [] head behind h e q = absurd (omega arith)
+laid_as i content (x ∷ []) head behind h e q = absurd (omega arith)
+laid_as i content (x ∷ y ∷ []) head behind h e q = absurd (omega arith)
+laid_as i content (x ∷ y ∷ z ∷ o) head behind h e q = rw (e, q)
 
 -- ---- for the callers
 
@@ -104,7 +96,8 @@ length_emitted n fs o h =
     rw length-append (omega (arith, before, behind, sent))
 
 -- THE LAW for those who lend the output from frame n on: with the part back in it, the part's frames are emitted from n on
-pub lent_back : (o part : List ℕ) (fs : List Frame) (n k : ℕ) → length o ≤ frame_size * n + k → part ≡ sent_into (take k (drop (frame_size * n) o)) fs →
+pub lent_back : (o part : List ℕ) (fs : List Frame) (n k : ℕ) → length o ≤ frame_size * n + k →
+    part ≡ sent_into (take k (drop (frame_size * n) o)) fs →
     take (frame_size * n) o ++ (part ++ drop k (drop (frame_size * n) o)) ≡ emitted n fs o
 unfolding emitted
 lent_back o part fs n k h p =

@@ -27,6 +27,7 @@ pub const OUTPUT_LENGTH: usize = MOST_FRAMES * FRAME_LENGTH;
 
 // What a service leaves beside the lent bytes: how many frames it laid, whether an object that may be mapped to transmit was written, whether a
 // PDO's mapping was, what the call is to its own end, and whether nothing is left to do there.
+// A number of frames beside the lent output, not a writer over it: `Leaves` tells what an output holds by that number.
 #[derive(Clone, Copy)]
 pub struct Done {
     pub frames: usize,
@@ -45,7 +46,7 @@ pub fn nothing_done(quiet: bool) -> Done
         touched: false,
         remapped: false,
         occasion: Occasion::Plain,
-        quiet: quiet,
+        quiet,
     }
 }
 
@@ -54,13 +55,7 @@ pub fn send(output: &mut [u8], identifier: u16, content: PdoData)
     requires { (frame_size ≤ length output.old) × IsData content }
     ensures { output.new ≡ sent_into output.old (frame_of identifier content ∷ []) }
 {
-    output[0] = (identifier % 256) as u8;
-    output[1] = (identifier / 256 % 256) as u8;
+    output[..LENGTH].copy_from_slice(&identifier.to_le_bytes());
     output[LENGTH] = content.length;
-    let mut i: usize = 0;
-    while i < MOST_DATA {
-        let place = DATA + i;
-        output[place] = content.bytes[i];
-        i += 1;
-    }
+    output[DATA..FRAME_LENGTH].copy_from_slice(&content.bytes);
 }

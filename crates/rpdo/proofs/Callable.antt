@@ -34,6 +34,9 @@ lawful_kept {state} {d} own law fresh room =
     record {
       lent = lent own law.long room (leb-true n last_node (and_right (leb first_node n) (leb n last_node) law.id));
       plans = λ p i.
-          rw (fresh, each_in (λ q. get_or (plans_of d) q (record { count = 0; moves = [] }) ≡ plan_for (mapped d q)) i (refl, (refl, (refl, (refl, tt)))))
+          rw (
+            fresh,
+            each_in (λ q. get_or (plans_of d) q (record { count = 0; moves = [] }) ≡ plan_for (mapped d q)) i (refl, (refl, (refl, (refl, tt)))),
+          )
           (legal_receives law.dictionary i);
     }

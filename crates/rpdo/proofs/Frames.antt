@@ -1,15 +1,16 @@
 -- A received frame: its length, its values, and whether it is held.
 -- Assumes nothing.
 use Prim.Native.Nat.{ℕ, zero, suc, ◌+◌, ◌-◌, ◌*◌, ◌<◌, ◌≤◌}
-use native.Mathlib.Numerals.{add-one}
+use native.Mathlib.Numerals.{unary_clauses}
 use native.Mathlib.Omega.{arith}
-use mathlib.Core.Path.{◌≡◌, refl, sym, ◌∙◌, ap, ap₂}
+use mathlib.Core.Path.{◌≡◌, refl, ◌∙◌, ap, ap₂}
 use mathlib.Core.Bool.{Bool, true, false, cond, not, ◌&&◌}
 use lib.Dec.{ltb}
 use mathlib.Core.List.{List, [], ◌∷◌, ◌++◌, append-nil}
 use borrow.Author.Tests.{lt-ltb, le-ltb, lt-leb, le-leb}
-use lib.ListN.{length, take, drop, set}
-use lib.Seq.{take-suc-set, take-take, length-take-le}
+use lib.ListN.{length, take, drop, set, replicate, drop_of_length-le}
+use lib.Seq.{take-take, length-take-le, drop-drop}
+use borrow.Rule.Slice.PartMut.{put_mid}
 use Rattle.state.specs.declared.State.{State}
 use Rattle.rules_dictionary.specs.declared.Plan.{Plan}
 use Rattle.rules_dictionary.specs.declared.PdoData.{PdoData}
@@ -41,21 +42,23 @@ use Rattle.rpdo.proofs.Applied.{one_frame, keeps_applied}
 
 -- ---- the leading bytes, and zeros behind them
 
-pub all_leading : (n : ℕ) (bs : List ℕ) → n ≤ length bs → take n bs ≡ padded 0 n (take n bs)
-all_leading zero bs h = refl
-all_leading (suc n) [] h = absurd (omega arith)
-all_leading (suc n) (b ∷ bs) h = ap (λ (l : List ℕ). b ∷ l) (all_leading n bs (omega arith))
+no_more : (k : ℕ) → replicate {A = ℕ} k 0 ≡ padded 0 k []
+no_more zero = refl
+no_more (suc k) = ap (λ (l : List ℕ). 0 ∷ l) (no_more k)
 
-padded_more : (k : ℕ) (bs : List ℕ) → length bs ≤ k → padded 0 (suc k) bs ≡ padded 0 k bs ++ (0 ∷ [])
-padded_more zero [] h = refl
-padded_more zero (b ∷ bs) h = absurd (omega arith)
-padded_more (suc k) [] h = ap (λ (l : List ℕ). 0 ∷ l) (padded_more k [] (omega arith))
-padded_more (suc k) (b ∷ bs) h = ap (λ (l : List ℕ). b ∷ l) (padded_more k bs (omega arith))
+zeros_behind : (n k : ℕ) (bs : List ℕ) → length bs ≡ k → n ≤ k → take n bs ++ replicate {A = ℕ} (k - n) 0 ≡ padded 0 k (take n bs)
+zeros_behind zero k bs l h = simp unary_clauses (no_more k)
+zeros_behind (suc n) zero bs l h = absurd (omega arith)
+zeros_behind (suc n) (suc k) [] l h = absurd (omega arith)
+zeros_behind (suc n) (suc k) (b ∷ bs) l h =
+    simp unary_clauses (ap (λ (x : List ℕ). b ∷ x) (zeros_behind n k bs (omega arith) (omega arith)))
 
--- one zero more
-pub next_zero : (k : ℕ) (bs front : List ℕ) → k < length bs → length front ≤ k → take k bs ≡ padded 0 k front →
-    take (k + 1) (set bs k 0) ≡ padded 0 (k + 1) front
-next_zero k bs front h l e = rw (add-one k, take-suc-set bs k 0 h, e) (sym (padded_more k front l))
+-- zeros laid over what stands from the nth byte on
+pub laid_zeros : (n k : ℕ) (bs part : List ℕ) → length bs ≡ k → n ≤ k → part ≡ replicate {A = ℕ} (k - n) 0 →
+    put_mid n (k - n) bs part ≡ padded 0 k (take n bs)
+laid_zeros n k bs part l h e =
+    let none : drop (k - n) (drop n bs) ≡ [] = drop-drop (k - n) n bs ∙ drop_of_length-le bs (omega arith) in
+    rw (none, e, append-nil) (zeros_behind n k bs l h)
 
 -- ---- another part of the output lent
 
@@ -165,7 +168,8 @@ module _ {needed p : ℕ} {state d o : List ℕ} (k : Serves needed p state d o)
           occasion = r.occasion;
           quiet = r.quiet;
         } in
-        Leaves s now d (take (length o₁ - frame_size * m) (drop (frame_size * m) o₁)) r bs d' part' × Rests (judged_rests p (data_of used) s d) s now r →
+        Leaves s now d (take (length o₁ - frame_size * m) (drop (frame_size * m) o₁)) r bs d' part'
+        × Rests (judged_rests p (data_of used) s d) s now r →
         Leaves s all d o q bs d' (take (frame_size * m) o₁ ++ (part' ++ drop (length o₁ - frame_size * m) (drop (frame_size * m) o₁)))
         × Rests (received_rests p (data_of content) s d) s all q
     unfolding stored

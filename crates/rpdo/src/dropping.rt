@@ -13,7 +13,9 @@ pub fn refused(code: u16, state: &[u8], d: &[u8], output: &mut [u8]) -> Done
     ensures { LeavesIn (says code) ever state.now d.now output.old
         result state.now d.now output.new }
 {
-    let mut done = nothing_done(true);
-    done.frames = emergency(code, read_node(state), d, output);
-    done
+    let frames = emergency(code, read_node(state), d, output);
+    Done {
+        frames,
+        ..nothing_done(true)
+    }
 }

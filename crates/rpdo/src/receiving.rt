@@ -23,6 +23,8 @@ use mapping::{are_legal, length_of};
 use output::{Done, FRAME_LENGTH, nothing_done};
 use rules_dictionary::PdoData;
 
+// The codes stay numbers, not an enum: `emergency` takes every code, for a fault's is whichever the amplifier gives.
+
 // Emergency code: a value that SDO would refuse.
 const VALUE_REFUSED: u16 = 0x8200;
 
@@ -38,11 +40,7 @@ fn leading(content: [u8; 8], n: usize) -> [u8; 8]
     ensures { (result ≡ padded 0 8 (take n content)) × (length content ≡ 8) }
 {
     let mut bytes = content;
-    let mut k = n;
-    while k < 8 {
-        bytes[k] = 0;
-        k += 1;
-    }
+    bytes[n..].fill(0);
     bytes
 }
 
@@ -54,12 +52,11 @@ fn judge(state: &mut [u8], d: &mut [u8], output: &mut [u8], p: usize, content: P
     ensures { LeavesIn (judged p (data_of content)) (judged_rests p (data_of content))
         state.old d.old output.old result state.new d.new output.new }
 {
-    let bytes = content.bytes;
-    if !are_legal(state, p, bytes) {
+    if !are_legal(state, p, content.bytes) {
         return refused(VALUE_REFUSED, state, d, output);
     }
     if LAST_SYNCHRONOUS < records::transmission_type(d, p) {
-        return apply(state, p, d, output, bytes);
+        return apply(state, p, d, output, content.bytes);
     }
     put_held(state, p, content);
     nothing_done(true)
@@ -77,10 +74,9 @@ fn received(state: &mut [u8], d: &mut [u8], output: &mut [u8], p: usize, content
     }
     if needed < content.length {
         let n = emergency(TOO_LONG, read_node(state), d, output);
-        let bytes = content.bytes;
         let used = PdoData {
             length: needed,
-            bytes: leading(bytes, needed as usize),
+            bytes: leading(content.bytes, needed as usize),
         };
         let mut done = judge(state, d, &mut output[FRAME_LENGTH * n..], p, used);
         done.frames += n;
@@ -102,17 +98,13 @@ pub fn receive(
     ensures { LeavesIn (received_by receive_pdos identifier (data_of content)) (received_by_rests receive_pdos identifier (data_of content))
         state.old d.old output.old result state.new d.new output.new }
 {
-    let node = read_node(state);
-    let nmt = node.nmt;
-    if !nmt.is_operational() {
+    if !read_node(state).nmt.is_operational() {
         return nothing_done(true);
     }
-    let mut p: usize = 0;
-    while p < places::EACH_WAY {
+    for p in 0..places::EACH_WAY {
         if hears(d, p, identifier) {
             return received(state, d, output, p, content);
         }
-        p += 1;
     }
     nothing_done(true)
 }

@@ -1,5 +1,4 @@
 // SYNC: "It applies held frames 1 to 4", "another length gives 8240h only. Stopped it is not served".
-ghost use Rattle.std.specs.Prelude.{◌≡◌, ◌||◌};
 ghost use Rattle.state.specs.declared.Occasion.TheVariants.{Synced};
 ghost use Rattle.rules_dictionary.specs.Table.{receive_pdos};
 ghost use Rattle.rules_services.specs.Effects.{on};
@@ -20,7 +19,8 @@ use state::Occasion;
 // The emergency code of a SYNC with data.
 const SYNC_LENGTH: u16 = 0x8240;
 
-// The held frame of receive PDO p, if any, applied, and held no more.
+// The held frame of receive PDO p, if any, applied, and held no more. No data is spelled out: that its bytes are zeros,
+// and not those of the frame, is what `release` promises of what it leaves.
 fn release(state: &mut [u8], d: &mut [u8], output: &mut [u8], p: usize) -> Done
     requires { Serves frame_size p state.old d.old output.old }
     ensures { LeavesIn (release p) (release_rests p) state.old d.old output.old
@@ -35,15 +35,7 @@ fn release(state: &mut [u8], d: &mut [u8], output: &mut [u8], p: usize) -> Done
         bytes: [0; 8],
     };
     put_held(state, p, none);
-    let bytes = frame.bytes;
-    apply(state, p, d, output, bytes)
-}
-
-// One or the other.
-fn either(a: bool, b: bool) -> bool
-    ensures { result ≡ («a» || «b») }
-{
-    a || b
+    apply(state, p, d, output, frame.bytes)
 }
 
 // Every held frame released, in rising order: what is left to release from p on is what was at the start, less what is done.
@@ -54,19 +46,16 @@ fn release_all(state: &mut [u8], d: &mut [u8], output: &mut [u8]) -> Done
 {
     let mut frames: usize = 0;
     let mut touched = false;
-    let mut p: usize = 0;
-    while p < places::EACH_WAY {
+    for p in 0..places::EACH_WAY {
         let done = release(state, d, &mut output[FRAME_LENGTH * frames..], p);
         frames += done.frames;
-        touched = either(touched, done.touched);
-        p += 1;
+        touched |= done.touched;
     }
     Done {
-        frames: frames,
-        touched: touched,
-        remapped: false,
+        frames,
+        touched,
         occasion: Occasion::Synced,
-        quiet: false,
+        ..nothing_done(false)
     }
 }
 
@@ -76,8 +65,7 @@ pub fn sync(state: &mut [u8], d: &mut [u8], output: &mut [u8], length: u8) -> Do
     ensures { LeavesIn (sync_of length) (sync_rests length) state.old d.old output.old
         result state.new d.new output.new }
 {
-    let node = read_node(state);
-    let nmt = node.nmt;
+    let nmt = read_node(state).nmt;
     if nmt.is_stopped() {
         return nothing_done(true);
     }

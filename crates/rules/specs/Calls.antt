@@ -1,7 +1,7 @@
 -- Document 01, 'Calls and refusals': power-up, one frame, or one event, and with ticket 6 the load of a file; the refusals, lowest number first; the
 -- answer.
 -- Assumes nothing.
-use Rattle.std.specs.Prelude.{ℕ, ◌+◌, ◌*◌, List, [], ◌∷◌, Bool, true, false, cond, not, ◌&&◌, eqb, leb, length}
+use Rattle.std.specs.Prelude.{ℕ, ◌+◌, ◌*◌, List, [], ◌∷◌, Bool, true, false, cond, not, ◌&&◌, eqb, leb, length, Option, Some, None}
 use Rattle.state.specs.declared.State.{State}
 use Rattle.state.specs.declared.Refusal.{Refusal}
 use Rattle.state.specs.declared.Refusal.TheVariants.{Accepted, DictionaryLength, OutputLength, NodeId, NotSound, BadFrame, BadEvent, OutOfPlace}
@@ -15,8 +15,7 @@ use Rattle.rules_services.specs.Sdo.{request_base, request_length}
 use Rattle.rules_services.specs.SdoServer.{sdo}
 use Rattle.rules_services.specs.PdoTraffic.{sync, sync_base, received_by}
 use Rattle.rules_services.specs.Nmt.{nmt, nmt_identifier, power_up}
-use Rattle.rules_services.specs.declared.Told.{Told}
-use Rattle.rules_services.specs.declared.Told.TheVariants.{Happened, Bad}
+use Rattle.rules_services.specs.declared.Event.{Event}
 use Rattle.rules_services.specs.Events.{event_of, is_in_place, happens}
 use Rattle.rules_services.specs.Load.{may_load, names_control_word, Loaded, loads, fails, load_all, Named, nothing_named, named_by}
 use Rattle.rules.specs.Outcome.{End, ended, sent_into, most_data, frame_size, most_frames}
@@ -76,9 +75,9 @@ pub data Decision : Type 0 where
   refuses : Refusal → Decision
   does : Effect → Decision
 
-unfoldable pub event_decision : Told → State → List ℕ → Decision
-event_decision Bad s d = refuses BadEvent
-event_decision (Happened e) s d = elim (is_in_place e s) [ true ↦ does (happens e s d) | false ↦ refuses OutOfPlace ]
+unfoldable pub event_decision : Option Event → State → List ℕ → Decision
+event_decision None s d = refuses BadEvent
+event_decision (Some e) s d = elim (is_in_place e s) [ true ↦ does (happens e s d) | false ↦ refuses OutOfPlace ]
 
 -- ---- a load
 

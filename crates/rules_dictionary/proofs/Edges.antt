@@ -119,7 +119,8 @@ entry_choice = refl
 wide : List ℕ
 wide =
     stored
-    (write (map_entry 4 1) (mapping_word position) ∷ write (map_entry 4 2) (mapping_word velocity) ∷ write (map_entry 4 3) (mapping_word mode_display) ∷ [])
+    (write (map_entry 4 1) (mapping_word position) ∷ write (map_entry 4 2) (mapping_word velocity)
+    ∷ write (map_entry 4 3) (mapping_word mode_display) ∷ [])
     fresh
 
 count_choice : map (value_verdict wide (map_count 4)) (0 ∷ 2 ∷ 3 ∷ 4 ∷ 8 ∷ 9 ∷ [])

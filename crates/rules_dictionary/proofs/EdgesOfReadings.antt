@@ -137,7 +137,9 @@ who_transmits : map transmits (receive ∷ transmit ∷ []) ≡ false ∷ true �
 who_transmits = refl
 
 -- "index, subindex, bit length"
-word_parts : word_index 0xFEDCBA98 ∷ word_subindex 0xFEDCBA98 ∷ word_length 0xFEDCBA98 ∷ mapping_word maximum_position ∷ mapping_word error_register ∷ []
+word_parts :
+    word_index 0xFEDCBA98 ∷ word_subindex 0xFEDCBA98 ∷ word_length 0xFEDCBA98 ∷ mapping_word maximum_position
+    ∷ mapping_word error_register ∷ []
     ≡ 0xFEDC ∷ 0xBA ∷ 0x98 ∷ 0x607D0220 ∷ 0x10010008 ∷ []
 word_parts = refl
 

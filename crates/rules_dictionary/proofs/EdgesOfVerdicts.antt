@@ -15,7 +15,8 @@ use Rattle.rules_dictionary.specs.Table.{error_register, heartbeat_time, error_c
 use Rattle.rules_dictionary.specs.Table.{position_window, velocity, velocity_window, velocity_threshold, target_position, minimum_position}
 use Rattle.rules_dictionary.specs.Table.{maximum_position, profile_velocity, profile_acceleration, profile_deceleration, target_velocity, pdos}
 use Rattle.rules_dictionary.specs.Table.{transmission_type, map_count, map_entry, window_time}
-use Rattle.rules_dictionary.specs.Aborts.{abort_code, unknown_command, wrong_toggle, no_object, no_subindex, no_writing, too_long, too_short, wrong_time}
+use Rattle.rules_dictionary.specs.Aborts.{abort_code, unknown_command, wrong_toggle, no_object, no_subindex, no_writing, too_long}
+use Rattle.rules_dictionary.specs.Aborts.{too_short, wrong_time}
 use Rattle.rules_dictionary.specs.Aborts.{below_range, above_range, bad_value, limits_swapped, not_mappable, over_length, Verdict, good, bad}
 use Rattle.rules_dictionary.specs.Aborts.{is_good, test, first_firing}
 use Rattle.rules_dictionary.specs.Legal.{is_below, is_above, value_verdict}

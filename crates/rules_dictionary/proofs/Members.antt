@@ -120,7 +120,9 @@ mappings {p} {x} i j = go (in_append receive_pdos i)
         (in_right (node_rows ++ flat_map communication_rows receive_pdos) (in_flat_map mapping_rows j r))))
     go (inr t) =
         in_left drive_rows
-        (in_right (node_rows ++ flat_map communication_rows receive_pdos ++ flat_map mapping_rows receive_pdos ++ flat_map communication_rows transmit_pdos)
+        (in_right
+        (node_rows ++ flat_map communication_rows receive_pdos ++ flat_map mapping_rows receive_pdos
+        ++ flat_map communication_rows transmit_pdos)
         (in_flat_map mapping_rows j t))
 
 pub communication_in : {p : ℕ} → In p pdos → In (communication_count p) table

@@ -103,7 +103,9 @@ below f (suc n) i h l = go (ℕ_discrete i n) (λ k. below f n i (and_right (f n
 
 -- a test of every node-ID
 pub on_nodes : (f : ℕ → Bool) → all_below (λ k. f (suc k)) last_node ≡ true → (n : ℕ) → is_node_id n ≡ true → f n ≡ true
-on_nodes f h n p = go n (leb-true _ _ (and_left (leb first_node n) (leb n last_node) p)) (leb-true _ _ (and_right (leb first_node n) (leb n last_node) p))
+on_nodes f h n p =
+    go n (leb-true _ _ (and_left (leb first_node n) (leb n last_node) p))
+    (leb-true _ _ (and_right (leb first_node n) (leb n last_node) p))
   where
     go : (k : ℕ) → first_node ≤ k → k ≤ last_node → f k ≡ true
     go zero a b = absurd (omega arith)

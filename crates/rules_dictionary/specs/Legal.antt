@@ -13,8 +13,8 @@ use Rattle.rules_dictionary.specs.Table.{Row, Mappable, unmappable, to_receive, 
 use Rattle.rules_dictionary.specs.Table.{identifier, map_entry, map_slots, words_place, word_index, word_subindex, word_length, size_of, Found, found}
 use Rattle.rules_dictionary.specs.Table.{the_name, no_object as missing, no_subindex as missing_subindex, lookup, minimum_position, maximum_position}
 use Rattle.rules_dictionary.specs.Values.{read, unpacked}
-use Rattle.rules_dictionary.specs.Aborts.{Verdict, good, bad, is_good, test, first_firing, no_object, no_subindex, below_range, above_range, bad_value}
-use Rattle.rules_dictionary.specs.Aborts.{limits_swapped, not_mappable, over_length}
+use Rattle.rules_dictionary.specs.Aborts.{Verdict, good, bad, is_good, test, first_firing, no_object, no_subindex}
+use Rattle.rules_dictionary.specs.Aborts.{below_range, above_range, bad_value, limits_swapped, not_mappable, over_length}
 
 -- ---- modes: "Mode must be 0, 1 or 3"
 
@@ -208,5 +208,6 @@ may_hold d x v = is_good (value_verdict d x v)
 
 -- opens every definition of this module, where a proof computes
 unfoldable pub open_legal : Unit {0}
-unfolding identifiers clashes bad_identifier swaps_limits target_verdict entry_verdict map_words count_verdict other_bad_value mapping_verdict value_verdict
+unfolding identifiers clashes bad_identifier swaps_limits target_verdict entry_verdict map_words count_verdict
+    other_bad_value mapping_verdict value_verdict
 open_legal = tt

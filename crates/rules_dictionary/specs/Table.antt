@@ -291,7 +291,9 @@ map_count p = obeying (MappingCount p) (ranging (up_to most_moves) (row (mapping
 
 -- entry 1 to 8
 abbrev pub map_entry : ℕ → ℕ → Row
-map_entry p k = obeying (MappingEntry p) (row (mapping_index p) k u32 Writable unmappable (fixed (get_or (map mapping_word (default_map p)) (k - 1) 0)))
+map_entry p k =
+    obeying (MappingEntry p)
+    (row (mapping_index p) k u32 Writable unmappable (fixed (get_or (map mapping_word (default_map p)) (k - 1) 0)))
 
 abbrev pub map_slots : List ℕ
 map_slots = 1 ∷ 2 ∷ 3 ∷ 4 ∷ 5 ∷ 6 ∷ 7 ∷ 8 ∷ []
@@ -407,6 +409,6 @@ lookup i s = cond (eqb i name_index) (cond (eqb s name_subindex) the_name no_sub
 
 -- opens every definition of this module, where a proof computes
 unfoldable pub open_table : Unit {0}
-unfolding communication_rows mapping_rows table entries bytes_before place_of dictionary_length communication_length mapping_length is_reset search row_of
-    lookup
+unfolding communication_rows mapping_rows table entries bytes_before place_of dictionary_length communication_length
+    mapping_length is_reset search row_of lookup
 open_table = tt

@@ -6,6 +6,7 @@ use mathlib.Core.Path.{◌≡◌, refl}
 use mathlib.Core.Bool.{Bool, true, false}
 use mathlib.Core.List.{List, [], ◌∷◌, ◌++◌, map}
 use lib.ListN.{length}
+use Rattle.std.specs.Prelude.{Some, None}
 use Rattle.state.specs.declared.NmtState.{NmtState}
 use Rattle.state.specs.declared.NmtState.TheVariants.{PreOperational, Operational, Stopped}
 use Rattle.drive.specs.declared.DriveState.{DriveState}
@@ -18,15 +19,14 @@ use Rattle.rules_dictionary.specs.Numbers.{bytes, value, part}
 use Rattle.rules_dictionary.specs.Table.{error_register, error_code, control_word, heartbeat_time, target_position, position, velocity}
 use Rattle.rules_dictionary.specs.Table.{transmission_type, map_entry, map_count, mapping_word, identifier}
 use Rattle.rules_dictionary.specs.Values.{write, store, stored, read}
-use Rattle.rules_dictionary.specs.Aborts.{abort_code, unknown_command, no_object, no_subindex, no_writing, too_long, too_short, wrong_time, below_range}
-use Rattle.rules_dictionary.specs.Aborts.{above_range, bad_value}
+use Rattle.rules_dictionary.specs.Aborts.{abort_code, unknown_command, no_object, no_subindex, no_writing, too_long, too_short, wrong_time}
+use Rattle.rules_dictionary.specs.Aborts.{below_range, above_range, bad_value}
 use Rattle.drive.specs.SetPoints.{with_cause}
 use Rattle.rules_services.specs.Effects.{Effect, Frame, frame, becomes, with_drive, with_heartbeat, with_held}
 use Rattle.rules_services.specs.Emergency.{emergency}
 use Rattle.rules_services.specs.SdoServer.{sdo}
 use Rattle.rules_services.specs.PdoTraffic.{received, sync, paced, pace_of, works, no_data}
 use Rattle.rules_services.specs.Nmt.{nmt, tick}
-use Rattle.rules_services.specs.declared.Told.TheVariants.{Happened, Bad}
 use Rattle.rules_services.specs.declared.Event.TheVariants.{Fault, Voltage, Started, QuickStopDone, ReactionDone, SetPointReached, CauseGone}
 use Rattle.rules_services.specs.declared.Event.TheVariants.{Feedback, Tick}
 use Rattle.rules_services.specs.Events.{event_of, is_in_place, happens}
@@ -245,17 +245,18 @@ unfolding open_edges
 emergencies = (refl, refl)
 
 -- "event number unknown, wrong argument size, voltage flag not 0/1, fault code 0"
-events_told : (map (λ k. event_of k []) (0 ∷ 10 ∷ 3 ∷ []) ≡ Bad ∷ Bad ∷ Bad ∷ [])
-    × (event_of 1 (0 ∷ []) ≡ Bad) × (event_of 9 (0 ∷ []) ≡ Happened (Voltage false)) × (event_of 9 (1 ∷ []) ≡ Happened (Voltage true))
-    × (event_of 9 (2 ∷ []) ≡ Bad)
-    × (event_of 3 (0 ∷ 0 ∷ 1 ∷ []) ≡ Bad) × (event_of 3 (0 ∷ 1 ∷ 2 ∷ []) ≡ Happened (Fault 256 2))
+events_told : (map (λ k. event_of k []) (0 ∷ 10 ∷ 3 ∷ []) ≡ None ∷ None ∷ None ∷ [])
+    × (event_of 1 (0 ∷ []) ≡ None) × (event_of 9 (0 ∷ []) ≡ Some (Voltage false)) × (event_of 9 (1 ∷ []) ≡ Some (Voltage true))
+    × (event_of 9 (2 ∷ []) ≡ None)
+    × (event_of 3 (0 ∷ 0 ∷ 1 ∷ []) ≡ None) × (event_of 3 (0 ∷ 1 ∷ 2 ∷ []) ≡ Some (Fault 256 2))
 unfolding open_edges
 events_told = (refl, refl, refl, refl, refl, refl, refl)
 
 -- each in its place alone
 places : (map (λ s. is_in_place Started (node Operational s)) (NotReady ∷ SwitchOnDisabled ∷ []) ≡ true ∷ false ∷ [])
     × (map (λ s. is_in_place ReactionDone (node Operational s)) (FaultReactionActive ∷ InFault ∷ []) ≡ true ∷ false ∷ [])
-    × (is_in_place QuickStopDone operational ≡ false) × (is_in_place CauseGone operational ≡ false) × (is_in_place SetPointReached operational ≡ false)
+    × (is_in_place QuickStopDone operational ≡ false) × (is_in_place CauseGone operational ≡ false)
+    × (is_in_place SetPointReached operational ≡ false)
 unfolding open_edges
 places = (refl, refl, refl, refl, refl)
 

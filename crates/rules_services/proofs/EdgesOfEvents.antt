@@ -4,6 +4,7 @@ use Prim.Native.Nat.{ℕ}
 use mathlib.Core.Path.{◌≡◌, refl}
 use mathlib.Core.Bool.{Bool, true, false}
 use mathlib.Core.List.{List, [], ◌∷◌, map}
+use Rattle.std.specs.Prelude.{Some, None}
 use Rattle.state.specs.declared.NmtState.TheVariants.{PreOperational, Operational, Stopped}
 use Rattle.state.specs.declared.State.{State}
 use Rattle.state.specs.declared.Occasion.TheVariants.{Ticked}
@@ -18,7 +19,6 @@ use Rattle.drive.specs.declared.Store.TheVariants.{Empty, Rested, Moving, Queued
 use Rattle.rules_dictionary.specs.Table.{error_register, error_code, position, velocity, heartbeat_time}
 use Rattle.rules_dictionary.specs.Values.{store}
 use Rattle.drive.specs.SetPoints.{with_stay}
-use Rattle.rules_services.specs.declared.Told.TheVariants.{Happened, Bad}
 use Rattle.rules_services.specs.declared.Event.{Event}
 use Rattle.rules_services.specs.declared.Event.TheVariants.{Started, QuickStopDone, Fault, ReactionDone, Feedback, SetPointReached, Tick}
 use Rattle.rules_services.specs.declared.Event.TheVariants.{CauseGone, Voltage}
@@ -30,32 +30,32 @@ use Rattle.rules_services.proofs.Node5.{fresh, node, operational, after, eight, 
 
 -- "1 started; 2 quick stop done; 4 reaction done; 6 set-point reached; 7 tick; 8 cause gone": with no byte; no 0, 10, 255
 bare_events : map (λ k. event_of k []) (1 ∷ 2 ∷ 4 ∷ 6 ∷ 7 ∷ 8 ∷ 0 ∷ 3 ∷ 5 ∷ 9 ∷ 10 ∷ 11 ∷ 255 ∷ [])
-    ≡ Happened Started
-    ∷ Happened QuickStopDone
-    ∷ Happened ReactionDone
-    ∷ Happened SetPointReached
-    ∷ Happened Tick
-    ∷ Happened CauseGone
-    ∷ Bad
-    ∷ Bad
-    ∷ Bad
-    ∷ Bad
-    ∷ Bad
-    ∷ Bad
-    ∷ Bad
+    ≡ Some Started
+    ∷ Some QuickStopDone
+    ∷ Some ReactionDone
+    ∷ Some SetPointReached
+    ∷ Some Tick
+    ∷ Some CauseGone
+    ∷ None
+    ∷ None
+    ∷ None
+    ∷ None
+    ∷ None
+    ∷ None
+    ∷ None
     ∷ []
 unfolding open_edges
 bare_events = refl
 
 -- of one byte, 9 alone
 one_byte_events : map (λ k. event_of k (0x01 ∷ [])) (0 ∷ 1 ∷ 2 ∷ 3 ∷ 4 ∷ 5 ∷ 6 ∷ 7 ∷ 8 ∷ 9 ∷ 10 ∷ [])
-    ≡ Bad ∷ Bad ∷ Bad ∷ Bad ∷ Bad ∷ Bad ∷ Bad ∷ Bad ∷ Bad ∷ Happened (Voltage true) ∷ Bad ∷ []
+    ≡ None ∷ None ∷ None ∷ None ∷ None ∷ None ∷ None ∷ None ∷ None ∷ Some (Voltage true) ∷ None ∷ []
 unfolding open_edges
 one_byte_events = refl
 
 -- of eight bytes, 5 alone
 eight_byte_events : map (λ k. event_of k (eight 0x01 0x00 0x00 0x00 0x02 0x00 0x00 0x00)) (0 ∷ 1 ∷ 2 ∷ 3 ∷ 4 ∷ 5 ∷ 6 ∷ 7 ∷ 8 ∷ 9 ∷ 10 ∷ [])
-    ≡ Bad ∷ Bad ∷ Bad ∷ Bad ∷ Bad ∷ Happened (Feedback 1 2) ∷ Bad ∷ Bad ∷ Bad ∷ Bad ∷ Bad ∷ []
+    ≡ None ∷ None ∷ None ∷ None ∷ None ∷ Some (Feedback 1 2) ∷ None ∷ None ∷ None ∷ None ∷ None ∷ []
 unfolding open_edges
 eight_byte_events = refl
 
@@ -63,7 +63,7 @@ eight_byte_events = refl
 fault_bytes : map (event_of 3)
     ((0x10 ∷ 0x23 ∷ 0x02 ∷ []) ∷ (0x01 ∷ 0x00 ∷ 0xFF ∷ []) ∷ (0x00 ∷ 0x01 ∷ 0x00 ∷ []) ∷ (0x00 ∷ 0x00 ∷ 0x02 ∷ []) ∷ (0x10 ∷ 0x23 ∷ [])
     ∷ (0x10 ∷ 0x23 ∷ 0x02 ∷ 0x00 ∷ []) ∷ [])
-    ≡ Happened (Fault 0x2310 0x02) ∷ Happened (Fault 0x0001 0xFF) ∷ Happened (Fault 0x0100 0x00) ∷ Bad ∷ Bad ∷ Bad ∷ []
+    ≡ Some (Fault 0x2310 0x02) ∷ Some (Fault 0x0001 0xFF) ∷ Some (Fault 0x0100 0x00) ∷ None ∷ None ∷ None ∷ []
 unfolding open_edges
 fault_bytes = refl
 
@@ -72,13 +72,13 @@ feedback_bytes : map (event_of 5)
     (eight 0xFE 0xFF 0xFF 0xFF 0x70 0x11 0x01 0x00 ∷ eight 0x01 0x02 0x03 0x04 0x05 0x06 0x07 0x88
     ∷ (0xFE ∷ 0xFF ∷ 0xFF ∷ 0xFF ∷ 0x70 ∷ 0x11 ∷ 0x01 ∷ [])
     ∷ (0xFE ∷ 0xFF ∷ 0xFF ∷ 0xFF ∷ 0x70 ∷ 0x11 ∷ 0x01 ∷ 0x00 ∷ 0x00 ∷ []) ∷ (0xFE ∷ 0xFF ∷ 0xFF ∷ 0xFF ∷ []) ∷ [])
-    ≡ Happened (Feedback 0xFFFFFFFE 0x00011170) ∷ Happened (Feedback 0x04030201 0x88070605) ∷ Bad ∷ Bad ∷ Bad ∷ []
+    ≡ Some (Feedback 0xFFFFFFFE 0x00011170) ∷ Some (Feedback 0x04030201 0x88070605) ∷ None ∷ None ∷ None ∷ []
 unfolding open_edges
 feedback_bytes = refl
 
 -- "9 voltage flag u8": 0 and 1, not 2 or 255, of one byte
 voltage_bytes : map (event_of 9) ((0x00 ∷ []) ∷ (0x01 ∷ []) ∷ (0x02 ∷ []) ∷ (0xFF ∷ []) ∷ [] ∷ (0x01 ∷ 0x00 ∷ []) ∷ [])
-    ≡ Happened (Voltage false) ∷ Happened (Voltage true) ∷ Bad ∷ Bad ∷ Bad ∷ Bad ∷ []
+    ≡ Some (Voltage false) ∷ Some (Voltage true) ∷ None ∷ None ∷ None ∷ None ∷ []
 unfolding open_edges
 voltage_bytes = refl
 
@@ -137,14 +137,16 @@ store_bound = refl
 states_led_to : (happens Started (node PreOperational NotReady) fresh ≡ becomes (node PreOperational SwitchOnDisabled))
     × (happens QuickStopDone (node Operational QuickStopActive) fresh ≡ becomes (node Operational SwitchOnDisabled))
     × (happens ReactionDone (with_drive (driven FaultReactionActive true) operational) fresh ≡ becomes (with_drive (driven InFault true) operational))
-    × (happens ReactionDone (with_drive (driven FaultReactionActive false) operational) fresh ≡ becomes (with_drive (driven InFault false) operational))
+    × (happens ReactionDone (with_drive (driven FaultReactionActive false) operational) fresh
+    ≡ becomes (with_drive (driven InFault false) operational))
 unfolding open_edges
 states_led_to = (refl, refl, refl, refl)
 
 -- "Event 6 moves on, or to Rested": both marks stay
 moves_on : (happens SetPointReached (with_drive (moving (Queued (point 1000) (point 2000))) operational) fresh
     ≡ becomes (with_drive (moving (Moving (point 2000))) operational))
-    × (happens SetPointReached (with_drive (moving (Moving (point 2000))) operational) fresh ≡ becomes (with_drive (moving (Rested 2000)) operational))
+    × (happens SetPointReached (with_drive (moving (Moving (point 2000))) operational) fresh
+    ≡ becomes (with_drive (moving (Rested 2000)) operational))
 unfolding open_edges
 moves_on = (refl, refl)
 

@@ -124,7 +124,8 @@ moving s taken =
 -- from Switched on in mode 0, one frame: mode 1, then 1Fh enables and takes the 1000 of the same frame, wherever 607Ah stands
 one_frame : ((received 0 (0xE8 ∷ 0x03 ∷ 0x00 ∷ 0x00 ∷ 0x01 ∷ 0x1F ∷ 0x00 ∷ []) (node Operational SwitchedOn) forth).state
     ≡ moving (Moving (point 1000)) true)
-    × ((received 0 (0x1F ∷ 0x00 ∷ 0x01 ∷ 0xE8 ∷ 0x03 ∷ 0x00 ∷ 0x00 ∷ []) (node Operational SwitchedOn) back).state ≡ moving (Moving (point 1000)) true)
+    × ((received 0 (0x1F ∷ 0x00 ∷ 0x01 ∷ 0xE8 ∷ 0x03 ∷ 0x00 ∷ 0x00 ∷ []) (node Operational SwitchedOn) back).state
+    ≡ moving (Moving (point 1000)) true)
     × (map (after forth (received 0 (0xE8 ∷ 0x03 ∷ 0x00 ∷ 0x00 ∷ 0x01 ∷ 0x1F ∷ 0x00 ∷ []) (node Operational SwitchedOn) forth))
     (target_position ∷ mode ∷ control_word ∷ []) ≡ 1000 ∷ 1 ∷ 0x1F ∷ [])
 unfolding forth back open_edges
@@ -275,7 +276,8 @@ edge_between = (refl, refl)
 counted_anew_at_sync :
     ((sync [] (with_held (held2 0x1F ∷ none ∷ held6 0x0F 9 ∷ none ∷ []) (counting (Rested 8) false)) (store target_position 8 (typed 0))).state
     ≡ moving (Moving (point 8)) false)
-    × ((sync [] (with_held (held2 0x0F ∷ none ∷ held6 0x1F 9 ∷ none ∷ []) (counting (Moving (point 8)) true)) (store control_word 0x1F (typed 0))).state
+    × ((sync [] (with_held (held2 0x0F ∷ none ∷ held6 0x1F 9 ∷ none ∷ []) (counting (Moving (point 8)) true))
+    (store control_word 0x1F (typed 0))).state
     ≡ counting (Queued (point 8) (point 9)) true)
 unfolding typed open_edges
 counted_anew_at_sync = (refl, refl)
@@ -286,7 +288,8 @@ one_byte = stored (write (map_count 0) 1 ∷ write (map_entry 0 1) 0x60600008 �
 
 one_byte_held : ((received 0 (0x03 ∷ []) operational one_byte).state
     ≡ with_held (record { length = 1; bytes = eight 0x03 0x00 0x00 0x00 0x00 0x00 0x00 0x00 } ∷ none ∷ none ∷ none ∷ []) operational)
-    × (sync [] (with_held (record { length = 1; bytes = eight 0x03 0x00 0x00 0x00 0x00 0x00 0x00 0x00 } ∷ none ∷ none ∷ none ∷ []) operational) one_byte
+    × (sync [] (with_held (record { length = 1; bytes = eight 0x03 0x00 0x00 0x00 0x00 0x00 0x00 0x00 } ∷ none ∷ none ∷ none ∷ [])
+    operational) one_byte
     ≡ record {
       state = with_drive (with_mode ProfileVelocity operational.axis.drive) operational;
       writes = write mode 3 ∷ [];

@@ -1,6 +1,6 @@
 -- Document 01, 'NMT, emergency, time': the events 1 to 9, where each is in place, and what it does.
 -- Assumes nothing.
-use Rattle.std.specs.Prelude.{ℕ, List, [], ◌∷◌, Bool, true, false, cond, not, ◌&&◌, eqb, leb, get_or, length}
+use Rattle.std.specs.Prelude.{ℕ, List, [], ◌∷◌, Bool, true, false, cond, not, ◌&&◌, eqb, leb, get_or, length, Option, Some, None}
 use Rattle.std.specs.Int.Bits.{bit_or}
 use Rattle.drive.specs.declared.DriveState.TheVariants.{SwitchOnDisabled, FaultReactionActive, Fault as InFault}
 use Rattle.state.specs.declared.State.{State}
@@ -8,8 +8,6 @@ use Rattle.state.specs.declared.Occasion.TheVariants.{Ticked}
 use Rattle.rules_services.specs.declared.Event.{Event}
 use Rattle.rules_services.specs.declared.Event.TheVariants.{Started, QuickStopDone, Fault, ReactionDone, Feedback, SetPointReached, Tick}
 use Rattle.rules_services.specs.declared.Event.TheVariants.{CauseGone, Voltage}
-use Rattle.rules_services.specs.declared.Told.{Told}
-use Rattle.rules_services.specs.declared.Told.TheVariants.{Happened, Bad}
 use Rattle.rules_dictionary.specs.Numbers.{value, part}
 use Rattle.rules_dictionary.specs.Table.{error_code, error_register, position, velocity}
 use Rattle.rules_dictionary.specs.Values.{write, read, stored}
@@ -20,14 +18,14 @@ use Rattle.rules_services.specs.Emergency.{emergency}
 use Rattle.rules_services.specs.Nmt.{tick as ticked}
 
 -- the event, where it was told well
-abbrev pub provided : Bool → Event → Told
-provided true e = Happened e
-provided false e = Bad
+abbrev pub provided : Bool → Event → Option Event
+provided true e = Some e
+provided false e = None
 
 -- by number and arguments: "1 started; 2 quick stop done; 3 fault, code u16, register u8; 4 reaction done; 5 feedback, position and
--- velocity i32; 6 set-point reached; 7 tick of 1 ms; 8 cause gone; 9 voltage flag u8". Bad: "event number unknown, wrong
+-- velocity i32; 6 set-point reached; 7 tick of 1 ms; 8 cause gone; 9 voltage flag u8". None: "event number unknown, wrong
 -- argument size, voltage flag not 0/1, fault code 0"
-unfoldable pub event_of : ℕ → List ℕ → Told
+unfoldable pub event_of : ℕ → List ℕ → Option Event
 event_of k xs =
     cond (eqb k 1) (provided (eqb (length xs) 0) Started)
     (cond (eqb k 2) (provided (eqb (length xs) 0) QuickStopDone)
@@ -37,7 +35,7 @@ event_of k xs =
     (cond (eqb k 6) (provided (eqb (length xs) 0) SetPointReached)
     (cond (eqb k 7) (provided (eqb (length xs) 0) Tick)
     (cond (eqb k 8) (provided (eqb (length xs) 0) CauseGone)
-    (cond (eqb k 9) (provided (eqb (length xs) 1 && leb (get_or xs 0 0) 1) (Voltage (eqb (get_or xs 0 0) 1))) Bad))))))))
+    (cond (eqb k 9) (provided (eqb (length xs) 1 && leb (get_or xs 0 0) 1) (Voltage (eqb (get_or xs 0 0) 1))) None))))))))
 
 -- "1 (only Not ready); 2 (only Quick stop active); 4 (only Fault reaction); 6 (only Moving, Queued); 8 (only with a cause)"
 unfoldable pub is_in_place : Event → State → Bool

@@ -133,5 +133,6 @@ transmitted d p f = frame (frame_identifier (read d (identifier p))) (take f.len
 
 -- opens every definition of this module, where a proof computes
 unfoldable pub open_pdo_traffic : Unit {0}
-unfolding works mapped_length are_legal held_or_applied received listens received_by release release_all sync cyclic acyclic event_driven pace_of transmitted
+unfolding works mapped_length are_legal held_or_applied received listens received_by release
+    release_all sync cyclic acyclic event_driven pace_of transmitted
 open_pdo_traffic = tt

@@ -6,7 +6,7 @@
 
 use state::Pace;
 
-// What a request of the SDO client asks.
+// What a request of the SDO client asks. `Unknown` stays a variant: the definitions `command_of` and `asked` are about this type.
 #[derive(Clone, Copy)]
 pub enum SdoCommand {
     Download,
@@ -37,11 +37,4 @@ pub enum Event {
     Tick,
     CauseGone,
     Voltage(bool),
-}
-
-// What an event call tells: an event, or none that there is.
-#[derive(Clone, Copy)]
-pub enum Told {
-    Happened(Event),
-    Bad,
 }

@@ -1,11 +1,6 @@
 -- Laws of what is said: eight bytes are the data of a frame, and what is said alone leaves all else but the transfer.
 -- Assumes nothing.
-use Prim.Native.Nat.{ℕ, ◌+◌}
-use native.Mathlib.Omega.{arith}
-use mathlib.Core.Path.{◌≡◌, refl, sym, ◌∙◌, ap, subst}
-use mathlib.Core.List.{List, [], ◌∷◌}
-use lib.ListN.{length}
-use lib.Seq.{take_all}
+use Rattle.std.proofs.Common.{◌≡◌, ℕ, ◌+◌, List, [], ◌∷◌, length, sym, refl, ap, ◌∙◌, subst, arith, take_all}
 use Rattle.state.specs.declared.State.{State}
 use Rattle.state.specs.declared.Transfer.{Transfer}
 use Rattle.rules_dictionary.specs.declared.PdoData.{PdoData}

@@ -1,19 +1,17 @@
 -- A download: what is offered, to a row and to its entry; refused it is aborted, and a good value is stored and acted on behind the reply.
 -- Assumes nothing.
-use Prim.Native.Nat.{ℕ, ◌+◌, ◌-◌, ◌^◌, ◌<◌, ◌≤◌}
-use native.Mathlib.Omega.{arith}
-use mathlib.Core.Path.{◌≡◌, refl, sym, ◌∙◌, ap, subst}
-use mathlib.Core.Bool.{Bool, true, false, cond, not, ◌||◌, beq}
-use mathlib.Core.List.{List, [], ◌∷◌, ◌++◌}
-use lib.Dec.{eqb, lit≤}
-use lib.Seq.{sets, take-take}
-use lib.ListN.{length, take, drop}
+use Rattle.std.proofs.Common.{◌≡◌, ℕ, ◌+◌, ◌-◌, ◌^◌, ◌<◌, ◌≤◌, Bool, true, false, cond, not, ◌||◌, eqb, List, [], ◌∷◌, ◌++◌, length, take, drop}
+use Rattle.std.proofs.Common.{Some, None, Ok, Err, Result, unwrap_or, sym, refl, ap, ◌∙◌, subst, arith, lit≤, take-take}
+use mathlib.Core.Bool.{beq}
+use Rattle.std.specs.Prelude.{⊤}
+use lib.Seq.{sets}
 use Rattle.state.specs.declared.State.{State}
 use Rattle.state.specs.declared.NmtState.{NmtState}
 use Rattle.state.specs.declared.Transfer.TheVariants.{NoTransfer}
-use Rattle.rules_dictionary.specs.Numbers.{all, value, bytes}
+use Rattle.rules_dictionary.specs.Numbers.{all, bit, value, bytes}
 use Rattle.rules_dictionary.specs.Table.{ValueType, u8, u16, u32, i8, i32, size, size_of}
-use Rattle.rules_dictionary.specs.Table.{Row, table, dictionary_length, place_of, is_writable, transmit, mode, control_word, heartbeat_time, open_table}
+use Rattle.rules_dictionary.specs.Table.{Row, table, dictionary_length, place_of, is_writable, transmit}
+use Rattle.rules_dictionary.specs.Table.{mode, control_word, heartbeat_time, open_table}
 use Rattle.rules_dictionary.specs.Values.{write, read, store, stored}
 use Rattle.rules_dictionary.specs.Legal.{suits, value_verdict}
 use Rattle.rules_dictionary.specs.Members.{In}
@@ -21,6 +19,7 @@ use Rattle.rules_dictionary.specs.Aborts.{Test, Verdict, good, bad, is_good, tes
 use Rattle.rules_dictionary.proofs.Tests.{is_good_lem, all_in}
 use Rattle.rules_services.specs.Effects.{Effect, Frame, becomes, sends, writes, with_drive, without_transfer}
 use Rattle.rules_services.specs.Sdo as sdo
+use Rattle.rules_services.specs.SdoServer.{uploads}
 use Rattle.rules_services.specs.Written.{wrote, applied, count_restarted, fault_reset}
 use Rattle.rules_services.specs.Emergency.{emergency}
 use Rattle.drive.specs.SetPoints.{control_written}
@@ -32,34 +31,67 @@ use Rattle.form.specs.Holding.{Holds, Puts}
 use Rattle.form.proofs.Holding.{held_state}
 use Rattle.dictionary.specs.declared.Entry.{Entry}
 use Rattle.dictionary.specs.declared.Found as dictionary
+use Rattle.dictionary.specs.declared.Missing.{Missing}
+use Rattle.dictionary.specs.declared.Missing.TheVariants.{NoObject, NoSubindex}
 use Rattle.dictionary.specs.Entries.{entry_of, Stands, IsFound}
 use Rattle.output.specs.Laying.{emitted}
 use Rattle.output.proofs.Frames.{emitted_then, lent_back}
 use Rattle.output.specs.declared.Done.{Done}
-use Rattle.output.specs.Leaves.{keeping, is_mapping, Lent, Leaves, LeavesIn, never}
+use Rattle.output.specs.Leaves.{keeping, is_mapping, Lent, Leaves, LeavesIn, ever, never}
 use Rattle.output.proofs.Left.{lent, loud}
 use Rattle.emergency.specs.Acts.{acts, control_acts, mode_acts}
 use Rattle.emergency.proofs.Written.{stored_acted}
 use Rattle.sdo.specs.declared.Brought.{Brought}
 use Rattle.sdo.specs.declared.Offer.{Offer}
-use Rattle.sdo.specs.Verdicts.{verdict_code, role_verdict, value_verdict_of}
+use Rattle.sdo.specs.declared.aborts.Abort as declared
+use Rattle.sdo.specs.Verdicts.{abort_of_missing, code_of, result_of, role_verdict, value_verdict_of}
 use Rattle.sdo.specs.Requests.{saying, said, reply_bytes, brought_by, offering, offered_by, offer_verdict_of}
-use Rattle.sdo.specs.Requests.{download_of, is_written, download_rests}
+use Rattle.sdo.specs.Requests.{upload_of, download_of, is_written, download_rests}
 use Rattle.sdo.specs.Serving.{Speaks, Applies, prepared_for}
-use Rattle.sdo.proofs.Verdicts.{good_code}
+use Rattle.sdo.proofs.Verdicts.{good_result, code_is, error_code}
 
 -- what the look-up of an object's three bytes finds
-pub looked_up : (o : List ℕ) {i : ℕ} {f g : dictionary.Found} → i ≡ sdo.index_in o → IsFound i (sdo.subindex_in o) f → f ≡ g →
+pub looked_up : (o : List ℕ) {i : ℕ} {f g : Result dictionary.Found Missing} → i ≡ sdo.index_in o → IsFound i (sdo.subindex_in o) f → f ≡ g →
     IsFound (sdo.index_in o) (sdo.subindex_in o) g
 looked_up o e h q = subst (IsFound (sdo.index_in o) (sdo.subindex_in o)) q (rw e at h)
+
+-- nothing found: the abort that tells it
+module _ (o bs d : List ℕ) (missing : Missing) (e : IsFound (sdo.index_in o) (sdo.subindex_in o) (Err missing))
+    {why : declared.Abort} (is : why ≡ abort_of_missing missing) {out bs' out' : List ℕ} {r : Done}
+    (h : Speaks (said (reply_bytes sdo.aborted o (code_of why)) NoTransfer) bs out r bs' out') where
+  pub missing_upload : LeavesIn (upload_of o) ever bs d out r bs' d out'
+  unfolding uploads sdo.abort sdo.reply
+  missing_upload = go missing e (rw is at h d)
+    where
+      go : (m : Missing) → IsFound (sdo.index_in o) (sdo.subindex_in o) (Err m) →
+          LeavesIn (λ s d. said (reply_bytes sdo.aborted o (code_of (abort_of_missing m))) NoTransfer s) ever bs d out r bs' d out' →
+          LeavesIn (upload_of o) ever bs d out r bs' d out'
+      go NoObject e h = rw e h
+      go NoSubindex e h = rw e h
+
+  pub missing_download : (content : List ℕ) (b : Brought) →
+      LeavesIn (download_of content o b) (download_rests o (offering b)) bs d out r bs' d out'
+  unfolding sdo.downloads sdo.download sdo.with_reply sdo.abort sdo.reply is_written
+  missing_download content b = go missing e (rw is at h d)
+    where
+      go : (m : Missing) → IsFound (sdo.index_in o) (sdo.subindex_in o) (Err m) →
+          LeavesIn (λ s d. said (reply_bytes sdo.aborted o (code_of (abort_of_missing m))) NoTransfer s) ever bs d out r bs' d out' →
+          LeavesIn (download_of content o b) (download_rests o (offering b)) bs d out r bs' d out'
+      go NoObject e h = rw e h
+      go NoSubindex e h = rw e h
 
 -- ---- what is offered
 
 -- an expedited download offers what the rules say
 offered_at : (rq : List ℕ) (x : Row) → offering (brought_by rq) x ≡ sdo.expedited rq x
 unfolding sdo.told_size sdo.asked_value
-offered_at rq x = rw (take-take (size_of x) sdo.data_size (drop sdo.data_place rq) (small x.type))
+offered_at rq x =
+    rw (counted (bit sdo.size_told_bit (sdo.command_byte rq)) _ _, take-take (size_of x) sdo.data_size (drop sdo.data_place rq) (small x.type))
   where
+    counted : (b : Bool) (n m : ℕ) → unwrap_or (cond b (Some n) None) m ≡ cond b n m
+    counted true n m = refl
+    counted false n m = refl
+
     small : (t : ValueType) → size t ≤ sdo.data_size
     small u8 = lit≤ tt
     small u16 = lit≤ tt
@@ -85,16 +117,18 @@ good_writable true ts v h = refl
 good_writable false ts v h = cc
 
 -- another is an abort, and nothing is left to do
-turned_down : (v : Verdict) (fs : State → List Frame) (t : sdo.Offer) (o bs d : List ℕ) {out bs' out' : List ℕ} {r : Done} → (verdict_code v ≡ 0 → ⊥) →
-    Speaks (said (reply_bytes sdo.aborted o (verdict_code v)) NoTransfer) bs out r bs' out' →
-    LeavesIn (λ s d. sdo.with_reply (fs s) o (without_transfer s) (sdo.judged v t (without_transfer s) d)) (λ s d. not (is_good v)) bs d out r bs' d out'
+turned_down : (v : Verdict) (fs : State → List Frame) (t : sdo.Offer) (o bs d : List ℕ) {out bs' out' : List ℕ} {r : Done} {why : declared.Abort} →
+    result_of v ≡ Err why → Speaks (said (reply_bytes sdo.aborted o (code_of why)) NoTransfer) bs out r bs' out' →
+    LeavesIn (λ s d. sdo.with_reply (fs s) o (without_transfer s) (sdo.judged v t (without_transfer s) d))
+    (λ s d. not (is_good v)) bs d out r bs' d out'
 unfolding sdo.judged sdo.with_reply sdo.abort sdo.reply
-turned_down good fs t o bs d n h = absurd (n refl)
-turned_down (bad a) fs t o bs d n h = h d
+turned_down good fs t o bs d e h = cc
+turned_down (bad a) fs t o bs d e h = rw (sym (ap error_code e) ∙ code_is a) at (h d)
 
--- THE LAWS of a download to an entry, by what its verdict's code tells
+-- THE LAWS of a download to an entry, by what its verdict tells
 module _ (content o bs d : List ℕ) (b : Brought) {e : Entry} (st : Stands (sdo.index_in o) (sdo.subindex_in o) e)
-    {t : Offer} (offered : t ≡ offered_by b e.size) {code : ℕ} (is : code ≡ verdict_code (offer_verdict_of (state_of bs).node.nmt d e t)) where
+    {t : Offer} (offered : t ≡ offered_by b e.size) {given : Result ⊤ declared.Abort}
+    (is : given ≡ result_of (offer_verdict_of (state_of bs).node.nmt d e t)) where
   abbrev s : State
   s = state_of bs
 
@@ -106,17 +140,17 @@ module _ (content o bs d : List ℕ) (b : Brought) {e : Entry} (st : Stands (sdo
       let over : Entry → Verdict = λ y. offer_verdict_of s.node.nmt d y (offered_by b y.size) in
       rw (← offer_of_row b s.node.nmt d st.row, ← ap over st.is_entry, ← offered)
 
-  pub download_refused : {out bs' out' : List ℕ} {r : Done} → (code ≡ 0 → ⊥) →
-      Speaks (said (reply_bytes sdo.aborted o code) NoTransfer) bs out r bs' out' →
+  pub download_refused : {out bs' out' : List ℕ} {r : Done} {why : declared.Abort} → given ≡ Err why →
+      Speaks (said (reply_bytes sdo.aborted o (code_of why)) NoTransfer) bs out r bs' out' →
       LeavesIn (download_of content o b) (download_rests o (offering b)) bs d out r bs' d out'
   unfolding sdo.downloads sdo.download is_written
-  download_refused n h =
+  download_refused e h =
       rw (st.finds, verdict_is)
-      (turned_down verdict (λ s. saying content s.node.id) (offering b st.row) o bs d (λ z. n (is ∙ z)) (rw is at h))
+      (turned_down verdict (λ s. saying content s.node.id) (offering b st.row) o bs d (sym is ∙ e) h)
 
-  module _ (zero : code ≡ 0) where
+  module _ (taken : given ≡ Ok tt) where
     fine : verdict ≡ good
-    fine = is_good_lem verdict (good_code verdict ∙ rw (← is, zero) refl)
+    fine = is_good_lem verdict (good_result verdict ∙ rw (← is, taken) refl)
 
     pub download_writable : is_writable e.access ≡ true
     unfolding offer_verdict_of

@@ -1,14 +1,8 @@
 -- The mapping of a PDO: why a word is refused, and the words within a count, one after another.
 -- Assumes nothing.
-use Prim.Native.Nat.{ℕ, suc, ◌+◌, ◌-◌, ◌*◌, ◌<◌, ◌≤◌}
-use native.Mathlib.Omega.{arith}
-use mathlib.Core.Path.{◌≡◌, refl, sym, ◌∙◌, ap}
-use mathlib.Core.Logic.{◌⊎◌, inl, inr}
-use mathlib.Core.Bool.{Bool, true, false, not, ◌||◌, true≢false}
-use mathlib.Core.List.{List, [], ◌∷◌, map}
-use borrow.Author.Tests.{eq-eqb, ne_eqb, lt-ltb, le-ltb}
-use lib.Dec.{eqb, leb}
-use lib.ListN.{take}
+use Rattle.std.proofs.Common.{◌≡◌, ℕ, suc, ◌+◌, ◌-◌, ◌*◌, ◌<◌, ◌≤◌, min, Bool, true, false, not, ◌||◌, eqb, leb, ◌⊎◌, List, [], ◌∷◌, map, take, Ok}
+use Rattle.std.proofs.Common.{sym, refl, ap, ◌∙◌, inl, inr, true≢false, arith}
+use borrow.Author.Tests.{leb-true, leb-false, eq-eqb, ne_eqb, lt-ltb, le-ltb}
 use lib.Seq.{take-nil}
 use Rattle.rules_dictionary.specs.declared.Move.{Move}
 use Rattle.rules_dictionary.specs.Numbers.{value, part, sum}
@@ -22,19 +16,19 @@ use Rattle.mapping.specs.Slots.{words_from}
 use Rattle.rules_dictionary.proofs.Tests.{or_right, or-none, is_good_lem}
 use Rattle.mapping.proofs.Naming.{verdict}
 use Rattle.mapping.proofs.Legality.{way_of_lem}
-use Rattle.sdo.specs.Verdicts.{verdict_code, unnamed, words_verdict}
+use Rattle.sdo.specs.Verdicts.{result_of, unnamed, words_verdict}
 
 -- ---- a mapping word
 
-pub word_zero : (p w : ℕ) → w ≡ 0 → 0 ≡ verdict_code (entry_verdict p w)
+pub word_zero : (p w : ℕ) → w ≡ 0 → Ok tt ≡ result_of (entry_verdict p w)
 unfolding entry_verdict
 word_zero p w e = rw e
 
 -- a word that names an object is good
-pub word_named : (p w : ℕ) (m : Move) → m ≡ word_move (way_of (leb each_way p)) w → (m.size ≡ 0 → ⊥) → 0 ≡ verdict_code (entry_verdict p w)
+pub word_named : (p w : ℕ) (m : Move) → m ≡ word_move (way_of (leb each_way p)) w → (m.size ≡ 0 → ⊥) → Ok tt ≡ result_of (entry_verdict p w)
 word_named p w m e h =
     let n : names_one (direction_of p) w ≡ true = rw (← way_of_lem p, ← e, ne_eqb m.size 0 h) refl in
-    sym (ap verdict_code (is_good_lem (entry_verdict p w) (verdict p w ∙ or_right (eqb w 0) (names_one (direction_of p) w) n)))
+    sym (ap result_of (is_good_lem (entry_verdict p w) (verdict p w ∙ or_right (eqb w 0) (names_one (direction_of p) w) n)))
 
 target_refused : (way : Direction) (w : ℕ) (f : Found) → is_good (target_verdict way w f) ≡ false → target_verdict way w f ≡ unnamed (presence_of f)
 unfolding target_verdict first_firing
@@ -49,17 +43,17 @@ target_refused way w no_subindex h = refl
 
 -- another is refused by what its index and subindex find
 pub word_refused : (p w : ℕ) (m : Move) → m ≡ word_move (way_of (leb each_way p)) w → m.size ≡ 0 → (w ≡ 0 → ⊥) →
-    verdict_code (unnamed (presence_of (lookup (word_index w) (word_subindex w)))) ≡ verdict_code (entry_verdict p w)
+    result_of (unnamed (presence_of (lookup (word_index w) (word_subindex w)))) ≡ result_of (entry_verdict p w)
 unfolding entry_verdict
 word_refused p w m e h z =
     let n : names_one (direction_of p) w ≡ false = rw (← way_of_lem p, ← e, eq-eqb m.size 0 h) refl in
     go (eqb w 0) (verdict p w ∙ or-none (eqb w 0) (names_one (direction_of p) w) n ∙ ne_eqb w 0 z)
   where
     go : (b : Bool) → is_good (elim b [ true ↦ good | false ↦ target_verdict (direction_of p) w (lookup (word_index w) (word_subindex w)) ]) ≡ false →
-        verdict_code (unnamed (presence_of (lookup (word_index w) (word_subindex w))))
-        ≡ verdict_code (elim b [ true ↦ good | false ↦ target_verdict (direction_of p) w (lookup (word_index w) (word_subindex w)) ])
+        result_of (unnamed (presence_of (lookup (word_index w) (word_subindex w))))
+        ≡ result_of (elim b [ true ↦ good | false ↦ target_verdict (direction_of p) w (lookup (word_index w) (word_subindex w)) ])
     go true h = absurd (true≢false h)
-    go false h = ap verdict_code (sym (target_refused (direction_of p) w (lookup (word_index w) (word_subindex w)) h))
+    go false h = ap result_of (sym (target_refused (direction_of p) w (lookup (word_index w) (word_subindex w)) h))
 
 -- ---- the words within a count
 
@@ -78,13 +72,26 @@ module _ (used w : ℕ) (ws : List ℕ) where
 abbrev pub left : ℕ → ℕ → ℕ → List ℕ → List ℕ
 left n k at d = take (n - k) (words_from (most_moves - k) at d)
 
-pub at_first : (n first : ℕ) (d : List ℕ) → words_verdict 0 (left n 0 first d) ≡ count_verdict (words_from most_moves first d) n
+pub at_first : (n first : ℕ) (d : List ℕ) → words_verdict 0 (left n 0 (first + 0) d) ≡ count_verdict (words_from most_moves first d) n
 unfolding count_verdict words_verdict
 at_first n first d =
     let e : n - 0 ≡ n = omega arith in
     let s = sum (map word_length (take n (words_from most_moves first d))) in
     let f : 0 + s ≡ s = omega arith in
-    rw (e, f)
+    let g : first + 0 ≡ first = omega arith in
+    rw (e, g, f)
+
+-- .. are within both, before the last of them
+pub least_of : (n k : ℕ) {m : ℕ} → m ≡ min n most_moves → k < m → (k < n) × (k < most_moves)
+least_of n k e h = (omega (arith, e, h), omega (arith, e, h))
+
+-- .. and none behind it
+pub none_behind : (n k : ℕ) {m : ℕ} → m ≡ min n most_moves → m ≤ k → (n ≤ k) ⊎ (most_moves ≤ k)
+none_behind n k e h = go (leb n most_moves) refl
+  where
+    go : (b : Bool) → leb n most_moves ≡ b → (n ≤ k) ⊎ (most_moves ≤ k)
+    go true g = inl (omega (arith, e, h, leb-true n most_moves g))
+    go false g = inr (omega (arith, e, h, leb-false n most_moves g))
 
 module _ (used n k at : ℕ) (d : List ℕ) where
   module _ (h : k < n) (g : k < most_moves) where

@@ -1,15 +1,13 @@
 -- Bytes one by one: parts of a request, of a reply and of the device name.
 -- Assumes nothing.
-use Prim.Native.Nat.{ℕ, zero, suc, ◌+◌, ◌-◌, ◌/◌, ◌%◌, ◌<◌, ◌≤◌, min}
-use native.Mathlib.Numerals.{add-one}
-use native.Mathlib.Omega.{arith}
-use mathlib.Core.Path.{◌≡◌, refl, ◌∙◌, ap}
-use mathlib.Core.Bool.{Bool, true, false, cond}
-use mathlib.Core.List.{List, [], ◌∷◌}
-use lib.ListN.{length, get_or, drop, length-take, length-drop}
-use lib.Seq.{take-nil, drop-nil, drop-cons, length-take-le, get_or-take, get_or-drop}
+use Rattle.std.proofs.Common.{◌≡◌, ℕ, zero, suc, ◌+◌, ◌-◌, ◌*◌, ◌/◌, ◌%◌, ◌<◌, ◌≤◌, min, Bool, true, false, cond, not, eqb, List, [], ◌∷◌, length}
+use Rattle.std.proofs.Common.{get_or, take, drop, bit_and, refl, ap, ◌∙◌, add-one, arith, length-drop, drop_of_length-le, length-take, drop-cons}
+use Rattle.std.proofs.Common.{w32}
+use Rattle.std.specs.Int.{to_le_bytes}
+use Rattle.std.proofs.lemmas.Nat.Bits.{and_pow}
+use lib.Seq.{take-nil, drop-nil}
 use Rattle.state.specs.declared.Receipt.{Receipt}
-use Rattle.rules_dictionary.specs.Numbers.{bytes, part, padded}
+use Rattle.rules_dictionary.specs.Numbers.{bit, bytes, part, padded}
 use Rattle.rules_services.specs.Sdo.{request_length, command_byte, object_size, data_size, object_of, data_place}
 use Rattle.rules_services.specs.Segments.{segment_place, segment_size, unused_in, carried, added, gathered}
 use Rattle.sdo.specs.Requests.{reply_bytes}
@@ -26,28 +24,36 @@ module _ (rq : List ℕ) (long : length rq ≡ request_length) where
 
 -- ---- of a reply
 
-pub reply_made : (c v : ℕ) (o : List ℕ) → length o ≡ object_size →
-    c ∷ get_or o 0 0 ∷ get_or o 1 0 ∷ get_or o 2 0 ∷ v % 256 ∷ v / 256 % 256 ∷ v / 256 / 256 % 256 ∷ v / 256 / 256 / 256 % 256 ∷ [] ≡ reply_bytes c o v
+-- the bytes of a value
+le_made : (v : ℕ) → to_le_bytes w32 v ≡ bytes data_size v
 unfolding bytes
-reply_made c v [] l = absurd (omega arith)
-reply_made c v (x ∷ []) l = absurd (omega arith)
-reply_made c v (x ∷ y ∷ []) l = absurd (omega arith)
-reply_made c v (x ∷ y ∷ z ∷ []) l = refl
-reply_made c v (x ∷ y ∷ z ∷ w ∷ o) l = absurd (omega arith)
+le_made v = grind (arith)
+
+pub reply_made : (c v : ℕ) (o vs : List ℕ) → length o ≡ object_size → vs ≡ to_le_bytes w32 v →
+    c ∷ get_or o 0 0 ∷ get_or o 1 0 ∷ get_or o 2 0 ∷ get_or vs 0 0 ∷ get_or vs 1 0 ∷ get_or vs 2 0 ∷ get_or vs 3 0 ∷ [] ≡ reply_bytes c o v
+reply_made c v [] vs l e = absurd (omega arith)
+reply_made c v (x ∷ []) vs l e = absurd (omega arith)
+reply_made c v (x ∷ y ∷ []) vs l e = absurd (omega arith)
+reply_made c v (x ∷ y ∷ z ∷ []) vs l e = rw (e, ← le_made v)
+reply_made c v (x ∷ y ∷ z ∷ w ∷ o) vs l e = absurd (omega arith)
 
 -- ---- of a segment that is sent
 
-module _ (rq : List ℕ) (long : length rq ≡ request_length) where
-  pub carried_length : length (carried rq) ≡ segment_size - unused_in (command_byte rq)
-  carried_length = length-take-le (segment_size - unused_in (command_byte rq)) (drop segment_place rq) (rw length-drop (omega arith))
-
-  pub carried_at : (i : ℕ) → i < segment_size - unused_in (command_byte rq) → get_or (carried rq) i 0 ≡ get_or rq (segment_place + i) 0
-  carried_at i h = rw (get_or-take, get_or-drop)
+-- the bytes between their bounds
+pub carried_slice : (rq : List ℕ) → take (1 + (segment_size - unused_in (command_byte rq)) - 1) (drop segment_place rq) ≡ carried rq
+carried_slice rq = let n = segment_size - unused_in (command_byte rq) in let e : 1 + n - 1 ≡ n = omega arith in rw e
 
 -- the next byte, and what is left
-pub gathered_next : (g : Receipt) (bs : List ℕ) (i : ℕ) → i < length bs → gathered g (drop i bs) ≡ gathered (added g (get_or bs i 0)) (drop (i + 1) bs)
+pub gathered_next : (g : Receipt) (bs : List ℕ) (i : ℕ) → i < length bs →
+    gathered g (drop i bs) ≡ gathered (added g (get_or bs i 0)) (drop (i + 1) bs)
 unfolding gathered
 gathered_next g bs i h = rw (drop-cons bs i 0 h, add-one)
+
+-- .. and all of them
+pub gathered_all : (rq : List ℕ) {bs : List ℕ} (is : bs ≡ carried rq) (g after : Receipt) (i : ℕ) → length bs ≤ i →
+    gathered after (drop i bs) ≡ gathered g bs → after ≡ gathered g (carried rq)
+unfolding gathered
+gathered_all rq {bs} is g after i past h = rw (drop_of_length-le bs past, is) at h
 
 -- ---- of the device name, whatever it is
 
@@ -77,7 +83,8 @@ padded_from (suc n) p xs =
 
 -- seven of them
 pub segment_made : (c p : ℕ) (xs : List ℕ) →
-    c ∷ get_or xs p 0 ∷ get_or xs (p + 1) 0 ∷ get_or xs (p + 2) 0 ∷ get_or xs (p + 3) 0 ∷ get_or xs (p + 4) 0 ∷ get_or xs (p + 5) 0 ∷ get_or xs (p + 6) 0 ∷ []
+    c ∷ get_or xs p 0 ∷ get_or xs (p + 1) 0 ∷ get_or xs (p + 2) 0 ∷ get_or xs (p + 3) 0
+    ∷ get_or xs (p + 4) 0 ∷ get_or xs (p + 5) 0 ∷ get_or xs (p + 6) 0 ∷ []
     ≡ c ∷ padded 0 segment_size (part p segment_size xs)
 unfolding from
 segment_made c p xs =
@@ -87,3 +94,13 @@ segment_made c p xs =
     let e5 : p + 4 + 1 ≡ p + 5 = omega arith in
     let e6 : p + 5 + 1 ≡ p + 6 = omega arith in
     rw (padded_from segment_size p xs, e2, e3, e4, e5, e6)
+
+-- ---- a bit of a command byte
+
+pub toggle_bit_set : (n : ℕ) → not (eqb (bit_and n 16) 0) ≡ bit 4 n
+toggle_bit_set n = rw (and_pow n 4) (go (n / 16 % 2) (omega arith))
+  where
+    go : (b : ℕ) → b < 2 → not (eqb (b * 16) 0) ≡ eqb b 1
+    go zero h = refl
+    go (suc zero) h = refl
+    go (suc (suc b)) h = absurd (omega arith)

@@ -1,10 +1,7 @@
 -- Segments by the transfer that runs: what one asks or brings is the rules' service on that transfer.
 -- Assumes nothing.
-use Prim.Native.Nat.{ℕ, suc, ◌+◌}
-use native.Mathlib.Numerals.{add-one}
-use mathlib.Core.Path.{◌≡◌, ap}
-use mathlib.Core.Bool.{Bool, true, false, cond, not, beq}
-use mathlib.Core.List.{List}
+use Rattle.std.proofs.Common.{◌≡◌, ℕ, suc, ◌+◌, Bool, true, false, cond, not, List, ap, add-one}
+use mathlib.Core.Bool.{beq}
 use borrow.Author.Tests.{not-true, not-false}
 use Rattle.state.specs.declared.Receipt.{Receipt}
 use Rattle.state.specs.declared.State.{State}
@@ -12,7 +9,8 @@ use Rattle.state.specs.declared.Transfer.{Transfer}
 use Rattle.state.specs.declared.Transfer.TheVariants.{NoTransfer, Uploading, Downloading}
 use Rattle.rules_dictionary.specs.Aborts.{unknown_command}
 use Rattle.rules_services.specs.Sdo.{abort, reply}
-use Rattle.rules_services.specs.Segments.{toggle_of, toggle_at, is_last_of, nowhere, name_object, object_in, unfit, segment, segment_asked, segment_sent}
+use Rattle.rules_services.specs.Segments.{toggle_of, toggle_at, is_last_of, nowhere, name_object, object_in}
+use Rattle.rules_services.specs.Segments.{unfit, segment, segment_asked, segment_sent}
 use Rattle.sdo.specs.Requests.{said, segment_bytes, refused, due_segment, segment_asked_in, received_segment, segment_sent_in}
 use Rattle.sdo.specs.Requests.{segment_rests, segment_rests_in}
 

@@ -1,41 +1,46 @@
--- Laws for callers: what a verdict's code tells, and that the verdict on an entry is the one on its row.
+-- Laws for callers: what a verdict's result tells, and that the verdict on an entry is the one on its row.
 -- Assumes nothing.
-use Prim.Native.Nat.{ℕ, ◌*◌, ◌≤◌}
-use native.Mathlib.Omega.{arith}
-use mathlib.Core.Path.{◌≡◌, refl}
-use mathlib.Core.Logic.{inl, inr}
+use Rattle.std.proofs.Common.{◌≡◌, ℕ, ◌*◌, ◌≤◌, ltb, is_ok, Ok, Err, Result, refl, inl, inr, arith}
 use borrow.Author.Tests.{ltb-true}
-use lib.Dec.{eqb, ltb}
+use Rattle.std.specs.Prelude.{⊤}
 use Rattle.rules_dictionary.specs.Table.{Row, each_way, table}
 use Rattle.rules_dictionary.specs.Aborts.{Abort, unknown_command, wrong_toggle, no_object, no_subindex, no_writing, too_long, too_short, wrong_time}
-use Rattle.rules_dictionary.specs.Aborts.{below_range, above_range, bad_value, limits_swapped, not_mappable, over_length, Verdict, good, bad, is_good}
+use Rattle.rules_dictionary.specs.Aborts.{below_range, above_range, bad_value, limits_swapped, not_mappable, over_length}
+use Rattle.rules_dictionary.specs.Aborts.{abort_code, Verdict, good, bad, is_good}
 use Rattle.rules_dictionary.specs.Members.{In}
 use Rattle.rules_dictionary.proofs.Tests.{all_in}
 use Rattle.dictionary.specs.declared.Entry.{Entry}
 use Rattle.dictionary.specs.Sizes.{IsSize, IsPdo}
 use Rattle.dictionary.specs.Entries.{entry_of, Stands}
-use Rattle.sdo.specs.Verdicts.{verdict_code, pdo_of}
+use Rattle.sdo.specs.declared.aborts.Abort as declared
+use Rattle.sdo.specs.Verdicts.{abort_of, code_of, result_of, pdo_of}
 
--- THE LAW: a verdict is good where its code is 0
-pub good_code : (v : Verdict) → is_good v ≡ eqb (verdict_code v) 0
-good_code good = refl
-good_code (bad a) = go a
-  where
-    go : (a : Abort) → is_good (bad a) ≡ eqb (verdict_code (bad a)) 0
-    go unknown_command = refl
-    go wrong_toggle = refl
-    go no_object = refl
-    go no_subindex = refl
-    go no_writing = refl
-    go too_long = refl
-    go too_short = refl
-    go wrong_time = refl
-    go below_range = refl
-    go above_range = refl
-    go bad_value = refl
-    go limits_swapped = refl
-    go not_mappable = refl
-    go over_length = refl
+-- THE LAWS: a verdict is good where its result is
+pub good_result : (v : Verdict) → is_good v ≡ is_ok (result_of v)
+good_result good = refl
+good_result (bad a) = refl
+
+-- .. and an abort's code is the one of the rules
+pub code_is : (a : Abort) → code_of (abort_of a) ≡ abort_code a
+code_is unknown_command = refl
+code_is wrong_toggle = refl
+code_is no_object = refl
+code_is no_subindex = refl
+code_is no_writing = refl
+code_is too_long = refl
+code_is too_short = refl
+code_is wrong_time = refl
+code_is below_range = refl
+code_is above_range = refl
+code_is bad_value = refl
+code_is limits_swapped = refl
+code_is not_mappable = refl
+code_is over_length = refl
+
+-- the code of an error; 0 is none
+abbrev pub error_code : Result ⊤ declared.Abort → ℕ
+error_code (Ok _) = 0
+error_code (Err a) = code_of a
 
 -- the PDO of a row of the table is one of the eight: one computed test
 pdo_below : {x : Row} → In x table → IsPdo (pdo_of (entry_of x).role)

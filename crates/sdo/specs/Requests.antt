@@ -1,8 +1,9 @@
 -- Document 01, 'SDO', and ticket 1, as the code has them: what is said, what a download brings, the tests of an offer over an entry of the table,
 -- and each kind of request on the object or the transfer that it is about.
 -- Assumes nothing.
-use Rattle.std.specs.Prelude.{ℕ, ◌+◌, ◌-◌, List, [], ◌∷◌, ◌++◌, Bool, true, false, cond, not, eqb, ltb, take}
+use Rattle.std.specs.Prelude.{ℕ, ◌+◌, ◌-◌, List, [], ◌∷◌, ◌++◌, Bool, true, false, cond, not, eqb, ltb, take, None, Some}
 use Rattle.std.specs.Bool.{beq}
+use Rattle.std.specs.Option.{unwrap_or}
 use Rattle.state.specs.declared.State.{State}
 use Rattle.state.specs.declared.NmtState.{NmtState}
 use Rattle.state.specs.declared.Receipt.{Receipt}
@@ -10,7 +11,8 @@ use Rattle.state.specs.declared.Transfer.{Transfer}
 use Rattle.state.specs.declared.Transfer.TheVariants.{NoTransfer, Uploading, Downloading}
 use Rattle.rules_dictionary.specs.Numbers.{value, bit, bytes, part, padded}
 use Rattle.rules_dictionary.specs.Table.{Row, size_of, u8, u16, u32, size, is_writable, Found, found, the_name, no_object, no_subindex}
-use Rattle.rules_dictionary.specs.Aborts.{Verdict, Abort, abort_code, is_good, test, first_firing, no_writing, too_long, too_short, wrong_time, wrong_toggle}
+use Rattle.rules_dictionary.specs.Aborts.{Verdict, Abort, abort_code, is_good, test, first_firing}
+use Rattle.rules_dictionary.specs.Aborts.{no_writing, too_long, too_short, wrong_time, wrong_toggle}
 use Rattle.rules_services.specs.Effects.{Effect, Frame, frame, becomes, sends, with_transfer, without_transfer}
 use Rattle.rules_services.specs.declared.SdoCommand.{SdoCommand}
 use Rattle.rules_services.specs.declared.SdoCommand.TheVariants.{Download, DownloadBySegments, DownloadSegment, Upload, UploadSegment}
@@ -55,19 +57,19 @@ refused a o s = said (reply_bytes sdo.aborted o (abort_code a)) NoTransfer s
 abbrev pub brought_by : List ℕ → Brought
 brought_by rq =
     let c = sdo.command_byte rq in
-    record { told = bit sdo.size_told_bit c; count = sdo.data_size - sdo.unused_bytes c; bytes = part sdo.data_place sdo.data_size rq }
+    record { count = cond (bit sdo.size_told_bit c) (Some (sdo.data_size - sdo.unused_bytes c)) None; bytes = part sdo.data_place sdo.data_size rq }
 
 -- all segments of one
 abbrev pub brought_in : Receipt → Brought
-brought_in g = record { told = true; count = g.count; bytes = segments.bytes_in g }
+brought_in g = record { count = Some g.count; bytes = segments.bytes_in g }
 
 -- what it offers a row
 abbrev pub offering : Brought → Row → sdo.Offer
-offering b x = record { row = x; size = cond b.told b.count (size_of x); value = value (take (size_of x) b.bytes) }
+offering b x = record { row = x; size = unwrap_or b.count (size_of x); value = value (take (size_of x) b.bytes) }
 
 -- .. and an entry of that size
 abbrev pub offered_by : Brought → ℕ → Offer
-offered_by b n = record { size = cond b.told b.count n; value = value (take n b.bytes) }
+offered_by b n = record { size = unwrap_or b.count n; value = value (take n b.bytes) }
 
 -- what an offer to an entry gives: `offer_verdict`, of the entry's row
 unfoldable pub offer_verdict_of : NmtState → List ℕ → Entry → Offer → Verdict

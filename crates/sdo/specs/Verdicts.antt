@@ -1,23 +1,68 @@
--- Verdicts as the code has them: an SDO abort code, 0 for good; a value for an entry of the table; and the single tests.
+-- Verdicts as the code has them: a result, whose error is the abort; a value for an entry of the table; and the single tests.
 -- Assumes nothing.
-use Rattle.std.specs.Prelude.{ℕ, ◌+◌, List, [], ◌∷◌, map, Bool, not, ◌&&◌, ◌||◌, eqb, ltb}
+use Rattle.std.specs.Prelude.{ℕ, ◌+◌, List, [], ◌∷◌, map, Bool, not, ◌&&◌, ◌||◌, eqb, ltb, Result, Ok, Err, ⊤}
 use Rattle.std.specs.Bool.{beq}
 use Rattle.rules_dictionary.specs.Numbers.{bit, between, any, sum}
 use Rattle.rules_dictionary.specs.Table as rows
-use Rattle.rules_dictionary.specs.Aborts.{Verdict, good, bad, abort_code, test, first_firing}
-use Rattle.rules_dictionary.specs.Aborts.{below_range, above_range, bad_value, limits_swapped, not_mappable, over_length, no_object, no_subindex}
+use Rattle.rules_dictionary.specs.Aborts.{Verdict, good, bad, Abort, abort_code, test, first_firing}
+use Rattle.rules_dictionary.specs.Aborts.{unknown_command, wrong_toggle, no_object, no_subindex, no_writing, too_long, too_short, wrong_time}
+use Rattle.rules_dictionary.specs.Aborts.{below_range, above_range, bad_value, limits_swapped, not_mappable, over_length}
 use Rattle.rules_dictionary.specs.Legal.{transmit_bit, first_identifier, last_identifier, is_valid, frame_identifier}
 use Rattle.rules_dictionary.specs.Legal.{reserved_bits, transmits, most_bits, other_bad_value, in_order, swaps_limits, mapping_verdict}
 use Rattle.rules_dictionary.specs.declared.Role.{Role}
 use Rattle.rules_dictionary.specs.declared.Role.TheVariants.{Plain, ModeOfOperation, MinimumLimit, MaximumLimit, PdoIdentifier, PdoType}
 use Rattle.rules_dictionary.specs.declared.Role.TheVariants.{MappingCount, MappingEntry}
 use Rattle.dictionary.specs.declared.Entry.{Entry}
-use Rattle.dictionary.specs.declared.Presence.{Presence}
-use Rattle.dictionary.specs.declared.Presence.TheVariants.{Listed, NoObject, NoSubindex}
+use Rattle.dictionary.specs.declared.Missing.{Missing}
+use Rattle.dictionary.specs.declared.Missing.TheVariants.{NoObject, NoSubindex}
+use Rattle.sdo.specs.declared.aborts.Abort as declared
+use Rattle.sdo.specs.declared.aborts.Abort.TheVariants as code
 
-abbrev pub verdict_code : Verdict → ℕ
-verdict_code good = 0
-verdict_code (bad a) = abort_code a
+-- ---- aborts and verdicts in code
+
+-- the abort in code that is the one of the rules
+abbrev pub abort_of : Abort → declared.Abort
+abort_of unknown_command = code.UnknownCommand
+abort_of wrong_toggle = code.WrongToggle
+abort_of no_object = code.NoObject
+abort_of no_subindex = code.NoSubindex
+abort_of no_writing = code.NoWriting
+abort_of too_long = code.TooLong
+abort_of too_short = code.TooShort
+abort_of wrong_time = code.WrongTime
+abort_of below_range = code.BelowRange
+abort_of above_range = code.AboveRange
+abort_of bad_value = code.BadValue
+abort_of limits_swapped = code.LimitsSwapped
+abort_of not_mappable = code.NotMappable
+abort_of over_length = code.OverLength
+
+-- .. and its abort code
+abbrev pub code_of : declared.Abort → ℕ
+code_of code.UnknownCommand = abort_code unknown_command
+code_of code.WrongToggle = abort_code wrong_toggle
+code_of code.NoObject = abort_code no_object
+code_of code.NoSubindex = abort_code no_subindex
+code_of code.NoWriting = abort_code no_writing
+code_of code.TooLong = abort_code too_long
+code_of code.TooShort = abort_code too_short
+code_of code.WrongTime = abort_code wrong_time
+code_of code.BelowRange = abort_code below_range
+code_of code.AboveRange = abort_code above_range
+code_of code.BadValue = abort_code bad_value
+code_of code.LimitsSwapped = abort_code limits_swapped
+code_of code.NotMappable = abort_code not_mappable
+code_of code.OverLength = abort_code over_length
+
+-- the result in code that is the verdict
+abbrev pub result_of : Verdict → Result ⊤ declared.Abort
+result_of good = Ok tt
+result_of (bad a) = Err (abort_of a)
+
+-- the abort where a look-up finds nothing
+abbrev pub abort_of_missing : Missing → declared.Abort
+abort_of_missing NoObject = abort_of no_object
+abort_of_missing NoSubindex = abort_of no_subindex
 
 -- ---- a value for an entry
 
@@ -66,10 +111,10 @@ takes p q w v = not (eqb q p) && is_valid v && eqb (frame_identifier w) (frame_i
 -- ---- mappings
 
 -- why a mapping word that names no object is refused, by whether a row stands at its index and subindex
-abbrev pub unnamed : Presence → Verdict
-unnamed Listed = bad not_mappable
-unnamed NoObject = bad no_object
-unnamed NoSubindex = bad no_subindex
+abbrev pub unnamed : Result ⊤ Missing → Verdict
+unnamed (Ok _) = bad not_mappable
+unnamed (Err NoObject) = bad no_object
+unnamed (Err NoSubindex) = bad no_subindex
 
 -- words that are to be mapped, with so many bits before them
 unfoldable pub words_verdict : ℕ → List ℕ → Verdict

@@ -11,7 +11,7 @@ ghost use Rattle.sdo.specs.Requests.{offering, download_of, download_rests};
 ghost use Rattle.sdo.specs.Serving.{prepared_for, IsEntry, Applies};
 
 use crate::Brought;
-use crate::aborts::{GOOD, NO_OBJECT, NO_SUBINDEX, NO_WRITING};
+use crate::aborts::Abort;
 use crate::offers::{offer_verdict, offered};
 use crate::replies::{abort, say};
 use crate::request::{INDEX_PLACE, SUBINDEX_PLACE};
@@ -25,16 +25,7 @@ use rules_dictionary::Role;
 pub fn is_mapping(role: Role) -> bool
     ensures { result ≡ is_mapping role }
 {
-    match role {
-        Role::Plain => false,
-        Role::ModeOfOperation => false,
-        Role::MinimumLimit => false,
-        Role::MaximumLimit => false,
-        Role::PdoIdentifier(_) => false,
-        Role::PdoType(_) => false,
-        Role::MappingCount(_) => true,
-        Role::MappingEntry(_) => true,
-    }
+    matches!(role, Role::MappingCount(_) | Role::MappingEntry(_))
 }
 
 // Before a value is acted on: no transfer runs, and the heartbeat's count is restarted where 1017h is written.
@@ -63,7 +54,6 @@ fn apply(
         result state.new d.new output.new }
 {
     let place = e.place as usize;
-    let role = e.role;
     let old = objects::control_word(d);
     let node = read_node(state);
     say(reply, node.id, output);
@@ -78,7 +68,7 @@ fn apply(
         &mut output[FRAME_LENGTH..],
     );
     done.frames += 1;
-    done.remapped = is_mapping(role) | done.remapped;
+    done.remapped = is_mapping(e.role) | done.remapped;
     done.quiet = false;
     done
 }
@@ -99,12 +89,10 @@ fn to_entry(
 {
     let offer = offered(brought, e.size);
     let node = read_node(state);
-    let nmt = node.nmt;
-    let code = offer_verdict(nmt, d, e, offer);
-    if code != GOOD {
-        return abort(code, object, state, output);
+    match offer_verdict(node.nmt, d, e, offer) {
+        Ok(()) => apply(reply, e, offer.value, state, d, output),
+        Err(why) => abort(why, object, state, output),
     }
-    apply(reply, e, offer.value, state, d, output)
 }
 
 // A download of what is brought to the object of those three bytes, replied to so where it is taken.
@@ -120,11 +108,9 @@ pub fn download(
     ensures { LeavesIn (download_of reply object brought) (download_rests object (offering brought))
         state.old d.old output.old result state.new d.new output.new }
 {
-    let found = find(read2(&object, INDEX_PLACE), object[SUBINDEX_PLACE]);
-    match found {
-        Found::Row(row) => to_entry(reply, object, brought, row.entry(), state, d, output),
-        Found::DeviceName => abort(NO_WRITING, object, state, output),
-        Found::NoObject => abort(NO_OBJECT, object, state, output),
-        Found::NoSubindex => abort(NO_SUBINDEX, object, state, output),
+    match find(read2(&object, INDEX_PLACE), object[SUBINDEX_PLACE]) {
+        Ok(Found::Row(row)) => to_entry(reply, object, brought, row.entry(), state, d, output),
+        Ok(Found::DeviceName) => abort(Abort::NoWriting, object, state, output),
+        Err(missing) => abort(Abort::from(missing), object, state, output),
     }
 }

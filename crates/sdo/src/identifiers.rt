@@ -19,7 +19,7 @@ const FIRST: u32 = 0x181;
 
 const LAST: u32 = 0x57F;
 
-// Whether a word makes its PDO valid.
+// Whether a word makes its PDO valid. A bit by its weight, as in segments.rt: a function for all would take weight and width, and say less.
 pub fn is_valid(w: u32) -> bool
     ensures { result ≡ is_valid w }
 {
@@ -38,19 +38,14 @@ fn ill_formed(p: usize, w: u32) -> bool
     ensures { result ≡ ill_formed p w }
 {
     let transmits = w / TRANSMITS % 2 == 1;
-    let reserved = w / records::IDENTIFIERS % NINETEEN != 0;
-    if p < places::EACH_WAY {
-        return transmits | reserved;
-    }
-    !transmits | reserved
+    (transmits != (places::EACH_WAY <= p)) | (w / records::IDENTIFIERS % NINETEEN != 0)
 }
 
 // Whether a word's identifier is none for a PDO.
 fn outside(w: u32) -> bool
     ensures { result ≡ outside w }
 {
-    let named = frame_identifier(w);
-    !((FIRST <= named) & (named <= LAST))
+    !(FIRST..=LAST).contains(&frame_identifier(w))
 }
 
 // Whether the word of PDO q takes the identifier of PDO p's.
@@ -65,12 +60,10 @@ fn is_taken(d: &[u8], p: usize, w: u32) -> bool
     requires { length d.now ≡ dictionary_length }
     ensures { result ≡ any (clashes (identifiers d.now) p w) pdos }
 {
-    let mut q: usize = 0;
-    while q < places::PDOS {
+    for q in 0..places::PDOS {
         if takes(p, q, w, records::identifier(d, q)) {
             return true;
         }
-        q += 1;
     }
     false
 }

@@ -2,7 +2,7 @@
 
 #![tactic(auto)]
 
-pub mod aborts; // the abort codes
+mod aborts; // why a request is refused
 mod identifiers; // what the identifier of a PDO may be
 mod mappings; // what the mapping of a PDO may be
 mod values; // what value an entry may hold
@@ -16,19 +16,20 @@ mod name_segments; // the device name, read by segments
 mod receipts; // a download by segments
 mod server; // requests by command
 
+pub use aborts::Abort;
 pub use downloads::is_mapping;
 pub use offers::{offer_verdict, offered};
 pub use server::serve;
 
 // What a download brings, whatever the object: how many bytes, where it tells that, and the first four of them.
+// Not a slice: the count may be none, or five for more than stand here (`brought_in`, `offered_by`).
 #[derive(Clone, Copy)]
 pub struct Brought {
-    pub told: bool,
-    pub count: u8,
+    pub count: Option<u8>,
     pub bytes: [u8; 4],
 }
 
-// What it offers an entry: how many bytes, and the value of as many as the entry has.
+// What it offers an entry: how many bytes, and the value of as many as the entry has, whether or not the two numbers are the same.
 #[derive(Clone, Copy)]
 pub struct Offer {
     pub size: u8,

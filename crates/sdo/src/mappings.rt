@@ -5,10 +5,10 @@ ghost use Rattle.rules_dictionary.specs.Legal.{entry_verdict, count_verdict, map
 ghost use Rattle.dictionary.specs.Sizes.{IsPdo};
 ghost use Rattle.dictionary.specs.Entries.{presence_of};
 ghost use Rattle.mapping.specs.Slots.{words_from};
-ghost use Rattle.sdo.specs.Verdicts.{verdict_code, unnamed};
+ghost use Rattle.sdo.specs.Verdicts.{result_of, unnamed};
 
-use crate::aborts::{GOOD, NO_OBJECT, NO_SUBINDEX, NOT_MAPPABLE, OVER_LENGTH};
-use dictionary::{Presence, places, read4, records, seek};
+use crate::aborts::Abort;
+use dictionary::{places, read4, records, seek};
 use mapping::move_of;
 
 // The mapping words of a PDO.
@@ -18,26 +18,23 @@ const MOST_WORDS: u32 = places::MOST_WORDS as u32;
 const MOST_BITS: u32 = 64;
 
 // Why a mapping word that names no object of its PDO's direction is refused.
-fn unnamed_verdict(w: u32) -> u32
-    ensures { result ≡ verdict_code (unnamed (presence_of (lookup (word_index w) (word_subindex w)))) }
+fn unnamed_verdict(w: u32) -> Result<(), Abort>
+    ensures { result ≡ result_of (unnamed (presence_of (lookup (word_index w) (word_subindex w)))) }
 {
-    match seek((w / 0x1_0000 % 0x1_0000) as u16, (w / 0x100 % 0x100) as u8) {
-        Presence::Listed => NOT_MAPPABLE,
-        Presence::NoObject => NO_OBJECT,
-        Presence::NoSubindex => NO_SUBINDEX,
-    }
+    seek((w / 0x1_0000 % 0x1_0000) as u16, (w / 0x100 % 0x100) as u8)?;
+    Err(Abort::NotMappable)
 }
 
 // What a mapping word of a PDO gives.
-pub fn entry_verdict(p: usize, w: u32) -> u32
-    ensures { result ≡ verdict_code (entry_verdict p w) }
+pub fn entry_verdict(p: usize, w: u32) -> Result<(), Abort>
+    ensures { result ≡ result_of (entry_verdict p w) }
 {
     if w == 0 {
-        return GOOD;
+        return Ok(());
     }
     let named = move_of(w, places::EACH_WAY <= p);
     if named.size != 0 {
-        return GOOD;
+        return Ok(());
     }
     unnamed_verdict(w)
 }
@@ -50,33 +47,28 @@ fn word_length(w: u32) -> u32
 }
 
 // What a count gives of the eight mapping words from a place on.
-fn words_verdict(d: &[u8], first: usize, n: u32) -> u32
+fn words_verdict(d: &[u8], first: usize, n: u32) -> Result<(), Abort>
     requires { (first + 4 * most_moves ≤ length d.now) × (first < 2 ^ 16) }
-    ensures { result ≡ verdict_code (count_verdict (words_from most_moves first d.now) n) }
+    ensures { result ≡ result_of (count_verdict (words_from most_moves first d.now) n) }
 {
-    let count = if n < MOST_WORDS { n } else { MOST_WORDS };
-    let mut at = first;
     let mut bits: u32 = 0;
-    let mut k: u32 = 0;
-    while k < count {
-        let word = read4(d, at);
+    for k in 0..n.min(MOST_WORDS) as usize {
+        let word = read4(d, first + places::WORD_LENGTH * k);
         if word == 0 {
-            return NOT_MAPPABLE;
+            return Err(Abort::NotMappable);
         }
         bits += word_length(word);
-        at += places::WORD_LENGTH;
-        k += 1;
     }
     if MOST_BITS < bits {
-        return OVER_LENGTH;
+        return Err(Abort::OverLength);
     }
-    GOOD
+    Ok(())
 }
 
 // What a count of mapped objects gives for a PDO.
-pub fn count_verdict(d: &[u8], p: usize, n: u32) -> u32
+pub fn count_verdict(d: &[u8], p: usize, n: u32) -> Result<(), Abort>
     requires { (length d.now ≡ dictionary_length) × IsPdo p }
-    ensures { result ≡ verdict_code (count_verdict (map_words d.now p) n) }
+    ensures { result ≡ result_of (count_verdict (map_words d.now p) n) }
 {
     words_verdict(d, records::words_place(p), n)
 }

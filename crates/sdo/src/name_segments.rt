@@ -4,7 +4,7 @@ ghost use Rattle.rules_services.specs.Segments.{segment_size, segment_of, is_las
 ghost use Rattle.sdo.specs.Requests.{segment_bytes, due_segment, segment_asked_in};
 ghost use Rattle.sdo.specs.Serving.{Ready, Speaks};
 
-use crate::aborts::{UNKNOWN_COMMAND, WRONG_TOGGLE};
+use crate::aborts::Abort;
 use crate::replies::{abort, answer};
 use crate::segments::{
     LAST, NAME_OBJECT, NOWHERE, SEGMENT_SIZE, TOGGLE, UNUSED, flag, object_in, toggle_of,
@@ -39,14 +39,9 @@ fn is_last_of(k: u8) -> bool
 fn carried_in(k: u8) -> u8
     ensures { (result ≡ length (segment_of k)) × (result ≤ segment_size) }
 {
-    let first = first_of(k);
-    if NAME_LENGTH <= first {
-        return 0;
-    }
-    if is_last_of(k) {
-        return (NAME_LENGTH - first) as u8;
-    }
-    SEGMENT_SIZE
+    NAME_LENGTH
+        .saturating_sub(first_of(k))
+        .min(SEGMENT_SIZE as usize) as u8
 }
 
 // Its command byte.
@@ -56,7 +51,7 @@ fn segment_byte(k: u8) -> u8
     flag(TOGGLE, toggle_at(k)) + UNUSED * (SEGMENT_SIZE - carried_in(k)) + flag(LAST, is_last_of(k))
 }
 
-// All its bytes, unused ones zero.
+// All its bytes, unused ones zero. Spelled out: a `for` would fill a zeroed array from its second byte, and need an invariant for it.
 fn segment_bytes(k: u8) -> [u8; 8]
     ensures { result ≡ segment_bytes k }
 {
@@ -79,14 +74,13 @@ fn due_segment(k: u8, request: [u8; 8], state: &mut [u8], output: &mut [u8]) -> 
     ensures { Speaks (due_segment k request) state.old output.old result state.new output.new }
 {
     if toggle_of(request) != toggle_at(k) {
-        return abort(WRONG_TOGGLE, NAME_OBJECT, state, output);
+        return abort(Abort::WrongToggle, NAME_OBJECT, state, output);
     }
     let content = segment_bytes(k);
     if is_last_of(k) {
         return answer(content, Transfer::NoTransfer, state, output);
     }
-    let next = k + 1;
-    answer(content, Transfer::Uploading(next), state, output)
+    answer(content, Transfer::Uploading(k + 1), state, output)
 }
 
 // A segment asked for: "a segment with no transfer of its direction running, 05040001h".
@@ -94,10 +88,9 @@ pub fn segment_asked(request: [u8; 8], state: &mut [u8], output: &mut [u8]) -> D
     requires { Ready state.old output.old }
     ensures { Speaks (segment_asked_in request) state.old output.old result state.new output.new }
 {
-    let running = read_transfer(state);
-    match running {
-        Transfer::NoTransfer => abort(UNKNOWN_COMMAND, NOWHERE, state, output),
+    match read_transfer(state) {
+        Transfer::NoTransfer => abort(Abort::UnknownCommand, NOWHERE, state, output),
         Transfer::Uploading(k) => due_segment(k, request, state, output),
-        Transfer::Downloading(g) => abort(UNKNOWN_COMMAND, object_in(g), state, output),
+        Transfer::Downloading(g) => abort(Abort::UnknownCommand, object_in(g), state, output),
     }
 }

@@ -7,7 +7,7 @@ ghost use Rattle.sdo.specs.Requests.{brought_in, received_segment, last_rests, s
 ghost use Rattle.sdo.specs.Serving.{Ready, Speaks};
 
 use crate::Brought;
-use crate::aborts::{UNKNOWN_COMMAND, WRONG_TOGGLE};
+use crate::aborts::Abort;
 use crate::downloads::download;
 use crate::replies::{DOWNLOADED, abort, answer, reply_to};
 use crate::request::COMMAND_PLACE;
@@ -27,7 +27,7 @@ const SEGMENT_PLACE: usize = 1;
 // The bytes of an object are four at the most: more are told apart by the count.
 const TOO_MANY: u8 = 5;
 
-// Nothing has come yet.
+// Nothing has come yet. Written out: a default of `Receipt` would be the same list of zeros, beside the object's three fields here.
 fn nothing_yet(object: [u8; 3]) -> Receipt
     ensures { result ≡ nothing_yet object }
 {
@@ -51,28 +51,24 @@ fn placed(count: u8, k: u8, b: u8, kept: u8) -> u8
     if count == k { b } else { kept }
 }
 
-// The count with one byte more.
+// The count with one byte more. Stays an `if`: `min` would bring a count over five down, which the rules' `added` leaves.
 fn one_more(count: u8) -> u8
     ensures { result ≡ cond (ltb count too_many) (suc count) count }
 {
     if count < TOO_MANY { count + 1 } else { count }
 }
 
-// One byte more: behind those so far, where there is room.
+// One byte more: behind those so far, where there is room. The four are fields, not an array: `Receipt` is of the state of document 01's theorems.
 fn added(g: Receipt, b: u8) -> Receipt
     ensures { result ≡ added g b }
 {
-    let count = g.count;
     Receipt {
-        low: g.low,
-        high: g.high,
-        subindex: g.subindex,
-        toggle: g.toggle,
-        count: one_more(count),
-        first: placed(count, 0, b, g.first),
-        second: placed(count, 1, b, g.second),
-        third: placed(count, 2, b, g.third),
-        fourth: placed(count, 3, b, g.fourth),
+        count: one_more(g.count),
+        first: placed(g.count, 0, b, g.first),
+        second: placed(g.count, 1, b, g.second),
+        third: placed(g.count, 2, b, g.third),
+        fourth: placed(g.count, 3, b, g.fourth),
+        ..g
     }
 }
 
@@ -82,12 +78,8 @@ fn gathered(g: Receipt, request: [u8; 8]) -> Receipt
 {
     let count = (SEGMENT_SIZE - request[COMMAND_PLACE] / UNUSED % 8) as usize;
     let mut after = g;
-    let mut i: usize = 0;
-    while i < count {
-        let place = SEGMENT_PLACE + i;
-        let next = added(after, request[place]);
-        after = next;
-        i += 1;
+    for b in &request[SEGMENT_PLACE..SEGMENT_PLACE + count] {
+        after = added(after, *b);
     }
     after
 }
@@ -96,9 +88,10 @@ fn gathered(g: Receipt, request: [u8; 8]) -> Receipt
 fn turned(g: Receipt) -> Receipt
     ensures { result ≡ turned g }
 {
-    let mut after = g;
-    after.toggle = !g.toggle;
-    after
+    Receipt {
+        toggle: !g.toggle,
+        ..g
+    }
 }
 
 // What all segments bring.
@@ -106,8 +99,7 @@ fn brought_in(g: Receipt) -> Brought
     ensures { result ≡ brought_in g }
 {
     Brought {
-        told: true,
-        count: g.count,
+        count: Some(g.count),
         bytes: [g.first, g.second, g.third, g.fourth],
     }
 }
@@ -133,7 +125,7 @@ fn receive(g: Receipt, request: [u8; 8], state: &mut [u8], d: &mut [u8], output:
 {
     let object = object_in(g);
     if toggle_of(request) != g.toggle {
-        return abort(WRONG_TOGGLE, object, state, output);
+        return abort(Abort::WrongToggle, object, state, output);
     }
     let reply = reply_to(NOWHERE, SEGMENT_TAKEN + flag(TOGGLE, g.toggle), 0);
     let after = gathered(g, request);
@@ -149,10 +141,9 @@ pub fn segment_sent(request: [u8; 8], state: &mut [u8], d: &mut [u8], output: &m
     ensures { LeavesIn (segment_sent_in request) (segment_rests_in request)
         state.old d.old output.old result state.new d.new output.new }
 {
-    let running = read_transfer(state);
-    match running {
-        Transfer::NoTransfer => abort(UNKNOWN_COMMAND, NOWHERE, state, output),
-        Transfer::Uploading(_) => abort(UNKNOWN_COMMAND, NAME_OBJECT, state, output),
+    match read_transfer(state) {
+        Transfer::NoTransfer => abort(Abort::UnknownCommand, NOWHERE, state, output),
+        Transfer::Uploading(_) => abort(Abort::UnknownCommand, NAME_OBJECT, state, output),
         Transfer::Downloading(g) => receive(g, request, state, d, output),
     }
 }

@@ -3,9 +3,11 @@ ghost use Rattle.std.specs.Prelude.{◌≡◌, ◌≤◌, length};
 ghost use Rattle.state.specs.declared.Transfer.TheVariants.{NoTransfer};
 ghost use Rattle.rules_services.specs.Sdo.{aborted};
 ghost use Rattle.rules.specs.Outcome.{frame_size, sent_into};
+ghost use Rattle.sdo.specs.Verdicts.{code_of};
 ghost use Rattle.sdo.specs.Requests.{reply_bytes, saying, said};
 ghost use Rattle.sdo.specs.Serving.{Says, Ready, Speaks};
 
+use crate::aborts::Abort;
 use form::{put_transfer, read_node};
 use output::{Done, nothing_done, send};
 use rules_dictionary::PdoData;
@@ -23,16 +25,9 @@ const ABORTED: u8 = 0x80;
 pub fn reply_to(object: [u8; 3], command: u8, v: u32) -> [u8; 8]
     ensures { result ≡ reply_bytes command object v }
 {
-    [
-        command,
-        object[0],
-        object[1],
-        object[2],
-        (v % 256) as u8,
-        (v / 256 % 256) as u8,
-        (v / 256 / 256 % 256) as u8,
-        (v / 256 / 256 / 256 % 256) as u8,
-    ]
+    let [index_low, index_high, subindex] = object;
+    let [v0, v1, v2, v3] = v.to_le_bytes();
+    [command, index_low, index_high, subindex, v0, v1, v2, v3]
 }
 
 // Eight bytes on 580h+N at the start of the bytes, which are the output from their frame on.
@@ -69,13 +64,13 @@ pub fn answer(content: [u8; 8], transfer: Transfer, state: &mut [u8], output: &m
 }
 
 // An abort that names the object: "any abort .. ends a running transfer".
-pub fn abort(code: u32, object: [u8; 3], state: &mut [u8], output: &mut [u8]) -> Done
+pub fn abort(why: Abort, object: [u8; 3], state: &mut [u8], output: &mut [u8]) -> Done
     requires { Ready state.old output.old }
-    ensures { Speaks (said (reply_bytes aborted object code) NoTransfer)
+    ensures { Speaks (said (reply_bytes aborted object (code_of why)) NoTransfer)
         state.old output.old result state.new output.new }
 {
     answer(
-        reply_to(object, ABORTED, code),
+        reply_to(object, ABORTED, why.code()),
         Transfer::NoTransfer,
         state,
         output,

@@ -19,6 +19,7 @@ pub const INDEX_PLACE: usize = 0;
 pub const SUBINDEX_PLACE: usize = 2;
 
 // "Command bits 7-5: 1 download, 2 upload, 4 client abort (no reply)"; the segments have 0 and 3, and bit 1 tells an expedited download.
+// A function, not `From<u8>`: neither `From` nor `SdoCommand`, which is of the rules, belongs to this crate.
 pub fn command_of(command: u8) -> SdoCommand
     ensures { result ≡ command_of command }
 {
@@ -38,7 +39,7 @@ pub fn command_of(command: u8) -> SdoCommand
     }
 }
 
-// The object that it names: index and subindex, as they stand there.
+// The object that it names: index and subindex, as they stand there. Bytes by name, as in `expedited`, are one line: a copy wants an array to fill.
 pub fn object_of(request: [u8; 8]) -> [u8; 3]
     ensures { result ≡ object_of request }
 {
@@ -51,8 +52,7 @@ pub fn expedited(request: [u8; 8]) -> Brought
 {
     let command = request[COMMAND_PLACE];
     Brought {
-        told: command % 2 == 1,
-        count: DATA_SIZE - command / 4 % 4,
+        count: (command % 2 == 1).then_some(DATA_SIZE - command / 4 % 4),
         bytes: [request[4], request[5], request[6], request[7]],
     }
 }

@@ -22,25 +22,25 @@ pub const NAME_OBJECT: [u8; 3] = [0x08, 0x10, 0x00];
 // The object where no transfer runs: "zeros if none ran".
 pub const NOWHERE: [u8; 3] = [0, 0, 0];
 
-// A bit of a command byte, where it is set.
+// A bit of a command byte, where it is set. Stays an `if`: a product with `u8::from(is_set)` says it no plainer.
 pub fn flag(bit: u8, is_set: bool) -> u8
     ensures { result ≡ cond is_set bit 0 }
 {
     if is_set { bit } else { 0 }
 }
 
-// The toggle of a segment.
+// The toggle of a segment. No function for both bits: `has(byte, bit)` would say what `byte & bit != 0` says.
 pub fn toggle_of(request: [u8; 8]) -> bool
     ensures { result ≡ toggle_of request }
 {
-    request[COMMAND_PLACE] / TOGGLE % 2 == 1
+    request[COMMAND_PLACE] & TOGGLE != 0
 }
 
 // Whether a segment is the last.
 pub fn is_last(request: [u8; 8]) -> bool
     ensures { result ≡ is_last request }
 {
-    request[COMMAND_PLACE] / LAST % 2 == 1
+    request[COMMAND_PLACE] & LAST != 0
 }
 
 // The object of a download by segments.

@@ -4,7 +4,7 @@ ghost use Rattle.rules_services.specs.SdoServer.{sdo};
 ghost use Rattle.output.specs.Leaves.{Lent, LeavesIn};
 ghost use Rattle.sdo.specs.Requests.{sdo_rests};
 
-use crate::aborts::UNKNOWN_COMMAND;
+use crate::aborts::Abort;
 use crate::downloads::download;
 use crate::name_segments::segment_asked;
 use crate::receipts::{begin, segment_sent};
@@ -21,9 +21,8 @@ pub fn serve(request: [u8; 8], state: &mut [u8], d: &mut [u8], output: &mut [u8]
     ensures { LeavesIn (sdo request) (sdo_rests request) state.old d.old output.old
         result state.new d.new output.new }
 {
-    let command = command_of(request[COMMAND_PLACE]);
     let object = object_of(request);
-    match command {
+    match command_of(request[COMMAND_PLACE]) {
         SdoCommand::Download => download(
             reply_to(object, DOWNLOADED, 0),
             object,
@@ -40,6 +39,6 @@ pub fn serve(request: [u8; 8], state: &mut [u8], d: &mut [u8], output: &mut [u8]
             put_no_transfer(state);
             nothing_done(true)
         }
-        SdoCommand::Unknown => abort(UNKNOWN_COMMAND, object, state, output),
+        SdoCommand::Unknown => abort(Abort::UnknownCommand, object, state, output),
     }
 }

@@ -6,7 +6,7 @@ ghost use Rattle.rules.specs.Calls.{output_length};
 ghost use Rattle.output.specs.Leaves.{Lent, LeavesIn, ever};
 ghost use Rattle.sdo.specs.Requests.{uploaded_by, upload_of};
 
-use crate::aborts::{NO_OBJECT, NO_SUBINDEX};
+use crate::aborts::Abort;
 use crate::replies::{abort, answer, reply_to};
 use crate::request::{INDEX_PLACE, SUBINDEX_PLACE};
 use dictionary::name::NAME_LENGTH;
@@ -17,7 +17,7 @@ use state::Transfer;
 // 41h, the reply's command where segments follow.
 const UPLOAD_BEGUN: u8 = 0x41;
 
-// The reply's command: "4Fh, 4Bh, 43h for 1, 2, 4 bytes".
+// The reply's command: "4Fh, 4Bh, 43h for 1, 2, 4 bytes". Of a number, for `Entry.size` is one: the rules (`uploaded_by`) count bytes.
 fn uploaded(size: u8) -> u8
     ensures { result ≡ uploaded_by size }
 {
@@ -50,16 +50,14 @@ pub fn upload(object: [u8; 3], state: &mut [u8], d: &[u8], output: &mut [u8]) ->
     ensures { LeavesIn (upload_of object) ever
         state.old d.now output.old result state.new d.now output.new }
 {
-    let found = find(read2(&object, INDEX_PLACE), object[SUBINDEX_PLACE]);
-    match found {
-        Found::Row(row) => upload_row(object, row, state, d, output),
-        Found::DeviceName => answer(
+    match find(read2(&object, INDEX_PLACE), object[SUBINDEX_PLACE]) {
+        Ok(Found::Row(row)) => upload_row(object, row, state, d, output),
+        Ok(Found::DeviceName) => answer(
             reply_to(object, UPLOAD_BEGUN, NAME_LENGTH as u32),
             Transfer::Uploading(0),
             state,
             output,
         ),
-        Found::NoObject => abort(NO_OBJECT, object, state, output),
-        Found::NoSubindex => abort(NO_SUBINDEX, object, state, output),
+        Err(missing) => abort(Abort::from(missing), object, state, output),
     }
 }

@@ -2,9 +2,9 @@
 ghost use Rattle.std.specs.Prelude.{◌≡◌, length};
 ghost use Rattle.rules_dictionary.specs.Table.{dictionary_length};
 ghost use Rattle.dictionary.specs.Sizes.{IsPdo};
-ghost use Rattle.sdo.specs.Verdicts.{verdict_code, bad_if, limits_verdict, pdo_of, role_verdict, value_verdict_of};
+ghost use Rattle.sdo.specs.Verdicts.{result_of, bad_if, limits_verdict, pdo_of, role_verdict, value_verdict_of};
 
-use crate::aborts::{ABOVE_RANGE, BAD_VALUE, BELOW_RANGE, GOOD, LIMITS_SWAPPED};
+use crate::aborts::Abort;
 use crate::identifiers::bad_identifier;
 use crate::mappings::{count_verdict, entry_verdict};
 use dictionary::choices::{is_mode, is_type};
@@ -13,53 +13,52 @@ use drive::words::is_at_most;
 use rules_dictionary::Role;
 
 // The verdict on a value that is bad, or not, for another reason than its range.
-fn bad_if(bad: bool) -> u32
-    ensures { result ≡ verdict_code (bad_if bad) }
+fn bad_if(bad: bool) -> Result<(), Abort>
+    ensures { result ≡ result_of (bad_if bad) }
 {
     if bad {
-        return BAD_VALUE;
+        return Err(Abort::BadValue);
     }
-    GOOD
+    Ok(())
 }
 
 // The verdict on a minimum beside a maximum: equal ones are in order.
-fn limits_verdict(minimum: u32, maximum: u32) -> u32
-    ensures { result ≡ verdict_code (limits_verdict minimum maximum) }
+fn limits_verdict(minimum: u32, maximum: u32) -> Result<(), Abort>
+    ensures { result ≡ result_of (limits_verdict minimum maximum) }
 {
     if is_at_most(minimum, maximum) {
-        return GOOD;
+        return Ok(());
     }
-    LIMITS_SWAPPED
+    Err(Abort::LimitsSwapped)
 }
 
 // What the rule of a role gives for a value. A limit is judged beside the other one as it stands.
-fn role_verdict(d: &[u8], role: Role, v: u32) -> u32
+fn role_verdict(d: &[u8], role: Role, v: u32) -> Result<(), Abort>
     requires { (length d.now ≡ dictionary_length) × IsPdo (pdo_of role) }
-    ensures { result ≡ verdict_code (role_verdict d.now role v) }
+    ensures { result ≡ result_of (role_verdict d.now role v) }
 {
     match role {
-        Role::Plain => GOOD,
+        Role::Plain => Ok(()),
         Role::ModeOfOperation => bad_if(!is_mode(v)),
         Role::MinimumLimit => limits_verdict(v, objects::maximum_position(d)),
         Role::MaximumLimit => limits_verdict(objects::minimum_position(d), v),
         Role::PdoIdentifier(p) => bad_if(bad_identifier(d, p as usize, v)),
-        Role::PdoType(p) => bad_if(!is_type(v)),
+        Role::PdoType(_) => bad_if(!is_type(v)),
         Role::MappingCount(p) => count_verdict(d, p as usize, v),
         Role::MappingEntry(p) => entry_verdict(p as usize, v),
     }
 }
 
-// What an SDO write of that value to the entry gives: 0 or the abort code.
-pub fn value_verdict(d: &[u8], e: Entry, v: u32) -> u32
+// What an SDO write of that value to the entry gives.
+pub fn value_verdict(d: &[u8], e: Entry, v: u32) -> Result<(), Abort>
     requires { (length d.now ≡ dictionary_length) × IsPdo (pdo_of e.role) }
-    ensures { result ≡ verdict_code (value_verdict_of d.now e v) }
+    ensures { result ≡ result_of (value_verdict_of d.now e v) }
 {
     if v < e.least {
-        return BELOW_RANGE;
+        return Err(Abort::BelowRange);
     }
     if e.greatest < v {
-        return ABOVE_RANGE;
+        return Err(Abort::AboveRange);
     }
-    let role = e.role;
-    role_verdict(d, role, v)
+    role_verdict(d, e.role, v)
 }

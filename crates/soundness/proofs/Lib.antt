@@ -1,5 +1,6 @@
 pub mod RowTests
 pub mod Distinct
+pub mod Quads
 pub mod KeyMeaning
 pub mod KeysLegal
 pub mod Counting

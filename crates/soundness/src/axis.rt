@@ -38,8 +38,7 @@ fn is_mode_made(m: Mode, d: &[u8]) -> bool
 fn is_store_in_place(v: Drive) -> bool
     ensures { result ≡ store_in_place v }
 {
-    let store = v.store;
-    v.positions() | ((store.is_empty() & !v.taken) & !v.limit)
+    v.positions() | ((v.store.is_empty() & !v.taken) & !v.limit)
 }
 
 // "taken mark only while bit 4 of 6040h is 1"
@@ -54,8 +53,7 @@ fn is_taken_in_place(v: Drive, d: &[u8]) -> bool
 fn is_cause_in_place(v: Drive) -> bool
     ensures { result ≡ cause_in_place v }
 {
-    let state = v.state;
-    !v.cause | is_faulty(state)
+    !v.cause | is_faulty(v.state)
 }
 
 // Whether the drive's marks and store are in place.
@@ -90,8 +88,7 @@ pub fn is_drive_clear(node: Node, drive: Drive, d: &[u8]) -> bool
     requires { length d.now ≡ dictionary_length }
     ensures { result ≡ drive_clauses node drive d.now }
 {
-    let nmt = node.nmt;
-    let mode = drive.mode;
-    let made = is_status_made(!nmt.is_stopped(), node.voltage, drive, d) & is_mode_made(mode, d);
+    let remote = !node.nmt.is_stopped();
+    let made = is_status_made(remote, node.voltage, drive, d) & is_mode_made(drive.mode, d);
     made & (is_drive_sound(drive, d) & is_heartbeat_sound(node.heartbeat, d))
 }

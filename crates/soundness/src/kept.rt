@@ -1,5 +1,6 @@
 // Plans and ready frames, which the state's bytes keep, beside the mappings in the dictionary. What stands for the four PDOs of a direction
-// is walked from place to place, so that no PDO's place is worked out of its number.
+// is walked from place to place, so that no PDO's place is worked out of its number. The places are counted by hand, each by its own step:
+// the bytes behind them are read by `is_plan_kept` and `is_frame_kept`, whose contracts speak of places, so that chunks would serve neither.
 ghost use Rattle.std.specs.Prelude.{◌≡◌, true, ◌+◌, ◌*◌, ◌^◌, ◌<◌, ◌≤◌, length};
 ghost use Rattle.rules_dictionary.specs.Table.{each_way, dictionary_length};
 ghost use Rattle.form.specs.Form.{plan_length, state_length, state_of};
@@ -31,23 +32,22 @@ const TRANSMIT_MAPPINGS: u32 = places::TRANSMIT_MAPPING as u32;
 
 const READY: u32 = layout::READY as u32;
 
-// Whether the plans of the four PDOs of a direction are kept; the first one's plan and mapping record stand at those places.
+// Whether the plans of the four PDOs of a direction are kept; the first one's plan and mapping record stand at those places. The flag for the
+// direction stands for `way_of transmit` in the contracts of mapping.
 fn are_kept(named: &[u32], state: &[u8], d: &[u8], plans: u32, maps: u32, transmit: bool) -> bool
-    requires named_value { named.now ≡ named_for (way_of transmit) }
-    requires each_way_in_bounds { (plans + plan_length * each_way ≤ length state.now) × (plans < 2 ^ 14) }
-    requires each_way_in_bounds_2 { (maps + record_length * each_way ≤ length d.now) × (maps < 2 ^ 14) }
+    requires slots { named.now ≡ named_for (way_of transmit) }
+    requires plans_in_bounds { (plans + plan_length * each_way ≤ length state.now) × (plans < 2 ^ 14) }
+    requires records_in_bounds { (maps + record_length * each_way ≤ length d.now) × (maps < 2 ^ 14) }
     ensures { result ≡ plans_kept_from each_way (way_of transmit) plans maps state.now d.now }
 {
     let mut plan = plans;
     let mut map = maps;
-    let mut left = EACH_WAY;
-    while 0 < left {
+    for _ in 0..EACH_WAY {
         if !is_plan_kept(named, state, d, plan, map, transmit) {
             return false;
         }
         plan += PLAN_LENGTH;
         map += MAPPING_LENGTH;
-        left -= 1;
     }
     true
 }
@@ -79,14 +79,12 @@ pub fn are_frames_kept(state: &[u8], d: &[u8]) -> bool
 {
     let mut frame = READY;
     let mut plan = TRANSMIT_PLANS;
-    let mut left = EACH_WAY;
-    while 0 < left {
+    for _ in 0..EACH_WAY {
         if !is_frame_kept(state, d, frame, plan) {
             return false;
         }
         frame += FRAME_LENGTH;
         plan += PLAN_LENGTH;
-        left -= 1;
     }
     true
 }

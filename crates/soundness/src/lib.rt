@@ -28,7 +28,7 @@ use state::{FIRST_NODE, LAST_NODE, NmtState};
 use transfers::is_transfer_clear;
 use waiting::is_waiting_sound;
 
-// "N legal".
+// "N legal". Of the byte in `Node`, which the rules' `sound` is about; what power-up is given is a number of four bytes, tested there.
 fn is_node_id(n: u8) -> bool
     ensures { result ≡ is_node_id n }
 {
@@ -83,6 +83,5 @@ pub fn is_sound(state: &[u8], d: &[u8]) -> bool
     if !is_drive_clear(node, drive, d) {
         return false;
     }
-    let nmt = node.nmt;
-    are_pdos_clear(nmt, state, d)
+    are_pdos_clear(node.nmt, state, d)
 }

@@ -30,7 +30,7 @@ fn communication_legal(d: &[u8], p: usize) -> bool
     (records::communication_count(d, p) == 2) & is_type(transmission as u32)
 }
 
-// The same of the four PDOs from PDO p on.
+// The same of the four PDOs from PDO p on, one by one: `all` over a range would stop by a branch at each, and this runs at every call.
 fn communications_legal(d: &[u8], p: usize) -> bool
     requires { (length d.now ≡ dictionary_length) × (p ≤ each_way) }
     ensures { result ≡ communication_tests d.now p }

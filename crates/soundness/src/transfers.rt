@@ -21,7 +21,7 @@ fn counted_or_zero(k: u8, count: u8, byte: u8) -> bool
     (k < count) | (byte == 0)
 }
 
-// Whether a download's bytes so far can be some.
+// Whether a download's bytes so far can be some. One by one: `Receipt`, which the rules' `receipt_sound` is about, has a field for each.
 fn is_receipt_sound(g: Receipt) -> bool
     ensures { result ≡ receipt_sound g }
 {
@@ -35,8 +35,7 @@ fn is_transfer_sound(state: &[u8]) -> bool
     requires { length state.now ≡ state_length }
     ensures { result ≡ transfer_sound (state_of state.now).transfer }
 {
-    let transfer = read_transfer(state);
-    match transfer {
+    match read_transfer(state) {
         Transfer::NoTransfer => true,
         Transfer::Uploading(k) => (k as usize) * SEGMENT_SIZE < NAME_LENGTH,
         Transfer::Downloading(g) => is_receipt_sound(g),

@@ -97,16 +97,15 @@ fn is_none_held(state: &[u8], at: usize) -> bool
         & ((read4(state, first) == 0) & (read4(state, first + layout::WORD_LENGTH) == 0))
 }
 
-// Whether the bytes of a frame from a place on are zero.
+// Whether the bytes of a frame from a place on are zero. Over places, not a slice: a slice from `first` on needs a test that it is at most eight,
+// which this promises for any.
 fn is_zero_from(content: [u8; 8], first: u8) -> bool
     ensures { (result ≡ zero_from first content) × (length content ≡ 8) }
 {
-    let mut k = first as usize;
-    while k < layout::MOST_DATA {
+    for k in first as usize..layout::MOST_DATA {
         if content[k] != 0 {
             return false;
         }
-        k += 1;
     }
     true
 }
@@ -116,12 +115,11 @@ fn is_full(state: &[u8], p: usize, frame: PdoData) -> bool
     requires { PlanFits state.now p }
     ensures { result ≡ same_data frame (pdo_data (take (sizes (moves_of (plan_in state.now p))) frame.bytes)) }
 {
-    let content = frame.bytes;
     let mapped = length_of(state, p);
     if frame.length != mapped {
         return false;
     }
-    is_zero_from(content, mapped)
+    is_zero_from(frame.bytes, mapped)
 }
 
 // "held frames only in Operational, .. held for working synchronous RPDOs, with full length and legal values": of one where something is held
@@ -130,7 +128,6 @@ fn is_frame_sound(m: NmtState, state: &[u8], d: &[u8], p: usize, frame: PdoData)
         × ((p < each_way) × ((plan_kept d.now p (plan_in state.now p) ≡ true) × (same_data frame no_data ≡ false)))) }
     ensures { result ≡ held_sound m d.now p frame }
 {
-    let content = frame.bytes;
     if frame.length == 0 {
         return false;
     }
@@ -143,7 +140,7 @@ fn is_frame_sound(m: NmtState, state: &[u8], d: &[u8], p: usize, frame: PdoData)
     if !is_full(state, p, frame) {
         return false;
     }
-    are_legal(state, p, content)
+    are_legal(state, p, frame.bytes)
 }
 
 // Whether what is held for receive PDO p is sound; its plan is known to be its mapping's.
@@ -173,15 +170,13 @@ fn is_each_sound(m: NmtState, state: &[u8], d: &[u8]) -> bool
     requires { (length state.now ≡ state_length) × ((length d.now ≡ dictionary_length) × (plans_kept_in state.now d.now ≡ true)) }
     ensures { result ≡ wait_sound m d.now (state_of state.now).axis.paces (state_of state.now).axis.held }
 {
-    let mut t: u32 = 0;
-    while t < ROUNDS {
+    for t in 0..ROUNDS {
         if !is_pace_sound(m, state, d, t as usize) {
             return false;
         }
         if !is_held_sound(m, state, d, t as usize) {
             return false;
         }
-        t += 1;
     }
     true
 }

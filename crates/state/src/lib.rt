@@ -12,43 +12,31 @@ ghost use Rattle.state.specs.Occasions.{is_synced, is_ticked};
 use drive::Drive;
 use rules_dictionary::{PdoData, Plan};
 
-// The NMT states.
-#[derive(Clone, Copy)]
+// The NMT states, by their numbers in the state's bytes.
+#[derive(Clone, Copy, Debug, PartialEq, Eq)]
 pub enum NmtState {
-    PreOperational,
-    Operational,
-    Stopped,
+    PreOperational = 0,
+    Operational = 1,
+    Stopped = 2,
 }
 
 impl NmtState {
     pub fn is_pre_operational(self) -> bool
         ensures { result ≡ is_pre_operational self }
     {
-        match self {
-            NmtState::PreOperational => true,
-            NmtState::Operational => false,
-            NmtState::Stopped => false,
-        }
+        matches!(self, NmtState::PreOperational)
     }
 
     pub fn is_operational(self) -> bool
         ensures { result ≡ is_operational self }
     {
-        match self {
-            NmtState::PreOperational => false,
-            NmtState::Operational => true,
-            NmtState::Stopped => false,
-        }
+        matches!(self, NmtState::Operational)
     }
 
     pub fn is_stopped(self) -> bool
         ensures { result ≡ is_stopped self }
     {
-        match self {
-            NmtState::PreOperational => false,
-            NmtState::Operational => false,
-            NmtState::Stopped => true,
-        }
+        matches!(self, NmtState::Stopped)
     }
 }
 
@@ -60,6 +48,7 @@ pub struct Pace {
 }
 
 // One axis. PDO 0 to 3 receive and 4 to 7 transmit; `held` is by receive PDO, `ready` and `paces` are by transmit PDO.
+// They stay four arrays: the definitions `with_held`, `ready_of` and `plans_of` speak of each as a list.
 #[derive(Clone, Copy)]
 pub struct Axis {
     pub drive: Drive,
@@ -70,7 +59,7 @@ pub struct Axis {
 }
 
 // What a call is to its own end: a SYNC that is served, a tick of 1 ms, or any other.
-#[derive(Clone, Copy)]
+#[derive(Clone, Copy, Debug, PartialEq, Eq)]
 pub enum Occasion {
     Plain,
     Synced,
@@ -81,21 +70,13 @@ impl Occasion {
     pub fn is_synced(self) -> bool
         ensures { result ≡ is_synced self }
     {
-        match self {
-            Occasion::Plain => false,
-            Occasion::Synced => true,
-            Occasion::Ticked => false,
-        }
+        matches!(self, Occasion::Synced)
     }
 
     pub fn is_ticked(self) -> bool
         ensures { result ≡ is_ticked self }
     {
-        match self {
-            Occasion::Plain => false,
-            Occasion::Synced => false,
-            Occasion::Ticked => true,
-        }
+        matches!(self, Occasion::Ticked)
     }
 }
 
@@ -115,7 +96,7 @@ pub struct Node {
 
 // What a download by segments has brought so far: its object, by the three bytes of index and subindex as the request has them; the toggle of the
 // segment that is due; how many bytes came, and the first four of them, zero where none came yet. No object has more than four, so that the count
-// stops at five.
+// stops at five. Its fields stay as they are: the definitions `object_in`, `bytes_in` and `added` are about them.
 #[derive(Clone, Copy)]
 pub struct Receipt {
     pub low: u8,
@@ -129,7 +110,8 @@ pub struct Receipt {
     pub fourth: u8,
 }
 
-// The transfer in progress: an upload of the device name, by the segment that is due, from 0; or a download.
+// The transfer in progress: an upload of the device name, by the segment that is due, from 0; or a download. `NoTransfer` stays a variant: the
+// definitions `segment_asked`, `segment_sent` and `transfer_sound` are about this type.
 #[derive(Clone, Copy)]
 pub enum Transfer {
     NoTransfer,
@@ -145,26 +127,28 @@ pub struct State {
     pub axis: Axis,
 }
 
-// The refusals of a call, lowest first.
-#[derive(Clone, Copy)]
+// The refusals of a call, lowest first, by their numbers for C; 8 is the bench program's own. `Accepted` stays among them: the definition
+// `refusal_number` gives C its 0, and `Outcome` and the theorems compare with it.
+#[derive(Clone, Copy, Debug, PartialEq, Eq)]
 pub enum Refusal {
-    Accepted,
-    DictionaryLength,
-    OutputLength,
-    NodeId,
-    NotSound,
-    BadFrame,
-    BadEvent,
-    OutOfPlace,
-    WrongState,
-    FileTooShort,
-    TooManyEntries,
-    FileMisfit,
-    ControlWordEntry,
-    EntryAborted,
+    Accepted = 0,
+    DictionaryLength = 1,
+    OutputLength = 2,
+    NodeId = 3,
+    NotSound = 4,
+    BadFrame = 5,
+    BadEvent = 6,
+    OutOfPlace = 7,
+    WrongState = 9,
+    FileTooShort = 10,
+    TooManyEntries = 11,
+    FileMisfit = 12,
+    ControlWordEntry = 13,
+    EntryAborted = 14,
 }
 
-// What a call answers, beside the lent bytes.
+// What a call answers, beside the lent bytes. No `Result`, and not generic: the state comes back from a refused call too, and the definitions and
+// theorems name its three fields.
 #[derive(Clone, Copy)]
 pub struct Answer {
     pub refusal: Refusal,

@@ -1,8 +1,8 @@
 -- What a call decides on: a refusal, power-up, or the service of a frame, an event or a load in a sound state. The refusals are walked here alone.
 -- Assumes nothing.
 use Rattle.theorems.proofs.Words.{ℕ, ◌≡◌, refl, Bool, true, not, ◌&&◌, ◌||◌, List, eqb, leb, eqb-true, length, Refusal, Accepted}
-use Rattle.theorems.proofs.Words.{DictionaryLength, OutputLength, NodeId, NotSound, BadFrame, BadEvent, OutOfPlace, State, Event, Told}
-use Rattle.theorems.proofs.Words.{Happened, Bad, by_match, false_not, false, not-false, WrongState, FileTooShort, TooManyEntries, FileMisfit}
+use Rattle.theorems.proofs.Words.{DictionaryLength, OutputLength, NodeId, NotSound, BadFrame, BadEvent, OutOfPlace, State, Event, Option}
+use Rattle.theorems.proofs.Words.{Some, None, by_match, false_not, false, not-false, WrongState, FileTooShort, TooManyEntries, FileMisfit}
 use Rattle.theorems.proofs.Words.{ControlWordEntry, EntryAborted}
 use Rattle.theorems.proofs.Entries.{Entries, Goes, goes}
 use Rattle.files.specs.ConciseDcf.{entries_in, is_too_short, is_overfull, is_misfit}
@@ -26,17 +26,17 @@ pub data Decided (s : State) (d : List ℕ) : Call → Decision → Type 0 where
   refusing : {c : Call} (r : Refusal) → is_given r ≡ true → (not (is_unsound r) || not (sound s d)) ≡ true → Decided s d c (refuses r)
   powering : (n : ℕ) → is_node_id n ≡ true → length d ≡ dictionary_length → Decided s d (power_up_call n) (performs (power_up n))
   framing : (i : ℕ) (bs : List ℕ) → length d ≡ dictionary_length → sound s d ≡ true → Decided s d (frame_call i bs) (performs (framed i bs s d))
-  happening : (k : ℕ) (xs : List ℕ) (e : Event) → event_of k xs ≡ Happened e → is_in_place e s ≡ true → length d ≡ dictionary_length → sound s d ≡ true →
+  happening : (k : ℕ) (xs : List ℕ) (e : Event) → event_of k xs ≡ Some e → is_in_place e s ≡ true → length d ≡ dictionary_length → sound s d ≡ true →
       Decided s d (event_call k xs) (performs (happens e s d))
   loading : (f : List ℕ) (e : Effect) → may_load s ≡ true → names_control_word (entries_in f) ≡ false → Entries s d (entries_in f) e →
       length d ≡ dictionary_length → sound s d ≡ true → Decided s d (load_call f) (performs e)
 
 module _ (s : State) (d : List ℕ) where
-  told_decided : (k : ℕ) (xs : List ℕ) (t : Told) → event_of k xs ≡ t → length d ≡ dictionary_length → sound s d ≡ true →
+  told_decided : (k : ℕ) (xs : List ℕ) (t : Option Event) → event_of k xs ≡ t → length d ≡ dictionary_length → sound s d ≡ true →
       Decided s d (event_call k xs) (event_decision t s d)
   unfolding event_decision
-  told_decided k xs Bad q l h = refusing BadEvent refl refl
-  told_decided k xs (Happened e) q l h =
+  told_decided k xs None q l h = refusing BadEvent refl refl
+  told_decided k xs (Some e) q l h =
       by_match (Decided s d (event_call k xs)) (is_in_place e s) (λ p. happening k xs e q p l h) (λ p. refusing OutOfPlace refl refl)
 
   pub load_decided : (f : List ℕ) → length d ≡ dictionary_length → sound s d ≡ true → Decided s d (load_call f) (load_decision f s d)

@@ -4,7 +4,7 @@
 use Rattle.theorems.proofs.Words.{ℕ, ◌≡◌, refl, sym, ◌∙◌, ap, inl, inr, Bool, true, false, cond, ◌&&◌, ◌||◌, false≢true, true≢false, List, []}
 use Rattle.theorems.proofs.Words.{◌∷◌, append-nil, eqb, ltb, suc, Ticked, length, get_or, DriveState, SwitchOnDisabled, FaultReactionActive}
 use Rattle.theorems.proofs.Words.{Fault, Drive, State, In, here, there, Event, Started, QuickStopDone, ReactionDone, SetPointReached, Tick}
-use Rattle.theorems.proofs.Words.{CauseGone, Feedback, Voltage, Happened, same_self, and_right, and_then_false, by_test, whichever, either}
+use Rattle.theorems.proofs.Words.{CauseGone, Feedback, Voltage, Some, same_self, and_right, and_then_false, by_test, whichever, either}
 use Rattle.theorems.proofs.Words.{implied, clash}
 use Rattle.theorems.proofs.Writes.{InTable, one_row, stored_append}
 use Rattle.theorems.proofs.Settled.{settled_other}
@@ -129,9 +129,9 @@ module _ (s : State) (d : List ℕ) (enabled : is_enabled s.axis.drive.state ≡
       let mine = eqb (length bs) nmt_length && (eqb (get_or bs 1 0) every_node || eqb (get_or bs 1 0) s.node.id) in
       by_test (λ e. Makes s d e [] v) mine (λ q. command_makes (command_of (get_or bs 0 0)) (and_then_false mine _ h q)) (λ q. makes_none refl refl)
 
-  event_makes : (e : Event) → is_in_place e s ≡ true → is_fault (Happened e) ≡ false → cause_in_place v ≡ true →
-      let fs = told_values (Happened e) in
-      Makes s d (happens e s d) fs (cond (is_reached (Happened e)) (moved_on v) (acted_all fs v d))
+  event_makes : (e : Event) → is_in_place e s ≡ true → is_fault (Some e) ≡ false → cause_in_place v ≡ true →
+      let fs = told_values (Some e) in
+      Makes s d (happens e s d) fs (cond (is_reached (Some e)) (moved_on v) (acted_all fs v d))
   unfolding is_in_place happens ticked cause_in_place acted acted_all stored_all
   event_makes Started placed h c = not_here is_not_ready refl placed
   event_makes QuickStopDone placed h c = not_here is_quick_stop refl placed

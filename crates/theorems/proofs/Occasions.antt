@@ -4,7 +4,7 @@ use Rattle.theorems.proofs.Words.{ℕ, ◌+◌, ◌≡◌, refl, ap, true, false
 use Rattle.theorems.proofs.Words.{Transfer, NoTransfer, Uploading, Downloading, State, SdoCommand, Download, DownloadBySegments}
 use Rattle.theorems.proofs.Words.{DownloadSegment, Upload, UploadSegment, ClientAbort, Unknown, Event, Started, QuickStopDone, ReactionDone}
 use Rattle.theorems.proofs.Words.{SetPointReached, Tick, CauseGone, Feedback, Voltage, is_stopped, is_operational, is_pre_operational, by_match}
-use Rattle.theorems.proofs.Words.{whichever, clash, Happened, ◌∙◌}
+use Rattle.theorems.proofs.Words.{whichever, clash, Some, ◌∙◌}
 use Rattle.theorems.proofs.Decisions.{Decided}
 use Rattle.theorems.proofs.Entries.{Entries, entry_write}
 use Rattle.rules_services.specs.Effects.{and_then}
@@ -128,7 +128,7 @@ module _ (s : State) (d : List ℕ) where
 
   -- ---- events
 
-  event_ticks : (e : Event) → is_ticked (happens e s d).occasion ≡ true → is_tick (Happened e) ≡ true
+  event_ticks : (e : Event) → is_ticked (happens e s d).occasion ≡ true → is_tick (Some e) ≡ true
   unfolding happens faulted
   event_ticks Started h = h
   event_ticks QuickStopDone h = h

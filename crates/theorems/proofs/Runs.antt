@@ -7,7 +7,7 @@ use Rattle.theorems.proofs.Words.{ℕ, zero, suc, ◌^◌, ◌<◌, ◌≤◌, a
 use Rattle.theorems.proofs.Words.{PreOperational, here, there, is_stopped, ◌+◌, whichever, ◌&&◌, ◌||◌, or-true, List, [], ◌∷◌, append-nil}
 use Rattle.theorems.proofs.Words.{eq-eqb, le-leb, ltb-true, eqb, leb, length, get_or, drop, Stopped, NoTransfer, State, Refusal, Accepted}
 use Rattle.theorems.proofs.Words.{NotSound, Event, Started, QuickStopDone, ReactionDone, SetPointReached, Tick, CauseGone, Feedback, Voltage}
-use Rattle.theorems.proofs.Words.{Told, Happened, Bad, and_left, and_right, stored_bytes, store_bytes, length_stored, all_drop, clash}
+use Rattle.theorems.proofs.Words.{Option, Some, None, and_left, and_right, stored_bytes, store_bytes, length_stored, all_drop, clash}
 use Rattle.theorems.proofs.Words.{or_either, not-true, value_take, none_in, part_bytes}
 use Rattle.theorems.proofs.Settled.{settled_length, status_fits, mode_fits, settled_status, settled_display, settled_motion, status_same}
 use Rattle.theorems.proofs.Settled.{inside_same}
@@ -155,9 +155,9 @@ lawful {s = s} {d = d} Serves.beats k b law =
 
 -- ---- events' arguments
 
-abbrev pub ToldFits : Told → Type 0
-ToldFits (Happened e) = ArgumentsFit e
-ToldFits Bad = Unit
+abbrev pub ToldFits : Option Event → Type 0
+ToldFits (Some e) = ArgumentsFit e
+ToldFits None = Unit
 
 told : (b : Bool) (e : Event) → ArgumentsFit e → ToldFits (provided b e)
 told true e h = h

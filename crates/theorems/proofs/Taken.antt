@@ -5,7 +5,7 @@ use mathlib.Core.Bool.{and-false}
 use Rattle.theorems.proofs.Words.{ℕ, ◌+◌, ◌≤◌, ◌^◌, ◌<◌, arith, ◌≡◌, refl, sym, ◌∙◌, ap, subst, inl, inr, Bool, true, false, cond, not, ◌&&◌}
 use Rattle.theorems.proofs.Words.{◌||◌, false≢true, drop_of_length-le, List, [], ◌∷◌, ◌++◌, append-nil, append_assoc, length, length-append}
 use Rattle.theorems.proofs.Words.{length-drop, drop, drop-drop, DriveState, SetPoint, Store, Empty, Rested, Moving, Queued, Drive, State, In}
-use Rattle.theorems.proofs.Words.{here, there, Happened, Started, QuickStopDone, ReactionDone, SetPointReached, Tick, CauseGone, Feedback}
+use Rattle.theorems.proofs.Words.{here, there, Some, Started, QuickStopDone, ReactionDone, SetPointReached, Tick, CauseGone, Feedback}
 use Rattle.theorems.proofs.Words.{Voltage, within, same_or_apart, apart, same_self, length_store, read_same, read_apart, and_left, and_right}
 use Rattle.theorems.proofs.Words.{all_in, by_test, whichever, either, clash, implied, Event}
 use Rattle.theorems.proofs.Services.{Serves, OneByOne, follow_lawful, applied_all}
@@ -280,7 +280,7 @@ module _ (s : State) (d o : List ℕ) where
   abbrev reached_if : Bool → Decision → ℕ
   reached_if six x = cond (is_accepted x && six) 1 0
 
-  event_passes : (e : Event) → is_reached (Happened e) ≡ true → is_in_place e s ≡ true → PassesAs 1 s d o (performs (happens e s d))
+  event_passes : (e : Event) → is_reached (Some e) ≡ true → is_in_place e s ≡ true → PassesAs 1 s d o (performs (happens e s d))
   unfolding is_in_place happens moved_on answered accepted ended
   event_passes SetPointReached h moves =
       rw (finally_store d (happens SetPointReached s d)) (reached_passes s.axis.drive.store moves (omega arith))

@@ -11,6 +11,7 @@ pub use mathlib.Core.List.{List, [], ◌∷◌, ◌++◌, append-nil, map, appen
 pub use borrow.Author.Tests.{eqb-true, eq-eqb, leb-false, ltb-false, ne_eqb, leb-true, lt-ltb, le-leb, ltb-true, eqb-false, le-ltb, not-true}
 pub use borrow.Author.Tests.{not-false}
 pub use lib.Dec.{eqb, leb, ltb}
+pub use Rattle.std.specs.Prelude.{Option, Some, None}
 pub use lib.ListN.{drop_of_length-le, length, get_or, set, drop, take-append-drop, length-drop, take, length-append, length-take}
 pub use lib.Seq.{sets, get_or-set_other, sets-eq, length-take-le, drop-drop, take-take, take-nil}
 pub use lib.Seq.{take_at, drop_at, set_out}
@@ -30,8 +31,7 @@ pub use Rattle.rules_services.specs.declared.Event.TheVariants.{Started, QuickSt
 pub use Rattle.rules_services.specs.declared.Event.TheVariants.{Voltage}
 pub use Rattle.rules_services.specs.declared.SdoCommand.TheVariants.{Download, DownloadBySegments, DownloadSegment, Upload, UploadSegment}
 pub use Rattle.rules_services.specs.declared.SdoCommand.TheVariants.{ClientAbort, Unknown}
-pub use Rattle.rules_services.specs.declared.Told.TheVariants.{Happened, Bad}
-pub use Rattle.rules_services.specs.{declared.Event.Event, declared.Paced.Paced, declared.SdoCommand.SdoCommand, declared.Told.Told}
+pub use Rattle.rules_services.specs.{declared.Event.Event, declared.Paced.Paced, declared.SdoCommand.SdoCommand}
 pub use Rattle.state.specs.declared.NmtState.TheVariants.{PreOperational, Operational, Stopped}
 pub use Rattle.state.specs.declared.Transfer.TheVariants.{NoTransfer, Uploading, Downloading}
 pub use Rattle.state.specs.{declared.Receipt.Receipt, declared.Transfer.Transfer}

@@ -2,6 +2,7 @@
 -- need. They speak of the rules of document 01 alone; their proofs stand in proofs/.
 -- Assumes nothing.
 use Rattle.std.specs.Prelude.{ℕ, ◌+◌, ◌-◌, ◌*◌, ◌/◌, ◌<◌, ◌≤◌, ◌≡◌, ◌⊎◌, Bool, true, false, cond, not, ◌&&◌, ◌||◌, eqb, leb, ltb, length, get_or, take, drop}
+use Rattle.std.specs.Prelude.{Option, Some as event, None as bad_event}
 use Rattle.std.specs.Bool.{beq}
 use mathlib.Core.List.{List, [], ◌∷◌, ◌++◌, map, flat_map}
 use Rattle.drive.specs.declared.SetPoint.{SetPoint}
@@ -48,8 +49,6 @@ use Rattle.rules_services.specs.PdoTraffic.{listens, type_of, mapped_length, are
 use Rattle.rules_services.specs.Nmt.{nmt_identifier, nmt_length, every_node, heartbeat_base, command_of as nmt_command_of, NmtCommand, start, stop}
 use Rattle.rules_services.specs.Nmt.{enter_pre_operational, reset_node, reset_communication, unknown as unknown_nmt}
 use Rattle.state.specs.declared.NmtState.{NmtState}
-use Rattle.rules_services.specs.declared.Told.{Told}
-use Rattle.rules_services.specs.declared.Told.TheVariants.{Happened as event, Bad as bad_event}
 use Rattle.rules_services.specs.Events.{event_of}
 use Rattle.rules_services.specs.declared.Event.{Event}
 use Rattle.rules_services.specs.declared.Event.TheVariants.{Started as started, QuickStopDone as quick_stop_done, ReactionDone as reaction_done}
@@ -565,7 +564,7 @@ by_event (fault code register) = error_code ∷ error_register ∷ []
 by_event (feedback at speed) = position ∷ velocity ∷ []
 by_event (voltage b) = []
 
-abbrev pub by_told : Told → List Row
+abbrev pub by_told : Option Event → List Row
 by_told (event e) = and_settled (by_event e)
 by_told bad_event = []
 
@@ -676,7 +675,7 @@ edges_in [] a = 0
 edges_in (k ∷ ks) a = edges (read a.dictionary control_word) (writes_of (decided_at k a)) + edges_in ks (left k a)
 
 -- event 6
-abbrev pub is_reached : Told → Bool
+abbrev pub is_reached : Option Event → Bool
 is_reached bad_event = false
 is_reached (event started) = false
 is_reached (event quick_stop_done) = false

@@ -1,7 +1,8 @@
 -- What a call makes of a drive that is enabled, and of the objects: the values that it brings are stored and acted on, frame by frame; event 6 moves
 -- the set-points on; nothing else touches it but power-up, the NMT commands 02h, 81h and 82h, and a fault. Its proof stands in proofs/.
 -- Assumes nothing.
-use Rattle.std.specs.Prelude.{ℕ, ◌≡◌, Bool, true, false, cond, ◌&&◌, ◌||◌, List, [], ◌∷◌, eqb, length, get_or}
+use Rattle.std.specs.Prelude.{ℕ, ◌≡◌, Bool, true, false, cond, ◌&&◌, ◌||◌, List, [], ◌∷◌, eqb, length, get_or, Option}
+use Rattle.std.specs.Prelude.{Some as event, None as bad_event}
 use Rattle.drive.specs.declared.Drive.{Drive}
 use Rattle.drive.specs.DriveStates.{is_enabled}
 use Rattle.drive.specs.SetPoints.{mode_written, control_written, moved_on}
@@ -13,8 +14,7 @@ use Rattle.rules_services.specs.Written.{wrote}
 use Rattle.rules_services.specs.Nmt.{nmt_identifier, nmt_length, every_node, command_of as nmt_command_of, NmtCommand, start, stop, enter_pre_operational}
 use Rattle.rules_services.specs.Nmt.{reset_node, reset_communication, unknown as unknown_nmt}
 use Rattle.rules_services.specs.Events.{event_of}
-use Rattle.rules_services.specs.declared.Told.{Told}
-use Rattle.rules_services.specs.declared.Told.TheVariants.{Happened as event, Bad as bad_event}
+use Rattle.rules_services.specs.declared.Event.{Event}
 use Rattle.rules_services.specs.declared.Event.TheVariants.{Started as started, QuickStopDone as quick_stop_done, ReactionDone as reaction_done}
 use Rattle.rules_services.specs.declared.Event.TheVariants.{SetPointReached as set_point_reached, Tick as tick, CauseGone as cause_gone, Fault as fault}
 use Rattle.rules_services.specs.declared.Event.TheVariants.{Feedback as feedback, Voltage as voltage}
@@ -24,7 +24,7 @@ use Rattle.theorems.specs.Promises.{Step, Stand, left, octets, Run, reached, app
 -- ---- the values that a call brings, and what they make of a drive
 
 -- "event 5 6064h and 606Ch"
-abbrev pub told_values : Told → List (List Write)
+abbrev pub told_values : Option Event → List (List Write)
 told_values bad_event = []
 told_values (event started) = []
 told_values (event quick_stop_done) = []
@@ -91,7 +91,7 @@ takes_over (event_call k xs) s = false
 takes_over (load_call f) s = false
 
 -- event 3
-abbrev pub is_fault : Told → Bool
+abbrev pub is_fault : Option Event → Bool
 is_fault bad_event = false
 is_fault (event started) = false
 is_fault (event quick_stop_done) = false

@@ -1,7 +1,8 @@
 -- Ticket 2, 'Target reached comes too early': what holds of the window time, of every state, call and run, with the few definitions that this
 -- needs. Their proofs stand in proofs/.
 -- Assumes nothing.
-use Rattle.std.specs.Prelude.{ℕ, zero, suc, ◌+◌, ◌<◌, ◌≤◌, ◌≡◌, ◌⊎◌, Bool, true, false, cond, not, ◌&&◌, length, get_or}
+use Rattle.std.specs.Prelude.{ℕ, zero, suc, ◌+◌, ◌<◌, ◌≤◌, ◌≡◌, ◌⊎◌, Bool, true, false, cond, not, ◌&&◌, length, get_or, Option}
+use Rattle.std.specs.Prelude.{Some as event, None as bad_event}
 use mathlib.Core.List.{List, [], ◌∷◌, ◌++◌, flat_map}
 use Rattle.rules_dictionary.specs.declared.Mode.{Mode}
 use Rattle.rules_dictionary.specs.declared.Mode.TheVariants.{NoMode, ProfilePosition, ProfileVelocity}
@@ -26,8 +27,7 @@ use Rattle.rules_services.specs.Effects.{Frame, Effect, with_drive}
 use Rattle.rules_services.specs.Nmt.{heartbeat}
 use Rattle.rules_services.specs.PdoTraffic.{works, type_of, transmitted, no_data}
 use Rattle.rules_services.specs.Events.{event_of}
-use Rattle.rules_services.specs.declared.Told.{Told}
-use Rattle.rules_services.specs.declared.Told.TheVariants.{Happened as event, Bad as bad_event}
+use Rattle.rules_services.specs.declared.Event.{Event}
 use Rattle.rules_services.specs.declared.Event.TheVariants.{Started as started, QuickStopDone as quick_stop_done, ReactionDone as reaction_done}
 use Rattle.rules_services.specs.declared.Event.TheVariants.{SetPointReached as set_point_reached, Tick as tick, CauseGone as cause_gone, Fault as fault}
 use Rattle.rules_services.specs.declared.Event.TheVariants.{Feedback as feedback, Voltage as voltage}
@@ -102,7 +102,7 @@ pub record StandsNear (t : ℕ) (a : Stand) : Type 0 where
   pub inside : near t a.dictionary ≡ true
 
 -- an event 7
-abbrev pub is_tick : Told → Bool
+abbrev pub is_tick : Option Event → Bool
 is_tick bad_event = false
 is_tick (event started) = false
 is_tick (event quick_stop_done) = false

@@ -16,6 +16,7 @@ pub const IDLE: Pace = Pace {
 };
 
 // What is kept of the transmit PDOs at a call's end, and how many frames stand in the output then.
+// The paces are an array of their own, as in the rules: `SentBy` and `turn` are about the paces, and `changed` ends with the call.
 #[derive(Clone, Copy)]
 pub struct Sent {
     pub paces: [Pace; 4],

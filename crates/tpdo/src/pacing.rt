@@ -13,16 +13,13 @@ use mapping::is_open;
 use rules_services::Paced;
 use state::{Occasion, Pace};
 
-// Whether it is sent, and what is kept of it.
+// Whether it is sent, and what is kept of it: stays a flag beside a value, since the value is kept whether or not it is sent.
 fn paced(send: bool, count: u8, due: bool) -> Paced
     ensures { result ≡ paced send count due }
 {
     Paced {
-        send: send,
-        kept: Pace {
-            count: count,
-            due: due,
-        },
+        send,
+        kept: Pace { count, due },
     }
 }
 

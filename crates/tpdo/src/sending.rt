@@ -1,5 +1,5 @@
 // The transmit PDOs at the end of a call, one after another.
-ghost use Rattle.std.specs.Prelude.{◌≡◌, not, ◌||◌, ◌<◌, ◌≤◌, length};
+ghost use Rattle.std.specs.Prelude.{◌≡◌, ◌<◌, ◌≤◌, length};
 ghost use Rattle.rules_dictionary.specs.Table.{each_way, dictionary_length};
 ghost use Rattle.rules.specs.Outcome.{frame_size, sent_into};
 ghost use Rattle.rules.specs.Calls.{output_length};
@@ -14,13 +14,6 @@ use dictionary::records;
 use form::read_ready_frame;
 use output::{FRAME_LENGTH, send};
 use state::{NmtState, Occasion, Pace};
-
-// Whether a transmit PDO's ready frame changed, or the node entered Operational.
-fn is_new(was: bool, changed: bool) -> bool
-    ensures { result ≡ (not was || changed) }
-{
-    !was || changed
-}
 
 // The ready frame of transmit PDO t at the start of the bytes, which are the output from it on, where it is to be sent. How many frames that is.
 fn transmit(goes: bool, t: usize, state: &[u8], d: &[u8], output: &mut [u8]) -> usize
@@ -57,18 +50,16 @@ pub fn transmit_all(
     ensures { SentBy (turn was occasion nmt changed paces d.now) (state_of state.now).axis.ready
         d.now n output.old result output.new }
 {
-    let mut next = [IDLE, IDLE, IDLE, IDLE];
+    let mut next = [IDLE; EACH_WAY];
     let mut sent = n;
     if nmt.is_operational() {
-        let mut t: usize = 0;
-        while t < EACH_WAY {
-            let new = is_new(was, changed[t]);
+        for t in 0..EACH_WAY {
+            // Its ready frame changed, or the node entered Operational.
+            let new = !was | changed[t];
             let paced = pace(d, t, occasion, new, paces[t]);
             let place = FRAME_LENGTH * sent;
             sent += transmit(paced.send, t, state, d, &mut output[place..]);
-            let after = paced.kept;
-            next[t] = after;
-            t += 1;
+            next[t] = paced.kept;
         }
     }
     Sent {

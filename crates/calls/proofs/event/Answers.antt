@@ -7,29 +7,28 @@ use Rattle.state.specs.declared.State.{State}
 use Rattle.rules.specs.Calls.{event_call, answer}
 use Rattle.form.specs.Holding.{Holds}
 use Rattle.form.proofs.Holding.{held_state}
-use Rattle.calls.specs.declared.Opening.{Opening}
 use Rattle.calls.specs.Opening.{opening_of}
 use Rattle.calls.specs.Answers.{outcome}
-use Rattle.calls.proofs.Refusals.{not_opened, opens_form, opened_in, unsound_event}
+use Rattle.calls.proofs.Refusals.{passes_so, not_opened, opens_form, opened_in, unsound_event}
 use Rattle.calls.proofs.Answered.{answers_by, owned}
 use Rattle.calls.proofs.event.Goals as goal
 
-pub returns-then-opening : goal.returns-then-opening
-returns-then-opening c =
+pub returns-in-Err : goal.returns-in-Err
+returns-in-Err c =
     let own = c.form_of-state.ensures in
     let a = c.args in
-    let e = c.opened-opening.ensures ∙ ap (λ (bs : List ℕ). opening_of bs a.d.now a.output.now) own.0
+    let e = c.in-Err.ensures ∙ ap (λ (bs : List ℕ). opening_of bs a.d.now a.output.now) own.0
     ∙ opens_form a.s a.d.now a.output.now own.1 in
     ap (λ (x : Answer). outcome x a.d.now a.output.now) c.refuse.ensures
-    ∙ rw e (not_opened (event_call a.number a.arguments.now) a.s a.d.now a.output.now refl
-    (unsound_event a.number a.arguments.now a.s a.d.now) (ap (λ (x : Opening). x.refused) (sym e) ∙ c.if-opening.true))
+    ∙ not_opened (event_call a.number a.arguments.now) a.s a.d.now a.output.now refl
+    (unsound_event a.number a.arguments.now a.s a.d.now) e
 
 pub event_in-given-requires : goal.event_in-given-requires
 event_in-given-requires c =
     let a = c.args in
     let own = c.form_of-state.ensures in
     let k = opened_in _ a.d.now a.output.now
-    (ap (λ (x : Opening). x.refused) (sym c.opened-opening.ensures) ∙ c.if-opening.false) in
+    (passes_so (sym c.in_default.is ∙ c.opened.ensures)) in
     record { own = owned (record { bytes = own.0; typed = own.1 }); whole = k.0; stands = k.1.1 }
 
 pub returns : goal.returns

@@ -20,7 +20,7 @@ returns-then-not-is_in_place c =
     let a = c.args in
     let s = state_of a.state.now in
     let k = c.requires.stands in
-    let told = sym c.in-Happened.is ∙ c.event_of.ensures in
+    let told = sym c.in-Some.is ∙ c.event_of.ensures in
     refused_answers c.requires.own c.refused-then-not-is_in_place.ensures
     (decides_not (event_call a.number a.arguments.now) s a.d.now a.output.now refl (stands_lent k) OutOfPlace
     (out_of_place a.number a.arguments.now s a.d.now k.sound _ told
@@ -31,7 +31,7 @@ finish-requires c =
     let a = c.args in
     let s = state_of a.state.now in
     let k = c.requires.stands in
-    let told = sym c.in-Happened.is ∙ c.event_of.ensures in
+    let told = sym c.in-Some.is ∙ c.event_of.ensures in
     let placed = sym c.is_in_place.ensures ∙ c.if-not-is_in_place.false in
     let octet : are_bytes a.arguments.now ≡ true = are_bytes_lem a.arguments.now
     (λ i l. omega (arith, c.shared_slice_known-1.given i)) in
@@ -41,14 +41,14 @@ finish-requires c =
     let left = c.happens-done.ensures in
     rw c.is_operational-was.ensures (may_finish k b serves left.0 left.1)
 
-pub returns-in-Bad : goal.returns-in-Bad
-returns-in-Bad c =
+pub returns-in-None : goal.returns-in-None
+returns-in-None c =
     let a = c.args in
     let s = state_of a.state.now in
     let k = c.requires.stands in
     refused_answers c.requires.own c.refused.ensures
     (decides_not (event_call a.number a.arguments.now) s a.d.now a.output.now refl (stands_lent k) BadEvent
-    (bad_told a.number a.arguments.now s a.d.now k.sound (sym c.in-Bad.is ∙ c.event_of.ensures)))
+    (bad_told a.number a.arguments.now s a.d.now k.sound (sym c.in-None.is ∙ c.event_of.ensures)))
 
 pub returns-else-not-is_in_place : goal.returns-else-not-is_in_place
 unfolding answered
@@ -56,7 +56,7 @@ returns-else-not-is_in_place c =
     let a = c.args in
     let s = state_of a.state.now in
     let k = c.requires.stands in
-    let told = sym c.in-Happened.is ∙ c.event_of.ensures in
+    let told = sym c.in-Some.is ∙ c.event_of.ensures in
     let placed = sym c.is_in_place.ensures ∙ c.if-not-is_in_place.false in
     let octet : are_bytes a.arguments.now ≡ true = are_bytes_lem a.arguments.now
     (λ i l. omega (arith, c.shared_slice_known-1.given i)) in

@@ -5,6 +5,7 @@ use mathlib.Core.Path.{refl, ◌≡◌, ◌∙◌, ap}
 use mathlib.Core.Bool.{true, false}
 use mathlib.Core.List.{List}
 use lib.ListN.{length}
+use Rattle.std.specs.Prelude.{is_err}
 use Rattle.rules_dictionary.specs.TheNode.{first_node, last_node, is_node_id}
 use Rattle.rules_dictionary.specs.Table.{dictionary_length}
 use Rattle.rules_services.specs.Nmt.{power_up}
@@ -19,14 +20,14 @@ use Rattle.calls.proofs.power_up_in.Goals as goal
 
 -- what nothing refuses: the lengths and the node-ID
 record Clear (n : ℕ) (d o : List ℕ) : Type 0 where
-  lent : (lending d o).refused ≡ false
+  lent : is_err (lending d o) ≡ false
   node : is_node_id n ≡ true
   long : length d ≡ dictionary_length
   room : output_length ≤ length o
   first : first_node ≤ n
   last : n ≤ last_node
 
-clear : (n : ℕ) (d o : List ℕ) → (powering n d o).refused ≡ false → Clear n d o
+clear : (n : ℕ) (d o : List ℕ) → is_err (powering n d o) ≡ false → Clear n d o
 clear n d o h =
     let p = passes_both d o (is_node_id n) NodeId h in
     let l = lengths d o p.0 in
@@ -59,7 +60,8 @@ renew_all-requires c =
     let n = a.n in
     let k = clear n a.d.now a.output.now c.requires.1 in
     let made = rw (c.fresh_node-node.ensures, c.fresh_drive-drive.ensures n) at c.settle.ensures.0 in
-    let held = all_written a.state.now _ _ _ _ _ _ _ c.requires.0 c.write_plans.ensures (c.write_head.ensures.bytes_after, c.write_head.ensures.head_typed) in (
+    let held = all_written a.state.now _ _ _ _ _ _ _ c.requires.0 c.write_plans.ensures
+    (c.write_head.ensures.bytes_after, c.write_head.ensures.head_typed) in (
       rw (held_state held) held,
       (
         gives_plans n k.first k.last k.long c.start-done.ensures made,
@@ -81,7 +83,8 @@ returns c =
     let node = c.fresh_node-node.ensures in
     let drive = c.fresh_drive-drive.ensures n in
     let made = rw (node, drive) at c.settle.ensures.0 in
-    let held = all_written a.state.now _ _ _ _ _ _ _ c.requires.0 c.write_plans.ensures (c.write_head.ensures.bytes_after, c.write_head.ensures.head_typed) in
+    let held = all_written a.state.now _ _ _ _ _ _ _ c.requires.0 c.write_plans.ensures
+    (c.write_head.ensures.bytes_after, c.write_head.ensures.head_typed) in
     let worked = rw (held_state held) at c.renew_all.ensures.holds in
     let fresh = rw (c.all_plans.ensures, node, drive) at worked in
     λ x. rw (
@@ -90,21 +93,3 @@ returns c =
           k.node),
     )
     (starts_anew n k.first k.last k.long c.start-done.ensures made x fresh)
-
--- the dictionary keeps its length
-pub shape_of-d : goal.shape_of-d
-shape_of-d c =
-    omega (arith, c.start-done.auto, c.settle.auto)
-
--- the output keeps its length
-pub shape_of-output : goal.shape_of-output
-shape_of-output c =
-    omega (arith, c.start-done.auto)
-
--- the state keeps its length
-pub write_head-requires : goal.write_head-requires
-write_head-requires c =
-    omega (arith, c.write_plans.auto, c.requires.0)
-
-pub write_plans-requires : goal.write_plans-requires
-write_plans-requires c = c.requires.0

@@ -5,25 +5,23 @@ use mathlib.Core.Path.{sym, ◌∙◌, ap}
 use Rattle.rules.specs.Calls.{event_call}
 use Rattle.form.proofs.OneForm.{form_state_of}
 use Rattle.form.proofs.Holding.{holds_own}
-use Rattle.calls.specs.declared.Opening.{Opening}
-use Rattle.calls.proofs.Refusals.{opened_in}
+use Rattle.calls.proofs.Refusals.{passes_so, opened_in}
 use Rattle.cendurak.specs.Boundary.{left}
 use Rattle.cendurak.proofs.Ways.{event_not_opened, made, as_given, a_form}
 use Rattle.cendurak.proofs.cendurak_event.Goals as goal
 
-pub returns-then-opening : goal.returns-then-opening
-returns-then-opening c =
-    let e = c.opened-opening.ensures in
+pub returns-in-Err : goal.returns-in-Err
+returns-in-Err c =
+    let e = c.in-Err.ensures in
     let a = c.args in
     ap (λ (k : ℕ). left k a.state.now a.dict.now a.out.now) c.refused.ensures
-    ∙ rw e (event_not_opened a.number a.arguments.now a.state.now a.dict.now a.out.now
-    (ap (λ (x : Opening). x.refused) (sym e) ∙ c.if-opening.true))
+    ∙ event_not_opened a.number a.arguments.now a.state.now a.dict.now a.out.now e
 
-pub event_in-given-requires : goal.event_in-given-requires
-event_in-given-requires c =
+pub event_in-requires : goal.event_in-requires
+event_in-requires c =
     let a = c.args in
     let k = opened_in a.state.now a.dict.now a.out.now
-    (ap (λ (x : Opening). x.refused) (sym c.opened-opening.ensures) ∙ c.if-opening.false) in
+    (passes_so (sym c.in_default.is ∙ c.opened.ensures)) in
     record {
       own = holds_own a.state.now (λ i. omega (arith, c.slice_known-1.given i)) k.1.0;
       whole = k.0;
@@ -34,8 +32,8 @@ pub returns : goal.returns
 returns c =
     let a = c.args in
     let k = opened_in a.state.now a.dict.now a.out.now
-    (ap (λ (x : Opening). x.refused) (sym c.opened-opening.ensures) ∙ c.if-opening.false) in
+    (passes_so (sym c.in_default.is ∙ c.opened.ensures)) in
     let call = event_call a.number a.arguments.now in
     made call a.state.now a.dict.now a.out.now (a_form a.state.now k.0 k.1.0)
     (as_given call a.state.now a.dict.now a.out.now (form_state_of a.state.now k.1.0)) _ _ _ _ _
-    c.event_in-given.ensures c.told.ensures
+    c.event_in.ensures c.told.ensures

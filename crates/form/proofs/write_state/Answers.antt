@@ -1,4 +1,4 @@
-use mathlib.Core.Path.{◌∙◌}
+use Rattle.std.proofs.Common.{◌∙◌}
 use Rattle.form.specs.Form.{HoldsPlans}
 use Rattle.form.proofs.Rows.{plans_written, head_over, typed_whole}
 use Rattle.form.proofs.write_state.Goals as goal

@@ -7,7 +7,3 @@ pub returns-then-before-ticked : goal.returns-then-before-ticked
 returns-then-before-ticked c =
     let a = c.args in
     count_none (state_of a.state.now) a.d.now a.ticked (rw c.read_stay-before.ensures at c.if-before-ticked.true) c.requires.0
-
-pub returns : goal.returns
-returns c =
-    rw c.counted-stay.ensures at (c.put_stay.ensures _ c.requires.0)

@@ -10,7 +10,4 @@ returns c =
     let a = c.args in
     let is = c.read_stay-before.ensures in
     c.one_more.ensures ∙ ap one_more is
-    ∙ counted_more_lem (state_of a.state.now).axis.drive a.d.now c.requires.d_value (λ e. c.if-before-eq0.false (is ∙ e))
-
-pub returns-then-before-eq0 : goal.returns-then-before-eq0
-returns-then-before-eq0 c = c.counted.ensures
+    ∙ counted_more_lem (state_of a.state.now).axis.drive a.d.now c.requires.sound (λ e. c.if-before-eq0.false (is ∙ e))

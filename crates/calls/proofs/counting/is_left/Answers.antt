@@ -8,20 +8,27 @@ use Rattle.calls.proofs.counting.is_left.Goals as goal
 
 pub returns-then-not-done : goal.returns-then-not-done
 returns-then-not-done c =
-    let a = c.args in record { holds_2 = rw (counted_ticks a.done.occasion _ a.d.now (state_of a.state.now) c.is_ticked-ticked.ensures) at c.count.ensures; value = rw (c.if-not-done.true) }
+    let a = c.args in
+    record {
+      counted = rw (counted_ticks a.done.occasion _ a.d.now (state_of a.state.now) c.is_ticked-ticked.ensures) at c.count.ensures;
+      value = rw (c.if-not-done.true);
+    }
 
 pub returns-then-not-ticked : goal.returns-then-not-ticked
 returns-then-not-ticked c =
     let a = c.args in
     let quiet = not-false _ c.if-not-done.false in
     let plain = sym c.is_ticked-ticked.ensures ∙ c.if-not-ticked.true in
-    record { holds_2 = rw (counted_none a.done.occasion a.d.now (state_of a.state.now) plain (c.requires.d_value quiet)) c.requires.holds.0; value = rw (quiet, plain) }
-
-pub count_quietly-requires : goal.count_quietly-requires
-count_quietly-requires c =
-    record { holds = c.requires.holds; d_value = c.requires.d_value (not-false _ c.if-not-done.false) }
+    record {
+      counted = rw (counted_none a.done.occasion a.d.now (state_of a.state.now) plain (c.requires.sound quiet)) c.requires.holds.0;
+      value = rw (quiet, plain);
+    }
 
 pub returns : goal.returns
 returns c =
     let a = c.args in
-    let ticked = sym c.is_ticked-ticked.ensures ∙ c.if-not-ticked.false in record { holds_2 = rw (counted_ticks a.done.occasion true a.d.now (state_of a.state.now) (sym ticked)) at c.count_quietly.ensures.holds_2; value = c.count_quietly.ensures.value ∙ rw (c.if-not-done.false, ticked) }
+    let ticked = sym c.is_ticked-ticked.ensures ∙ c.if-not-ticked.false in
+    record {
+      counted = rw (counted_ticks a.done.occasion true a.d.now (state_of a.state.now) (sym ticked)) at c.count_quietly.ensures.counted;
+      value = c.count_quietly.ensures.value ∙ rw (c.if-not-done.false, ticked);
+    }

@@ -8,12 +8,12 @@ use Rattle.calls.proofs.finishing.anew.Goals as goal
 
 pub all_plans-requires : goal.all_plans-requires
 all_plans-requires c =
-    let made = rw (c.read_node-node.ensures, c.read_drive-drive.ensures) at c.settle.ensures.0 in
+    let made = rw (c.read_node.ensures, c.read_drive.ensures) at c.settle.ensures.0 in
     still_plannable (state_of c.args.state.now) _ _ made c.requires.plannable
 
 pub renew_all-requires : goal.renew_all-requires
 renew_all-requires c =
-    let made = rw (c.read_node-node.ensures, c.read_drive-drive.ensures) at c.settle.ensures.0 in
+    let made = rw (c.read_node.ensures, c.read_drive.ensures) at c.settle.ensures.0 in
     let held = c.put_plans.ensures _ c.requires.own in (
       rw (held_state held) held,
       (
@@ -28,6 +28,6 @@ returns c =
     let worked = rw (held_state planned) at c.renew_all.ensures.holds in
     let idle = c.put_paces.ensures _ worked in
     record {
-      dictionary = rw (c.read_node-node.ensures, c.read_drive-drive.ensures) at c.settle.ensures.0;
+      dictionary = rw (c.read_node.ensures, c.read_drive.ensures) at c.settle.ensures.0;
       state = rw c.all_plans.ensures at idle;
     }

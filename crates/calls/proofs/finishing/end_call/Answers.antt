@@ -20,11 +20,10 @@ transmit_all-sent-requires c =
     let held = c.renewed-changed.ensures.holds in
     let paces = c.read_paces.ensures ∙ ap (λ (t : State). t.axis.paces) (held_state held) in
     let ready = ap (λ (t : State). t.axis.ready) (held_state held) in
-    record { state_len = (held_length held, rw (c.read_node-node.ensures, paces) (may_send p.0 p.1 _ made _ ready)); output_length_in_bounds = (p.0.room, p.0.few) }
-
-pub put_paces-requires : goal.put_paces-requires
-put_paces-requires c =
-    held_length c.renewed-changed.ensures.holds
+    record {
+      state_len = (held_length held, rw (c.read_node-node.ensures, paces) (may_send p.0 p.1 _ made _ ready));
+      output_length_in_bounds = (p.0.room, p.0.few);
+    }
 
 pub returns : goal.returns
 returns c =
@@ -39,6 +38,3 @@ returns c =
     let ready = ap (λ (t : State). t.axis.ready) (held_state r.holds) in
     let sent = rw (r.value, paces, node, ready) at c.transmit_all-sent.ensures in
     ended made may.plans _ _ _ _ sent (c.put_paces.ensures _ r.holds)
-
-pub read_paces-requires : goal.read_paces-requires
-read_paces-requires c = held_length c.renewed-changed.ensures.holds

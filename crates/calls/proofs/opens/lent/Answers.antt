@@ -1,18 +1,17 @@
 -- `calls::opens::lent` meets its contract. Assumes nothing.
-use mathlib.Core.Path.{◌∙◌}
 use Rattle.rules_dictionary.specs.Table.{table, dictionary_length}
 use Rattle.calls.proofs.Refusals.{other_length, no_room, well_lent}
 use Rattle.calls.proofs.opens.lent.Goals as goal
 
 pub returns-then-d-ne-DICTIONARY_LENGTH : goal.returns-then-d-ne-DICTIONARY_LENGTH
 unfolding dictionary_length table
-returns-then-d-ne-DICTIONARY_LENGTH c = let a = c.args in c.refused.ensures ∙ other_length a.d.now a.output.now c.if-d-ne-DICTIONARY_LENGTH.true
+returns-then-d-ne-DICTIONARY_LENGTH c = let a = c.args in other_length a.d.now a.output.now c.if-d-ne-DICTIONARY_LENGTH.true
 
 pub returns-then-output-lt-OUTPUT_LENGTH : goal.returns-then-output-lt-OUTPUT_LENGTH
 unfolding dictionary_length table
 returns-then-output-lt-OUTPUT_LENGTH c =
     let a = c.args in
-    c.refused-then-output-lt-OUTPUT_LENGTH.ensures ∙ no_room a.d.now a.output.now c.if-d-ne-DICTIONARY_LENGTH.false c.if-output-lt-OUTPUT_LENGTH.true
+    no_room a.d.now a.output.now c.if-d-ne-DICTIONARY_LENGTH.false c.if-output-lt-OUTPUT_LENGTH.true
 
 pub returns : goal.returns
 unfolding dictionary_length table

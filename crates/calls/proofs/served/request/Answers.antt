@@ -10,7 +10,7 @@ use Rattle.calls.proofs.served.request.Goals as goal
 pub returns-then-is_stopped : goal.returns-then-is_stopped
 returns-then-is_stopped c =
     let a = c.args in
-    let own = ap (λ (n : Node). is_stopped n.nmt) (sym c.read_node-node.ensures) in
+    let own = ap (λ (n : Node). is_stopped n.nmt) (sym c.read_node.ensures) in
     renamed (request_stopped a.content (state_of a.state.now) a.d.now c.requires.1
     (own ∙ sym c.is_stopped.ensures ∙ c.if-is_stopped.true)) (left_still c.requires.0.own c.nothing_done.ensures)
 
@@ -27,6 +27,6 @@ serve-requires c =
 pub returns : goal.returns
 returns c =
     let a = c.args in
-    let own = ap (λ (n : Node). is_stopped n.nmt) (sym c.read_node-node.ensures) in
+    let own = ap (λ (n : Node). is_stopped n.nmt) (sym c.read_node.ensures) in
     renamed (request_served a.content (state_of a.state.now) a.d.now c.requires.1
     (own ∙ sym c.is_stopped.ensures ∙ c.if-is_stopped.false) c.if-content-ne-REQUEST_LENGTH.false) c.serve.ensures

@@ -32,12 +32,6 @@ returns c =
 pub sync-requires : goal.sync-requires
 sync-requires c = kept c.requires.0
 
-pub read_node-node-requires : goal.read_node-node-requires
-read_node-node-requires c = c.requires.0.whole
-
-pub request-requires : goal.request-requires
-request-requires c = let p = c.requires in (p.0, p.1.0)
-
 pub receive-requires : goal.receive-requires
 receive-requires c =
     let p = c.requires in (

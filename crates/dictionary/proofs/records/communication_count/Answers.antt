@@ -1,14 +1,9 @@
 -- At the record's place. Assumes nothing.
 use native.Mathlib.Omega.{arith}
-use borrow.Author.Rules.{rules}
 use Rattle.rules_dictionary.specs.Values.{read}
 use Rattle.rules_dictionary.proofs.Packing.{within}
 use Rattle.rules_dictionary.proofs.Members.{pdo_in, communication_in}
 use Rattle.dictionary.proofs.records.communication_count.Goals as goal
-
-pub communication_place-requires : goal.communication_place-requires
-unfolding read
-communication_place-requires c = search rules
 
 pub read1-requires : goal.read1-requires
 unfolding read

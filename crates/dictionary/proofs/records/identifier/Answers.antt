@@ -1,15 +1,10 @@
 -- Behind the record's place. Assumes nothing.
 use native.Mathlib.Omega.{arith}
-use borrow.Author.Rules.{rules}
 use Rattle.rules_dictionary.specs.Values.{read}
 use Rattle.rules_dictionary.proofs.Packing.{within, regular}
 use Rattle.rules_dictionary.proofs.Members.{pdo_in, identifier_in}
 use Rattle.dictionary.proofs.Regular.{identifier_at}
 use Rattle.dictionary.proofs.records.identifier.Goals as goal
-
-pub communication_place-requires : goal.communication_place-requires
-unfolding read
-communication_place-requires c = search rules
 
 pub read4-requires : goal.read4-requires
 unfolding read

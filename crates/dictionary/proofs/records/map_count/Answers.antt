@@ -1,14 +1,9 @@
 -- At the record's place. Assumes nothing.
 use native.Mathlib.Omega.{arith}
-use borrow.Author.Rules.{rules}
 use Rattle.rules_dictionary.specs.Values.{read}
 use Rattle.rules_dictionary.proofs.Packing.{within}
 use Rattle.rules_dictionary.proofs.Members.{pdo_in, count_in_lem}
 use Rattle.dictionary.proofs.records.map_count.Goals as goal
-
-pub mapping_place-requires : goal.mapping_place-requires
-unfolding read
-mapping_place-requires c = search rules
 
 pub read1-requires : goal.read1-requires
 unfolding read

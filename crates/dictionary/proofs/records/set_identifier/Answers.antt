@@ -1,15 +1,10 @@
 -- Behind the record's place. Assumes nothing.
 use native.Mathlib.Omega.{arith}
-use borrow.Author.Rules.{rules}
 use Rattle.rules_dictionary.specs.Values.{store}
 use Rattle.rules_dictionary.proofs.Packing.{within, regular}
 use Rattle.rules_dictionary.proofs.Members.{pdo_in, identifier_in}
 use Rattle.dictionary.proofs.Regular.{identifier_at}
 use Rattle.dictionary.proofs.records.set_identifier.Goals as goal
-
-pub communication_place-place-requires : goal.communication_place-place-requires
-unfolding store
-communication_place-place-requires c = search rules
 
 pub write4-requires : goal.write4-requires
 unfolding store

@@ -1,18 +1,19 @@
--- What was found, told from its number. Assumes nothing.
-use native.Mathlib.Omega.{arith}
-use Rattle.dictionary.proofs.Spots.{tells_entry, tells_name, tells_no_object, tells_no_subindex}
+-- The device name stands beside the table; the table in code is the definitions', by one computed test. Assumes nothing.
+use Rattle.std.proofs.Common.{refl}
+use Rattle.rules_dictionary.specs.Table.{table}
+use Rattle.rules_dictionary.proofs.LookUp.{is_name, no_name, elsewhere}
+use Rattle.dictionary.proofs.Spots.{tells}
 use Rattle.dictionary.proofs.table.find.Goals as goal
 
-pub returns-then-place-lt-THE_NAME : goal.returns-then-place-lt-THE_NAME
-returns-then-place-lt-THE_NAME c = tells_entry _ _ _ c.spot_of-spot.ensures c.if-place-lt-THE_NAME.true
+pub found_in-requires : goal.found_in-requires
+unfolding table
+found_in-requires c = refl
 
-pub returns-then-place-eq-THE_NAME : goal.returns-then-place-eq-THE_NAME
-returns-then-place-eq-THE_NAME c = tells_name _ _ _ c.spot_of-spot.ensures c.if-place-eq-THE_NAME.true
+pub returns-then-index-ne-NAME_INDEX : goal.returns-then-index-ne-NAME_INDEX
+returns-then-index-ne-NAME_INDEX c = rw c.found_in.ensures (tells _ _ _ (elsewhere _ _ c.if-index-ne-NAME_INDEX.true))
 
-pub returns-then-place-eq-NO_OBJECT : goal.returns-then-place-eq-NO_OBJECT
-returns-then-place-eq-NO_OBJECT c = tells_no_object _ _ _ c.spot_of-spot.ensures c.if-place-eq-NO_OBJECT.true
+pub returns-then-subindex-eq-NAME_SUBINDEX : goal.returns-then-subindex-eq-NAME_SUBINDEX
+returns-then-subindex-eq-NAME_SUBINDEX c = is_name _ _ c.if-index-ne-NAME_INDEX.false c.if-subindex-eq-NAME_SUBINDEX.true
 
 pub returns : goal.returns
-returns c =
-    tells_no_subindex _ _ _ c.spot_of-spot.ensures
-    (omega (arith, c.if-place-lt-THE_NAME.false, c.if-place-eq-THE_NAME.false)) c.if-place-eq-NO_OBJECT.false
+returns c = no_name _ _ c.if-index-ne-NAME_INDEX.false c.if-subindex-eq-NAME_SUBINDEX.false

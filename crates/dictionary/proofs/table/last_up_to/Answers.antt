@@ -1,10 +1,9 @@
-use Prim.Native.Nat.{suc, ◌<◌, ◌+◌, ◌/◌}
+use Prim.Native.Nat.{◌<◌, ◌+◌, ◌/◌}
 use mathlib.Core.Path.{◌≡◌, refl}
 use native.Mathlib.Omega.{arith}
-use borrow.Author.Rules.{rules}
 use lib.Dec.{lit<}
 use Rattle.rules_dictionary.specs.Table.{entries, table}
-use Rattle.dictionary.proofs.Lines.{lines_length, few, key_at, halved, at_least_one}
+use Rattle.dictionary.proofs.Lines.{lines_length, key_at, halved}
 use Rattle.dictionary.proofs.table.last_up_to.Goals as goal
 
 -- on from the row in the middle, or up to it
@@ -31,27 +30,12 @@ pub loop-width-init : goal.loop-width-init
 unfolding entries table
 loop-width-init c = (lit< tt, (λ h. absurd (omega arith), (λ h. absurd (omega arith), (record { n = 7; is = refl }, omega arith))))
 
-pub overflow_add-next : goal.overflow_add-next
-unfolding entries table
-overflow_add-next c = search (rules, few)
-
-pub offset_bounds-rows-next : goal.offset_bounds-rows-next
-unfolding entries table
-offset_bounds-rows-next c = search (rules, few)
-
-pub bounds-rows-next : goal.bounds-rows-next
-unfolding entries table
-bounds-rows-next c = omega (arith, lines_length c.args.rows.now c.requires.0)
-
 pub loop-width-preserved : goal.loop-width-preserved
 unfolding entries table
 loop-width-preserved c =
     let l = c.loop-width in
     (l.invariant.0, (l.invariant.1.0, (λ z. absurd (omega arith), ((halved l.width l.invariant.1.1.1.0 (omega arith)).1, omega arith))))
 
-pub returns : goal.returns
+pub bounds-rows-next : goal.bounds-rows-next
 unfolding entries table
-returns c =
-    let l = c.loop-width in
-    let next : l.rank + l.width ≡ suc l.rank = omega (arith, at_least_one l.width l.invariant.1.1.1.0) in
-    record { listed = l.invariant.0; low = l.invariant.1.0; high = rw next at l.invariant.1.1.0 }
+bounds-rows-next c = omega (arith, lines_length c.args.rows.now c.requires.0)

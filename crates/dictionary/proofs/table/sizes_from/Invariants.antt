@@ -6,7 +6,6 @@ use Rattle.dictionary.specs.Lines.{sizes_from}
 use Rattle.dictionary.proofs.table.sizes_from.Given as goal
 
 abbrev pub invariant-loop-k : goal.invariant-loop-k
-invariant-loop-k l = (l.bytes + sizes_from l.rows l.k (l.last - l.k) ≡ sizes_from l.rows l.first (l.last - l.first)) × (l.bytes + 7 * (l.last - l.k) ≤ 7 * entries)
-
-abbrev pub decreases-loop-k : goal.decreases-loop-k
-decreases-loop-k l = l.last - l.k
+invariant-loop-k l =
+    (l.bytes + sizes_from l.rows l.k (l.last - l.k) ≡ sizes_from l.rows l.first (l.last - l.first))
+    × (l.bytes + 7 * (l.last - l.k) ≤ 7 * entries)

@@ -16,7 +16,7 @@ pub returns-then-mode : goal.returns-then-mode
 returns-then-mode c =
     let a = c.args in
     let held = c.put_drive.ensures _ c.requires.own in
-    let drive = rw c.read_drive-drive.ensures at c.mode_written.ensures in
+    let drive = rw c.read_drive-then-mode.ensures at c.mode_written.ensures in
     let acts = acts_mode a.old a.mode a.control _ a.d.now _ drive c.if-control.false c.if-mode.true in
     rw c.nothing_done.ensures (as_effect acts (left_as _ _ false a.d.now a.output.now held), refl)
 

@@ -52,7 +52,8 @@ returns c =
     let moved = rw (c.enters.ensures, c.reaction_from.ensures, c.read_drive-drive.ensures) at
     c.with_cause.ensures in
     let held = rw moved at (c.put_drive.ensures _ c.requires.own) in
-    let sent = rw c.read_node-node.ensures at c.emergency-frames.ensures in (
+    let sent = rw c.read_node-node.ensures at c.emergency-frames.ensures in
+    rw c.nothing_done.ensures (
       leaves a.code a.register _ _ _ _ _ _ _ _ c.error_register-before.ensures c.set_error_code.ensures
           c.set_error_register.ensures sent held,
       loud _ _ _ refl,

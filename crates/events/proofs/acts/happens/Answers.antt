@@ -1,5 +1,5 @@
 -- `events::acts::happens` meets its contract. Assumes nothing.
-use mathlib.Core.Path.{refl}
+use Rattle.std.proofs.Common.{refl, inl, inr}
 use Rattle.rules_dictionary.specs.Values.{stored}
 use Rattle.rules_services.specs.Events.{happens}
 use Rattle.rules.specs.Outcome.{sent_into}
@@ -12,14 +12,10 @@ unfolding happens
 returns-in-Started c =
     let m = c.moved.ensures in
     let held = rw (c.enters.ensures, c.read_drive-drive.ensures) at (m.1 _ c.requires.own) in
-    rw (m.0, c.in-Started.is) (restated _ _ _ _ held)
-
-pub returns-in-QuickStopDone : goal.returns-in-QuickStopDone
-unfolding happens
-returns-in-QuickStopDone c =
-    let m = c.moved-in-QuickStopDone.ensures in
-    let held = rw (c.enters-in-QuickStopDone.ensures, c.read_drive-drive-in-QuickStopDone.ensures) at (m.1 _ c.requires.own) in
-    rw (m.0, c.in-QuickStopDone.is) (restated _ _ _ _ held)
+    elim c.in-Started.is [
+      | inl started ↦ rw (m.0, started) (restated _ _ _ _ held)
+      | inr stopped ↦ rw (m.0, stopped) (restated _ _ _ _ held)
+    ]
 
 pub returns-in-Fault : goal.returns-in-Fault
 unfolding happens

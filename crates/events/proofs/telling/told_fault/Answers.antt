@@ -1,21 +1,12 @@
--- `events::telling::told_fault` meets its contract. Assumes nothing.
-use borrow.Author.Tests.{eq-eqb, ne_eqb}
+-- `events::telling::told_fault` meets its contract: the code is not 0. Assumes nothing.
+use Rattle.std.proofs.Common.{◌≡◌, length, arith}
+use borrow.Author.Tests.{eq-eqb}
 use Rattle.rules_services.specs.Events.{event_of}
-use borrow.Author.Rules.{rules}
+use Rattle.events.proofs.Well.{then_provided}
 use Rattle.events.proofs.telling.told_fault.Goals as goal
-
-pub returns-then-arguments-ne3 : goal.returns-then-arguments-ne3
-unfolding event_of
-returns-then-arguments-ne3 c = rw (ne_eqb _ _ c.if-arguments-ne3.true)
-
-pub read2-code-requires : goal.read2-code-requires
-unfolding event_of
-read2-code-requires c = search rules
-
-pub provided-requires : goal.provided-requires
-unfolding event_of
-provided-requires c = search rules
 
 pub returns : goal.returns
 unfolding event_of
-returns c = rw (c.provided.ensures, c.read2-code.ensures, eq-eqb _ _ c.if-arguments-ne3.false)
+returns c =
+    let three : length c.args.arguments.now ≡ 3 = omega (arith, c.in-len3.len_at_least, c.in-len3.len_below) in
+    rw (c.then_some.ensures, then_provided, c.read2-code.ensures, eq-eqb _ _ three)

@@ -14,7 +14,10 @@ pub returns-then-lengths-gt-MOST_LENGTHS : goal.returns-then-lengths-gt-MOST_LEN
 returns-then-lengths-gt-MOST_LENGTHS c = c.refused.ensures ∙ sym (too_long _ _ _ c.if-lengths-gt-MOST_LENGTHS.true)
 
 pub returns-then-at-lengths : goal.returns-then-at-lengths
-returns-then-at-lengths c = c.refused-then-at-lengths.ensures ∙ sym (past _ _ _ c.if-lengths-gt-MOST_LENGTHS.false c.if-at-lengths.true)
+returns-then-at-lengths c =
+    let a = c.args in
+    let beyond : length a.lengths.now < a.self.position = omega (arith, c.if-at-lengths.true) in
+    c.refused-then-at-lengths.ensures ∙ sym (past _ _ _ c.if-lengths-gt-MOST_LENGTHS.false beyond)
 
 pub returns-then-at-lengths-2 : goal.returns-then-at-lengths-2
 returns-then-at-lengths-2 c = c.waiting.ensures ∙ sym (used_up _ _ _ c.if-lengths-gt-MOST_LENGTHS.false c.if-at-lengths-2.true)

@@ -13,4 +13,11 @@ unfolding told
 returns c =
     let target = c.args.answer.target in
     let fits : SFits w32 target = search rules in
-    omega (arith, c.refusal_number-refusal.ensures.0, c.word_of-target.ensures.0 ∙ ap (of_z w32) (to_z-of_z w32 target fits))
+    omega (
+      arith,
+      c.refusal_number.ensures.0,
+      c.from-refusal.ensures,
+      c.from-position.ensures,
+      c.from.ensures,
+      c.word_of-target.ensures.0 ∙ ap (of_z w32) (to_z-of_z w32 target fits),
+    )

@@ -1,10 +1,6 @@
 -- Less than a head is left, or the head says how much there must be.
 -- Assumes nothing.
-use mathlib.Core.Path.{◌∙◌, sym, ap}
-use Prim.Native.Nat.{ℕ, ◌-◌}
-use native.Mathlib.Omega.{arith}
-use lib.Dec.{leb}
-use lib.ListN.{length}
+use Rattle.std.proofs.Common.{◌∙◌, sym, ap, ℕ, ◌-◌, arith, leb, length}
 use Rattle.files.specs.ConciseDcf.{head_size}
 use Rattle.files.proofs.Heads.{no_head, has_head}
 use Rattle.files.proofs.entries.is_there.Goals as goal

@@ -1,6 +1,6 @@
 -- Four bytes of the head.
 -- Assumes nothing.
-use mathlib.Core.Path.{◌∙◌, sym}
+use Rattle.std.proofs.Common.{◌∙◌, sym}
 use Rattle.files.proofs.Heads.{size_there}
 use Rattle.files.proofs.entries.size_at.Goals as goal
 

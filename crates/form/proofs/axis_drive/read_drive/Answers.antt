@@ -5,4 +5,4 @@ pub returns : goal.returns
 unfolding state_of drive_at
 returns c =
     rw (c.read2.ensures, c.flag_of-3.ensures, c.flag_of-2.ensures, c.flag_of.ensures)
-    (rw (c.read_store-store.ensures, c.mode_of-mode.ensures, c.drive_state_of-state.ensures))
+    (rw (c.read_store.ensures, c.mode_of.ensures, c.drive_state_of.ensures))

@@ -1,11 +1,6 @@
 -- `form::axis_drive::read_stay` meets its contract. Assumes nothing.
 use Rattle.form.specs.Form.{state_of, drive_at}
-use borrow.Author.Rules.{rules}
 use Rattle.form.proofs.axis_drive.read_stay.Goals as goal
-
-pub read2-requires : goal.read2-requires
-unfolding state_of drive_at
-read2-requires c = search rules
 
 pub returns : goal.returns
 unfolding state_of drive_at

@@ -1,5 +1,4 @@
-use borrow.Author.Rules.{rules}
-use mathlib.Core.Path.{◌∙◌}
+use Rattle.std.proofs.Common.{rules, ◌∙◌}
 use Rattle.form.specs.Typed.{SetPointTyped}
 use Rattle.form.proofs.Rows.{set_point_written}
 use Rattle.form.proofs.axis_drive.write_set_point.Goals as goal

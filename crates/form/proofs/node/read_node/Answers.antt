@@ -3,4 +3,4 @@ use Rattle.form.proofs.node.read_node.Goals as goal
 
 pub returns : goal.returns
 unfolding state_of node_at
-returns c = rw (c.read2.ensures, c.flag_of.ensures, c.nmt_of-nmt.ensures)
+returns c = rw (c.read2.ensures, c.flag_of.ensures, c.nmt_of.ensures)

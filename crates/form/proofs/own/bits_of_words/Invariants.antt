@@ -3,8 +3,5 @@ use Rattle.form.specs.Own.{is_zero}
 use Rattle.form.proofs.Tested.{Tested}
 use Rattle.form.proofs.own.bits_of_words.Given as goal
 
-abbrev pub invariant-loop-left : goal.invariant-loop-left
-invariant-loop-left l = Tested (λ i. is_zero (word_at i l.bytes)) l.count l.place word_length (is_zero l.bits) l.at l.left
-
-abbrev pub decreases-loop-left : goal.decreases-loop-left
-decreases-loop-left l = l.left
+abbrev pub invariant-loop-k : goal.invariant-loop-k
+invariant-loop-k l = Tested (λ i. is_zero (word_at i l.bytes)) l.place word_length (is_zero l.bits) l.k

@@ -1,14 +1,12 @@
-use native.Mathlib.Omega.{arith}
+use Rattle.std.proofs.Common.{arith}
 use Rattle.form.specs.Own.{paces_own}
-use Rattle.form.proofs.Tested.{none_yet, one_more, all_tested}
+use Rattle.rules_dictionary.specs.Table.{each_way}
+use Rattle.form.proofs.Tested.{one_more, all_tested}
 use Rattle.form.proofs.pdos.own_paces.Goals as goal
 
-pub loop-left-preserved : goal.loop-left-preserved
-loop-left-preserved c = one_more c.loop-left.invariant (omega arith) (rw (← c.own_flag.ensures) c.both-own.ensures)
+pub loop-k-preserved : goal.loop-k-preserved
+loop-k-preserved c = one_more c.loop-k.invariant (rw (← c.own_flag-own.ensures))
 
 pub returns : goal.returns
 unfolding paces_own
-returns c = all_tested c.loop-left.invariant (omega arith)
-
-pub loop-left-init : goal.loop-left-init
-loop-left-init c = none_yet
+returns c = all_tested each_way c.loop-k.invariant (omega arith)

@@ -3,4 +3,4 @@ use Rattle.form.proofs.pdos.read_held.Goals as goal
 
 pub returns : goal.returns
 unfolding state_of
-returns c = c.read_frames.ensures
+returns c = c.read_row.ensures

@@ -1,4 +1,4 @@
-use mathlib.Core.Path.{sym, ◌∙◌}
+use Rattle.std.proofs.Common.{sym, ◌∙◌}
 use Rattle.form.proofs.OneForm.{ready_stands}
 use Rattle.form.proofs.pdos.read_ready_frame.Goals as goal
 

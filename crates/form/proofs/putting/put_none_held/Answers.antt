@@ -3,5 +3,5 @@ use Rattle.form.proofs.putting.put_none_held.Goals as goal
 
 pub returns : goal.returns
 returns c =
-    let w = c.write_frames.ensures in
+    let w = c.write_row.ensures in
     λ s h. rw w.0 (put_held_lem h _ w.1)

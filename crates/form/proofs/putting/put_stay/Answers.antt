@@ -1,4 +1,4 @@
-use borrow.Author.Rules.{rules}
+use Rattle.std.proofs.Common.{rules}
 use Rattle.form.proofs.Holding.{put_stay_lem}
 use Rattle.form.proofs.putting.put_stay.Goals as goal
 

@@ -1,4 +1,4 @@
-use mathlib.Core.Path.{◌∙◌}
+use Rattle.std.proofs.Common.{◌∙◌}
 use Rattle.form.specs.Own.{idle_at}
 use Rattle.form.proofs.Tested.{or-zero}
 use Rattle.form.proofs.transfers.is_idle.Goals as goal

@@ -1,17 +1,10 @@
-use borrow.Author.Rules.{rules}
-use borrow.Author.Tests.{ne_eqb}
+use Rattle.std.proofs.Common.{rules}
 use Rattle.form.specs.Form.{state_of, transfer_at}
 use Rattle.form.proofs.transfers.read_transfer.Goals as goal
 
 pub returns-in_default : goal.returns-in_default
 unfolding state_of transfer_at
-returns-in_default c =
-    let r = c.in_default.in_default-own.rest in
-    simp (ne_eqb _ _ r.0.1, ne_eqb _ _ r.1) (rw c.read_receipt.ensures)
-
-pub read_receipt-requires : goal.read_receipt-requires
-unfolding state_of transfer_at
-read_receipt-requires c = search rules
+returns-in_default c = search rules
 
 pub returns-in-0 : goal.returns-in-0
 unfolding state_of transfer_at

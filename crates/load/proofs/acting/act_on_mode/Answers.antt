@@ -1,5 +1,5 @@
 -- Where 6060h was written, or not. Assumes nothing.
-use mathlib.Core.Path.{◌≡◌, ◌∙◌, ap}
+use Rattle.std.proofs.Common.{◌≡◌, ap, ◌∙◌}
 use Rattle.state.specs.declared.State.{State}
 use Rattle.drive.specs.SetPoints.{mode_written}
 use Rattle.form.proofs.Holding.{held_state}

@@ -1,7 +1,5 @@
 -- The refusals in order, and then the entries. Assumes nothing.
-use mathlib.Core.Bool.{not}
-use mathlib.Core.Path.{sym, ◌∙◌, ap}
-use borrow.Author.Rules.{rules}
+use Rattle.std.proofs.Common.{not, sym, ap, ◌∙◌, rules}
 use borrow.Author.Tests.{lt-ltb, le-ltb}
 use Rattle.files.specs.ConciseDcf.{count_size, count_in, most_entries}
 use Rattle.load.proofs.Loaded.{wrong_state, too_short, too_many, misfit, control_word_lem, not_refused_lem}
@@ -24,14 +22,16 @@ returns-then-count_in-gt-MOST_ENTRIES c =
     let a = c.args in
     let f = a.file.now in
     rw c.refused-then-count_in-gt-MOST_ENTRIES.ensures (too_many f a.state.now a.d.now (sym c.may_load.ensures ∙ c.if-not-may_load.false)
-    (le-ltb _ count_size c.if-file-lt-COUNT_SIZE.false) (lt-ltb most_entries (count_in f) (rw c.count_in.ensures at c.if-count_in-gt-MOST_ENTRIES.true)))
+    (le-ltb _ count_size c.if-file-lt-COUNT_SIZE.false)
+    (lt-ltb most_entries (count_in f) (rw c.count_in.ensures at c.if-count_in-gt-MOST_ENTRIES.true)))
 
 pub returns-then-not-is_whole : goal.returns-then-not-is_whole
 returns-then-not-is_whole c =
     let a = c.args in
     let f = a.file.now in
     rw c.refused-then-not-is_whole.ensures (misfit f a.state.now a.d.now (sym c.may_load.ensures ∙ c.if-not-may_load.false)
-    (le-ltb _ count_size c.if-file-lt-COUNT_SIZE.false) (le-ltb most_entries (count_in f) (rw c.count_in.ensures at c.if-count_in-gt-MOST_ENTRIES.false))
+    (le-ltb _ count_size c.if-file-lt-COUNT_SIZE.false)
+    (le-ltb most_entries (count_in f) (rw c.count_in.ensures at c.if-count_in-gt-MOST_ENTRIES.false))
     (ap not (rw c.is_whole.ensures at c.if-not-is_whole.true)))
 
 pub names-requires : goal.names-requires
@@ -42,7 +42,8 @@ returns-then-names c =
     let a = c.args in
     let f = a.file.now in
     rw c.refused-then-names.ensures (control_word_lem f a.state.now a.d.now (sym c.may_load.ensures ∙ c.if-not-may_load.false)
-    (le-ltb _ count_size c.if-file-lt-COUNT_SIZE.false) (le-ltb most_entries (count_in f) (rw c.count_in.ensures at c.if-count_in-gt-MOST_ENTRIES.false))
+    (le-ltb _ count_size c.if-file-lt-COUNT_SIZE.false)
+    (le-ltb most_entries (count_in f) (rw c.count_in.ensures at c.if-count_in-gt-MOST_ENTRIES.false))
     (ap not (rw c.is_whole.ensures at c.if-not-is_whole.false)) (sym c.names.ensures ∙ c.if-names.true))
 
 pub load_entries-requires : goal.load_entries-requires
@@ -61,5 +62,6 @@ returns c =
     let a = c.args in
     let f = a.file.now in
     not_refused_lem f a.state.now a.d.now (sym c.may_load.ensures ∙ c.if-not-may_load.false) (le-ltb _ count_size c.if-file-lt-COUNT_SIZE.false)
-    (le-ltb most_entries (count_in f) (rw c.count_in.ensures at c.if-count_in-gt-MOST_ENTRIES.false)) (ap not (rw c.is_whole.ensures at c.if-not-is_whole.false))
+    (le-ltb most_entries (count_in f) (rw c.count_in.ensures at c.if-count_in-gt-MOST_ENTRIES.false))
+    (ap not (rw c.is_whole.ensures at c.if-not-is_whole.false))
     (sym c.names.ensures ∙ c.if-names.false) c.load_entries.ensures

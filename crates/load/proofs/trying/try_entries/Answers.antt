@@ -1,62 +1,47 @@
-use Prim.Native.Nat.{◌-◌}
-use native.Mathlib.Omega.{arith}
-use mathlib.Core.Path.{◌≡◌, refl, sym, ◌∙◌}
-use borrow.Author.Rules.{rules}
+-- One entry after another, each with those behind it. Assumes nothing.
+use Rattle.std.proofs.Common.{◌≡◌, ◌+◌, ◌-◌, ◌∙◌, arith, rules}
 use Rattle.files.proofs.Places.{next_stands, rest_whole}
 use Rattle.load.proofs.Steps.{counted, stops, goes_on, all_tried}
 use Rattle.load.proofs.trying.try_entries.Goals as goal
 
-pub loop-left-init : goal.loop-left-init
-loop-left-init c =
-    rw (c.count_in-left.ensures, c.nothing_tried-tally.ensures) (refl, (c.requires.1.1, (omega arith, c.requires.0)))
-
 pub listing_at-requires : goal.listing_at-requires
 listing_at-requires c =
-    let a = c.args in
-    next_stands c.loop-left.at a.file.now c.loop-left.left (c.loop-left.left - 1) (omega arith) c.loop-left.invariant.1.0
-
-pub try_entry-tally-requires : goal.try_entry-tally-requires
-try_entry-tally-requires c =
-    (c.loop-left.invariant.1.1.1, omega (arith, c.requires.1.0.few, c.loop-left.invariant.1.1.0))
-
-pub shape_of-d-then-tally-ne-GOOD : goal.shape_of-d-then-tally-ne-GOOD
-shape_of-d-then-tally-ne-GOOD c = search rules
-
-pub returns-then-tally-ne-GOOD : goal.returns-then-tally-ne-GOOD
-returns-then-tally-ne-GOOD c =
-    let a = c.args in
-    rw c.loop-left.invariant.0 at (stops c.loop-left.at a.file.now c.loop-left.left (c.loop-left.left - 1) (omega arith) c.loop-left.invariant.1.0
-    c.loop-left.tally c.loop-left.d c.listing_at.ensures c.try_entry-tally.ensures c.if-tally-ne-GOOD.true)
+    let l = c.loop in
+    let n = c.count_in-end.result - l.counter in
+    next_stands l.at c.args.file.now n (n - 1) (omega arith) l.invariant.1.0
 
 pub behind-at-requires : goal.behind-at-requires
 behind-at-requires c =
-    let a = c.args in
-    next_stands c.loop-left.at a.file.now c.loop-left.left (c.loop-left.left - 1) (omega arith) c.loop-left.invariant.1.0
+    let l = c.loop in
+    let n = c.count_in-end.result - l.counter in
+    next_stands l.at c.args.file.now n (n - 1) (omega arith) l.invariant.1.0
 
-pub loop-left-preserved : goal.loop-left-preserved
-loop-left-preserved c =
-    let at = c.loop-left.at in
+pub returns-then-is_err : goal.returns-then-is_err
+returns-then-is_err c =
+    let l = c.loop in
+    let n = c.count_in-end.result - l.counter in
+    let failed = rw c.if-is_err.true at c.is_err.ensures.negation in
+    rw l.invariant.0 at
+    (stops l.at c.args.file.now n (n - 1) (omega arith) l.invariant.1.0 l.tally l.d c.listing_at.ensures c.try_entry-tally.ensures failed)
+
+pub loop-preserved : goal.loop-preserved
+loop-preserved c =
+    let l = c.loop in
     let f = c.args.file.now in
-    let n = c.loop-left.left in
-    let t = c.loop-left.tally in
-    let d = c.loop-left.d in
-    let one = counted at f n (n - 1) (omega arith) c.loop-left.invariant.1.0 t d c.listing_at.ensures c.try_entry-tally.ensures in (
-      rw c.behind-at.ensures (goes_on at f n (n - 1) (omega arith) c.loop-left.invariant.1.0 t d c.listing_at.ensures c.try_entry-tally.ensures
-          c.if-tally-ne-GOOD.false ∙ c.loop-left.invariant.0),
+    let n = c.count_in-end.result - l.counter in
+    let next : c.count_in-end.result - (l.counter + 1) ≡ n - 1 = omega arith in
+    let fine = rw c.if-is_err.false at c.is_err.ensures.negation in
+    let one = counted l.at f n (n - 1) (omega arith) l.invariant.1.0 l.tally l.d c.listing_at.ensures c.try_entry-tally.ensures in (
+      rw (next, c.behind-at.ensures)
+          (goes_on l.at f n (n - 1) (omega arith) l.invariant.1.0 l.tally l.d c.listing_at.ensures c.try_entry-tally.ensures fine ∙ l.invariant.0),
       (
-        rw c.behind-at.ensures (rest_whole at f n (n - 1) (omega arith) c.loop-left.invariant.1.0),
-        (
-          omega (arith, one, c.loop-left.invariant.1.1.0),
-          search rules,
-        ),
+        rw (next, c.behind-at.ensures) (rest_whole l.at f n (n - 1) (omega arith) l.invariant.1.0),
+        (omega (arith, one, l.invariant.1.1.0), search rules),
       ),
     )
 
-pub shape_of-d : goal.shape_of-d
-shape_of-d c = c.loop-left.invariant.1.1.1 ∙ sym c.requires.0
-
 pub returns : goal.returns
 returns c =
-    let a = c.args in
-    let none : c.loop-left.left ≡ 0 = omega arith in
-    all_tried c.loop-left.at a.file.now c.loop-left.tally c.loop-left.d (rw none at c.loop-left.invariant.0)
+    let l = c.loop in
+    let none : c.count_in-end.result - l.counter ≡ 0 = omega arith in
+    all_tried l.at c.args.file.now l.tally l.d (rw none at l.invariant.0)

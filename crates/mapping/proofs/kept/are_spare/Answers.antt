@@ -11,7 +11,7 @@ pub returns-then-are_empty : goal.returns-then-are_empty
 returns-then-are_empty c =
     let long = c.if-count-ge-HALF.true in
     let a = c.args in
-    let most = c.requires.count_in_bounds_2.1.1 in
+    let most = c.requires.words_in_bounds.1.1 in
     let e = sym c.are_empty.ensures ∙ c.if-are_empty.true in
     let kept = ends_empty a.count a.moves a.state.now in
     sym (none_spare (way_of a.transmit) a.count a.words a.moves a.d.now a.state.now

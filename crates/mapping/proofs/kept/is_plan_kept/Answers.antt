@@ -10,7 +10,7 @@ use Rattle.mapping.proofs.kept.is_plan_kept.Goals as goal
 
 pub overflow_cast-count : goal.overflow_cast-count
 overflow_cast-count c =
-    omega (arith, c.shared_slice_known-4-1.given c.args.map, c.requires.record_length_in_bounds.0)
+    omega (arith, c.shared_slice_known-4-1.given c.args.map, c.requires.record_in_bounds.0)
 
 pub returns-then-count-gt-MOST_MOVES : goal.returns-then-count-gt-MOST_MOVES
 unfolding plan_kept_at
@@ -25,8 +25,8 @@ returns-then-state-plan c =
     let count = get_or a.d.now a.map 0 in
     rw (le-leb count most_moves (search rules), ne_eqb (get_or a.state.now a.plan 0) count c.if-state-plan.true)
 
-pub are_mapped-requires-clause-named_value : goal.are_mapped-requires-clause-named_value
-are_mapped-requires-clause-named_value c = c.requires.named_value
+pub are_mapped-requires-clause-slots : goal.are_mapped-requires-clause-slots
+are_mapped-requires-clause-slots c = c.requires.slots
 
 pub returns-then-not-are_mapped : goal.returns-then-not-are_mapped
 unfolding plan_kept_at

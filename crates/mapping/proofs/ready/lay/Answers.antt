@@ -9,15 +9,20 @@ pub lay_values-end-requires : goal.lay_values-end-requires
 lay_values-end-requires c =
     let a = c.args in
     let zeros = rw c.write4.ensures at c.write4-2.ensures in
-    let same = plan_stays a.state.now a.frame a.plan c.requires.data_length_bound.0 in
-    let long = ap length zeros ∙ long_zeroed a.state.now a.frame in record { most_data_bound = (omega (arith, c.requires.data_length_bound.0), (omega (arith, long, c.requires.data_length_bound.1.0), c.requires.data_length_bound.1.1)); d_len = (c.requires.d_len.0, rw (zeros, same) c.requires.d_len.1) }
+    let same = plan_stays a.state.now a.frame a.plan c.requires.in_bounds.0 in
+    let long = ap length zeros ∙ long_zeroed a.state.now a.frame in
+    record {
+      in_bounds = (omega (arith, c.requires.in_bounds.0), (omega (arith, long, c.requires.in_bounds.1.0), c.requires.in_bounds.1.1));
+      moves_fit = (c.requires.moves_fit.0, rw (zeros, same) c.requires.moves_fit.1);
+    }
 
 -- what was laid, before its length
 whole : (c : goal.After-slice_known-4-1) →
     let a = c.args in
     Whole a.d.now a.state.now c.lay_values-end.new.state a.frame a.plan c.lay_values-end.result
 whole c =
-    laid_whole _ _ _ _ c.requires.data_length_bound.0 c.requires.d_len.1 _ _ _ (rw c.write4.ensures at c.write4-2.ensures) (c.lay_values-end.ensures.state_after, c.lay_values-end.ensures.value)
+    laid_whole _ _ _ _ c.requires.in_bounds.0 c.requires.moves_fit.1 _ _ _
+    (rw c.write4.ensures at c.write4-2.ensures) (c.lay_values-end.ensures.laid, c.lay_values-end.ensures.end)
 
 pub overflow_sub-state : goal.overflow_sub-state
 overflow_sub-state c = (whole c).begun

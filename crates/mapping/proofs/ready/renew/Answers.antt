@@ -12,7 +12,11 @@ pub lay-requires : goal.lay-requires
 lay-requires c =
     let e = c.plan_place-plan.ensures in
     let i = c.requires.holds.1.1 in
-    let long = held_length c.requires.holds.0 in record { data_length_bound = (omega (arith, e), (omega (arith, e, long), omega (arith, e))); d_len = (c.requires.holds.1.0, rw (e, ← plan_stands c.args.state.now (each_way + c.args.t) (omega arith)) c.requires.moves_fit) }
+    let long = held_length c.requires.holds.0 in
+    record {
+      in_bounds = (omega (arith, e), (omega (arith, e, long), omega (arith, e)));
+      moves_fit = (c.requires.holds.1.0, rw (e, ← plan_stands c.args.state.now (each_way + c.args.t) (omega arith)) c.requires.moves_fit);
+    }
 
 pub read_frame-before-requires : goal.read_frame-before-requires
 read_frame-before-requires c = omega (arith, held_length c.requires.holds.0, c.requires.holds.1.1)
@@ -28,4 +32,4 @@ returns c =
     let laid = rw c.plan_place-plan.ensures at c.lay.ensures in
     let was = c.read_frame-before.ensures ∙ sym (ready_stands a.state.now a.t i) in
     let is = c.read_frame.ensures ∙ read_back a.state.now a.d.now a.t i c.requires.holds.0 laid in
-    record { holds_2 = ready_laid a.state.now a.d.now a.t i c.requires.holds.0 laid; value = rw (c.same_data.ensures, was, is) }
+    record { after = ready_laid a.state.now a.d.now a.t i c.requires.holds.0 laid; change = rw (c.same_data.ensures, was, is) }

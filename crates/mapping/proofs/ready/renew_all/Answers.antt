@@ -16,7 +16,7 @@ renew-requires c =
 pub loop-t-preserved : goal.loop-t-preserved
 loop-t-preserved c =
     let p = c.requires in
-    one_renewed p.0 p.1.0 p.1.1 c.loop-t.invariant c.loop-t-test.true (c.renew.ensures.holds_2, c.renew.ensures.value)
+    one_renewed p.0 p.1.0 p.1.1 c.loop-t.invariant c.loop-t-test.true (c.renew.ensures.after, c.renew.ensures.change)
 
 pub returns : goal.returns
 returns c =

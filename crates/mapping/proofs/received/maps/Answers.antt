@@ -1,31 +1,25 @@
-use native.Mathlib.Omega.{arith}
-use mathlib.Core.Path.{sym, ◌∙◌}
-use borrow.Author.Tests.{eq-eqb, ne_eqb}
-use Rattle.mapping.proofs.Steps.{plan_is, begun, none_left, further, place_step}
+-- `mapping::received::maps` meets its contract: the words of the plan's moves are tested one after another. Assumes nothing.
+use Rattle.std.proofs.Common.{rules, tests, ◌≡◌, ℕ, List, [], ◌∷◌, eqb, map, ◌||◌}
+use mathlib.Core.Path.{refl, ap, ◌∙◌}
+use Rattle.std.specs.List.{list_any}
+use Rattle.std.proofs.lemmas.Iterator.Consumers.{YieldsList-from_first}
+use Rattle.std.proofs.lemmas.Iterator.Search.{any_from_yields_List}
+use Rattle.form.specs.Form.{move_of}
+use Rattle.mapping.specs.Slots.{words_from}
+use Rattle.mapping.specs.Received.{has_place}
 use Rattle.mapping.proofs.received.maps.Goals as goal
 
-pub overflow_cast-count-2 : goal.overflow_cast-count-2
-overflow_cast-count-2 c = omega (arith, (begun c.requires c.plan_place-plan.ensures).few)
-
-pub loop-k-init : goal.loop-k-init
-loop-k-init c =
-    let e = c.plan_place-plan.ensures in
-    let f = c.requires in
-    (begun f e, rw (plan_is f e))
-
-pub returns-then-place_of-place : goal.returns-then-place_of-place
-returns-then-place_of-place c =
-    let e = place_step c.loop-k.invariant.0 c.loop-k-test.true c.read4.ensures c.place_of.ensures
-    c.args.place in
-    sym (sym c.loop-k.invariant.1 ∙ e ∙ rw (eq-eqb _ _ c.if-place_of-place.true))
-
-pub loop-k-preserved : goal.loop-k-preserved
-loop-k-preserved c =
-    let e = place_step c.loop-k.invariant.0 c.loop-k-test.true c.read4.ensures c.place_of.ensures
-    c.args.place in
-    (further c.loop-k.invariant.0 c.loop-k-test.true, rw (ne_eqb _ _ c.if-place_of-place.false) at (sym e ∙ c.loop-k.invariant.1))
+place_among : (place : ℕ) (ws : List ℕ) → list_any (λ w. eqb (move_of w).place place) ws ≡ has_place place (map move_of ws)
+place_among place [] = refl
+place_among place (w ∷ ws) = ap (λ b. eqb (move_of w).place place || b) (place_among place ws)
 
 pub returns : goal.returns
 returns c =
-    let l = c.loop-k in
-    rw (none_left l.invariant.0 (omega arith)) at l.invariant.1
+    let place = c.args.place in
+    let ms = c.moves_in.result in
+    any_from_yields_List
+    (λ w. eqb (move_of w).place place) c.any.new.self _ c.any.result c.any.ensures.ran
+    (YieldsList-from_first (λ x. x) (λ s. words_from s.left s.spot s.state.now) (words_from ms.left ms.spot ms.state.now) refl)
+    (λ x b q d. search (rules, tests))
+    ∙ place_among place (words_from ms.left ms.spot ms.state.now)
+    ∙ ap (has_place place) c.moves_in.ensures.moves

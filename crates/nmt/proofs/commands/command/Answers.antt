@@ -8,9 +8,8 @@ use Rattle.nmt.proofs.commands.command.Goals as goal
 pub returns-then-is_pre_operational : goal.returns-then-is_pre_operational
 unfolding command_of commanded
 returns-then-is_pre_operational c =
-    let at = c.before.before.before.before.before.before.before.before.before in
     let s = state_of c.args.state.now in
-    let is = rw c.read_node-node.ensures at c.is_pre_operational.ensures in
+    let is = rw c.read_node.ensures at c.is_pre_operational.ensures in
     rw (c.nothing_done-then-is_pre_operational.ensures, c.in-128.is) (rw (← is, c.if-is_pre_operational.true) (restated s s _ _ c.requires.lent.own))
 
 pub returns-in-1 : goal.returns-in-1
@@ -29,9 +28,8 @@ returns-in-2 c =
 pub returns-else-is_pre_operational : goal.returns-else-is_pre_operational
 unfolding command_of commanded left
 returns-else-is_pre_operational c =
-    let at = c.before.before.before.before.before.before.before.before.before.before.before.before.before in
     let s = state_of c.args.state.now in
-    let is = rw c.read_node-node.ensures at c.is_pre_operational.ensures in
+    let is = rw c.read_node.ensures at c.is_pre_operational.ensures in
     rw (c.nothing_done-in-128.ensures, c.in-128.is)
     (rw (← is, c.if-is_pre_operational.false) (restated s _ _ _ (c.leave-in-128.ensures s c.requires.lent.own)))
 

@@ -9,14 +9,12 @@ use Rattle.nmt.proofs.commands.nmt_frame.Goals as goal
 
 pub returns-then-is_for_node : goal.returns-then-is_for_node
 returns-then-is_for_node c =
-    let at = c.before.before.before.before.before.before.before.before.before.before.before.before.before.before.before.before.before.before in
     let s = state_of c.args.state.now in
     let for-this = rw c.read_node-node.ensures at c.is_for_node.ensures in
     rw (by_data c.args.content c.requires.1.shape s, ← for-this, c.if-is_for_node.true) c.command.ensures
 
 pub returns : goal.returns
 returns c =
-    let at = c.before.before.before.before.before.before.before.before in
     let s = state_of c.args.state.now in
     let for-this = rw c.read_node-node.ensures at c.is_for_node.ensures in
     rw (c.nothing_done.ensures, by_data c.args.content c.requires.1.shape s, ← for-this, c.if-is_for_node.false)

@@ -19,7 +19,6 @@ returns-then-period-eq0 c =
 pub returns-then-node-period : goal.returns-then-node-period
 unfolding tick sent_into
 returns-then-node-period c =
-    let at = c.before.before.before.before.before.before.before.before.before.before.before.before.before.before.before in
     let is = c.read_node-node.ensures in
     let more = lt-ltb (suc c.read_node-node.result.heartbeat) c.heartbeat_time-period.result (omega arith) in
     rw (c.ticked-then-node-period.ensures, ← c.heartbeat_time-period.ensures, ne_eqb _ _ c.if-period-eq0.false, rw is at more)
@@ -28,7 +27,6 @@ returns-then-node-period c =
 pub returns : goal.returns
 unfolding tick
 returns c =
-    let at = c.before.before.before.before.before.before.before.before.before.before.before.before.before.before.before.before.before.before.before in
     let s = state_of c.args.state.now in
     let is = c.read_node-node.ensures in
     let full = le-ltb (suc c.read_node-node.result.heartbeat) c.heartbeat_time-period.result (omega arith) in

@@ -7,4 +7,4 @@ pub returns : goal.returns
 unfolding voltage_disabled
 returns c =
     λ s h.
-    rw (c.enters.ensures, c.next.ensures, c.read_drive-drive.ensures, held_state h) at (c.put_drive.ensures s h)
+    rw (c.enters.ensures, c.next-after.ensures, c.read_drive-drive.ensures, held_state h) at (c.put_drive.ensures s h)

@@ -15,11 +15,11 @@ write_communication_defaults-requires c =
 pub returns : goal.returns
 unfolding commanded left voltage_disabled
 returns c =
-    let at = c.before.before.before.before.before.before.before.before.before.before.before.before.before.before.before.before.before.before.before.before.before.before.before.before.before.before.before.before.before in
     let s = state_of c.args.state.now in
     let is = c.read_node-node.ensures in
     let started = c.put_node.ensures s c.requires.lent.own in
-    let holds = c.put_no_transfer.ensures _ (c.put_none_held.ensures _ (c.disable_voltage.ensures _ started)) in (
+    let holds = c.put_no_transfer.ensures _ (c.put_none_held.ensures _ (c.disable_voltage.ensures _ started)) in
+    rw c.nothing_done.ensures (
       set_back s.node.id s _ _ _ _ _ (rw is at holds) (rw is at c.write_communication_defaults.ensures)
           (rw is at c.boot_up.ensures),
       loud s _ _ refl,

@@ -13,7 +13,6 @@ start-requires c =
 pub returns : goal.returns
 unfolding commanded
 returns c =
-    let at = c.before.before.before.before.before.before.before.before.before.before.before.before.before.before.before.before in
     let s = state_of c.args.state.now in
     let is = c.read_node-node.ensures in
     started s.node.id s _ _ _ _ _ (rw is at (c.renew.ensures s c.requires.lent.own)) (rw is at c.start.ensures)

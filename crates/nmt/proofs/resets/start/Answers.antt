@@ -4,4 +4,4 @@ use Rattle.nmt.proofs.resets.start.Goals as goal
 
 pub returns : goal.returns
 returns c =
-    starts _ _ _ _ _ c.write_defaults.ensures c.boot_up.ensures
+    rw c.nothing_done.ensures (starts _ _ _ _ _ c.write_defaults.ensures c.boot_up.ensures)

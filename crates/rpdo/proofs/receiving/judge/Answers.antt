@@ -30,8 +30,9 @@ returns c =
     let a = c.args in
     let k = c.requires in
     let held = c.put_held.ensures _ k.0.lent.own in
+    let synchronous = c.if-transmission_type-gt-LAST_SYNCHRONOUS.false in
     rw c.nothing_done.ensures
-    (renamed (holds k.0 k.1.0 k.1.1 l.0 l.1 (c.if-not-are_legal.false) c.transmission_type.ensures c.if-transmission_type-gt-LAST_SYNCHRONOUS.false _) (
+    (renamed (holds k.0 k.1.0 k.1.1 l.0 l.1 (c.if-not-are_legal.false) c.transmission_type.ensures synchronous _) (
       left_as _ _ true a.d.now a.output.now held,
       resting _ _ _ refl (record { writes = refl; occasion = refl; nmt = refl; voltage = refl; drive = refl }),
     ))

@@ -32,7 +32,7 @@ overflow_add-frames c =
 pub loop-p-preserved : goal.loop-p-preserved
 loop-p-preserved c =
     let k = c.requires in
-    one_more k c.loop-p-test.true c.loop-p.invariant c.release-done.ensures c.release-done.auto.output c.either-touched.ensures
+    one_more k c.loop-p-test.true c.loop-p.invariant c.release-done.ensures c.release-done.auto.output refl
 
 pub shape_of-state : goal.shape_of-state
 shape_of-state c = held_length c.loop-p.invariant.leaves.state ∙ sym c.requires.lent.whole
@@ -44,7 +44,7 @@ pub returns : goal.returns
 returns c =
     let x = c.loop-p in
     let z : x.p ≡ each_way = omega (arith, c.loop-p-test.false, x.invariant.number) in
-    (all_done (rw z at x.invariant), loud _ _ (synced x.frames x.touched) refl)
+    rw c.nothing_done.ensures (all_done (rw z at x.invariant), loud _ _ (synced x.frames x.touched) refl)
 
 pub loop-p-init : goal.loop-p-init
 loop-p-init c = none_yet c.requires.lent.own

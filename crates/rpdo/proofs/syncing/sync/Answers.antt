@@ -19,7 +19,7 @@ not_served Stopped h = refl
 pub returns-then-is_stopped : goal.returns-then-is_stopped
 unfolding sync_of
 returns-then-is_stopped c =
-    let stopped = sym (rw c.read_node-node.ensures at c.is_stopped.ensures) ∙ c.if-is_stopped.true in
+    let stopped = sym (rw c.read_node-nmt.ensures at c.is_stopped.ensures) ∙ c.if-is_stopped.true in
     rw (stopped, not_served _ stopped)
     (left_still c.requires.lent.own c.nothing_done.ensures)
 
@@ -28,7 +28,7 @@ unfolding sync_of
 returns-then-length-ne0 c =
     -- past the test of the NMT state the node is not Stopped
     let served : is_stopped (state_of c.args.state.now).node.nmt ≡ false =
-    sym (rw c.read_node-node.ensures at c.is_stopped.ensures) ∙ c.if-is_stopped.false in
+    sym (rw c.read_node-nmt.ensures at c.is_stopped.ensures) ∙ c.if-is_stopped.false in
     let a = c.args in
     rw (served, ne_eqb a.length 0 c.if-length-ne0.true, and-false) c.refused.ensures
 
@@ -37,9 +37,9 @@ unfolding sync_of
 returns-then-is_operational c =
     -- past the test of the NMT state the node is not Stopped
     let served : is_stopped (state_of c.args.state.now).node.nmt ≡ false =
-    sym (rw c.read_node-node.ensures at c.is_stopped.ensures) ∙ c.if-is_stopped.false in
+    sym (rw c.read_node-nmt.ensures at c.is_stopped.ensures) ∙ c.if-is_stopped.false in
     let a = c.args in
-    let on = sym (rw c.read_node-node.ensures at c.is_operational.ensures) ∙ c.if-is_operational.true in
+    let on = sym (rw c.read_node-nmt.ensures at c.is_operational.ensures) ∙ c.if-is_operational.true in
     rw (served, eq-eqb a.length 0 c.if-length-ne0.false, on) c.release_all.ensures
 
 pub returns : goal.returns
@@ -47,6 +47,6 @@ unfolding sync_of
 returns c =
     -- past the test of the NMT state the node is not Stopped
     let served : is_stopped (state_of c.args.state.now).node.nmt ≡ false =
-    sym (rw c.read_node-node.ensures at c.is_stopped.ensures) ∙ c.if-is_stopped.false in
-    let off = sym (rw c.read_node-node.ensures at c.is_operational.ensures) ∙ c.if-is_operational.false in
+    sym (rw c.read_node-nmt.ensures at c.is_stopped.ensures) ∙ c.if-is_stopped.false in
+    let off = sym (rw c.read_node-nmt.ensures at c.is_operational.ensures) ∙ c.if-is_operational.false in
     rw (served, eq-eqb c.args.length 0 c.if-length-ne0.false, off) (left_still c.requires.lent.own c.nothing_done-2.ensures)

@@ -1,16 +1,8 @@
 -- The reply, then the value stored, then acted on in the output behind the reply. Assumes nothing.
-use borrow.Author.Rules.{rules}
-use native.Mathlib.Omega.{arith}
-use lib.Dec.{eqb}
-use lib.ListN.{length-take, length-drop}
+use Rattle.std.proofs.Common.{eqb, arith, length-drop, length-take, rules}
 use Rattle.rules_dictionary.specs.Table.{place_of, heartbeat_time, open_table}
 use Rattle.sdo.proofs.Downloading.{prepared_lent, acts_fit, apply_left}
 use Rattle.sdo.proofs.downloads.apply.Goals as goal
-
-pub write-requires : goal.write-requires
-write-requires c =
-    let st = c.requires.1.0.1.1 in
-    (rw c.requires.0.long st.within, st.sized)
 
 pub acted-done-requires : goal.acted-done-requires
 acted-done-requires c =

@@ -1,27 +1,23 @@
 -- By what the look-up found. Assumes nothing.
 use Rattle.rules_services.specs.Sdo.{download, with_reply, downloads, abort, reply}
 use Rattle.sdo.specs.Requests.{is_written}
-use Rattle.sdo.proofs.Downloading.{looked_up}
+use Rattle.sdo.proofs.Downloading.{looked_up, missing_download}
 use Rattle.sdo.proofs.downloads.download.Goals as goal
 
 pub to_entry-requires : goal.to_entry-requires
 to_entry-requires c =
-    (c.requires, rw c.entry.ensures (looked_up c.args.object c.read2.ensures c.find-found.ensures c.in-Row.is))
+    let found = looked_up c.args.object c.read2.ensures c.find.ensures c.in-Ok-Row.is in
+    (c.requires, rw c.entry.ensures (rw c.in-Ok-Row.field-0-is at found))
 
-pub returns-in-DeviceName : goal.returns-in-DeviceName
+pub returns-in-Ok-DeviceName : goal.returns-in-Ok-DeviceName
 unfolding downloads download with_reply abort reply is_written
-returns-in-DeviceName c =
+returns-in-Ok-DeviceName c =
     let a = c.args in
-    rw (looked_up a.object c.read2.ensures c.find-found.ensures c.in-DeviceName.is) (c.abort.ensures a.d.now)
+    let found = looked_up a.object c.read2.ensures c.find.ensures c.in-Ok-DeviceName.is in
+    rw (rw c.in-Ok-DeviceName.field-0-is at found) (c.abort.ensures a.d.now)
 
-pub returns-in-NoObject : goal.returns-in-NoObject
-unfolding downloads download with_reply abort reply is_written
-returns-in-NoObject c =
+pub returns-in-Err : goal.returns-in-Err
+returns-in-Err c =
     let a = c.args in
-    rw (looked_up a.object c.read2.ensures c.find-found.ensures c.in-NoObject.is) (c.abort-in-NoObject.ensures a.d.now)
-
-pub returns-in-NoSubindex : goal.returns-in-NoSubindex
-unfolding downloads download with_reply abort reply is_written
-returns-in-NoSubindex c =
-    let a = c.args in
-    rw (looked_up a.object c.read2.ensures c.find-found.ensures c.in-NoSubindex.is) (c.abort-in-NoSubindex.ensures a.d.now)
+    missing_download a.object a.state.now a.d.now _ (looked_up a.object c.read2.ensures c.find.ensures c.in-Err.is) c.from.ensures
+    c.abort-in-Err.ensures a.reply a.brought

@@ -1,21 +1,14 @@
 -- By the place of 1017h. Assumes nothing.
-use borrow.Author.Rules.{rules}
 use borrow.Author.Tests.{eq-eqb, ne_eqb}
 use Rattle.rules_dictionary.specs.Table.{open_table}
 use Rattle.rules_services.specs.Effects.{without_transfer}
 use Rattle.sdo.proofs.downloads.prepare.Goals as goal
 
-pub put_no_transfer-requires : goal.put_no_transfer-requires
-unfolding open_table
-put_no_transfer-requires c = search rules
-
-pub put_heartbeat-requires : goal.put_heartbeat-requires
-unfolding open_table
-put_heartbeat-requires c = search rules
-
 pub returns-then-place-eq-HEARTBEAT_TIME : goal.returns-then-place-eq-HEARTBEAT_TIME
 unfolding open_table
-returns-then-place-eq-HEARTBEAT_TIME c = λ s h. rw (eq-eqb _ _ c.if-place-eq-HEARTBEAT_TIME.true) (c.put_heartbeat.ensures (without_transfer s) (c.put_no_transfer.ensures s h))
+returns-then-place-eq-HEARTBEAT_TIME c =
+    λ s h. rw (eq-eqb _ _ c.if-place-eq-HEARTBEAT_TIME.true)
+    (c.put_heartbeat.ensures (without_transfer s) (c.put_no_transfer.ensures s h))
 
 pub returns-else-place-eq-HEARTBEAT_TIME : goal.returns-else-place-eq-HEARTBEAT_TIME
 unfolding open_table

@@ -1,14 +1,11 @@
 -- Refused, or applied. Assumes nothing.
-use borrow.Author.Rules.{rules}
+use Rattle.std.proofs.Common.{rules}
 use Rattle.sdo.proofs.Verdicts.{pdo_fits}
 use Rattle.sdo.proofs.Downloading.{download_refused, download_writable, download_applied}
 use Rattle.sdo.proofs.downloads.to_entry.Goals as goal
 
-pub returns-then-code-ne-GOOD : goal.returns-then-code-ne-GOOD
-returns-then-code-ne-GOOD c =
-    let a = c.args in
-    download_refused a.reply a.object a.state.now a.d.now a.brought c.requires.1 c.offered-offer.ensures
-    (rw c.read_node-node.ensures at c.offer_verdict-code.ensures) c.if-code-ne-GOOD.true c.abort.ensures
+pub offer_verdict-requires : goal.offer_verdict-requires
+offer_verdict-requires c = (search rules, pdo_fits c.args.e c.requires.1)
 
 pub apply-requires : goal.apply-requires
 apply-requires c =
@@ -17,15 +14,18 @@ apply-requires c =
       (
         (_, (_, c.requires.1)),
         download_writable a.reply a.object a.state.now a.d.now a.brought c.requires.1 c.offered-offer.ensures
-            (rw c.read_node-node.ensures at c.offer_verdict-code.ensures) c.if-code-ne-GOOD.false,
+            (rw c.read_node-node.ensures at c.offer_verdict.ensures) c.in-Ok.is,
       ),
     )
 
-pub returns : goal.returns
-returns c =
+pub returns-in-Ok : goal.returns-in-Ok
+returns-in-Ok c =
     let a = c.args in
     download_applied a.reply a.object a.state.now a.d.now a.brought c.requires.1 c.offered-offer.ensures
-    (rw c.read_node-node.ensures at c.offer_verdict-code.ensures) c.if-code-ne-GOOD.false c.apply.ensures
+    (rw c.read_node-node.ensures at c.offer_verdict.ensures) c.in-Ok.is c.apply.ensures
 
-pub offer_verdict-code-requires : goal.offer_verdict-code-requires
-offer_verdict-code-requires c = (search rules, pdo_fits c.args.e c.requires.1)
+pub returns-in-Err : goal.returns-in-Err
+returns-in-Err c =
+    let a = c.args in
+    download_refused a.reply a.object a.state.now a.d.now a.brought c.requires.1 c.offered-offer.ensures
+    (rw c.read_node-node.ensures at c.offer_verdict.ensures) c.in-Err.is c.abort.ensures

@@ -1,5 +1,5 @@
 -- The words stand one after another. Assumes nothing.
-use native.Mathlib.Omega.{arith}
+use Rattle.std.proofs.Common.{arith}
 use Rattle.mapping.proofs.Legality.{words_behind, words_room}
 use Rattle.sdo.proofs.mappings.count_verdict.Goals as goal
 

@@ -1,5 +1,5 @@
 -- A zero, a word that names an object, or one that is refused. Assumes nothing.
-use mathlib.Core.Path.{◌∙◌}
+use Rattle.std.proofs.Common.{◌∙◌}
 use Rattle.sdo.proofs.Maps.{word_zero, word_named, word_refused}
 use Rattle.sdo.proofs.mappings.entry_verdict.Goals as goal
 

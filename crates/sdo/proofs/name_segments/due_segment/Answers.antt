@@ -1,12 +1,6 @@
 -- By the toggle, and whether it is the last. Assumes nothing.
-use Prim.Native.Nat.{suc, ◌*◌, ◌<◌}
-use native.Mathlib.Omega.{arith}
-use mathlib.Core.Path.{sym, ◌∙◌}
-use borrow.Author.Tests.{leb-false}
-use lib.ListN.{length}
+use Rattle.std.proofs.Common.{sym, ◌∙◌}
 use Rattle.rules_dictionary.specs.Numbers.{bytes}
-use Rattle.rules_dictionary.specs.DeviceName.{device_name}
-use Rattle.rules_services.specs.Segments.{segment_size}
 use Rattle.form.specs.Form.{state_of}
 use Rattle.sdo.proofs.Transfers.{other_toggle, same_toggle, due_last, due_next}
 use Rattle.sdo.proofs.name_segments.due_segment.Goals as goal
@@ -22,12 +16,6 @@ returns-then-is_last_of c d =
     let same = same_toggle c.toggle_of.ensures c.toggle_at.ensures c.if-toggle_of-toggle_at.false in
     rw (due_last a.k a.request (state_of a.state.now) same (sym c.is_last_of.ensures ∙ c.if-is_last_of.true))
     (rw c.segment_bytes-content.ensures at (c.answer.ensures d))
-
-pub overflow_add-next : goal.overflow_add-next
-overflow_add-next c =
-    let k = c.args.k in
-    let h : suc k * segment_size < length device_name = leb-false _ _ (sym c.is_last_of.ensures ∙ c.if-is_last_of.false) in
-    omega arith
 
 pub returns : goal.returns
 returns c d =

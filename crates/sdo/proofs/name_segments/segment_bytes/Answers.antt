@@ -1,5 +1,5 @@
 -- The command byte, and seven characters of the name. Assumes nothing.
-use Prim.Native.Nat.{◌*◌}
+use Rattle.std.proofs.Common.{◌*◌}
 use Rattle.rules_dictionary.specs.DeviceName.{device_name}
 use Rattle.rules_services.specs.Segments.{segment_size, segment_byte}
 use Rattle.sdo.proofs.Parts.{segment_made}

@@ -1,13 +1,8 @@
 -- The tests in order. Assumes nothing.
-use borrow.Author.Rules.{rules}
 use borrow.Author.Tests.{lt-ltb, le-ltb}
 use Rattle.rules_dictionary.specs.Aborts.{first_firing}
 use Rattle.sdo.specs.Requests.{offer_verdict_of}
 use Rattle.sdo.proofs.offers.offer_verdict.Goals as goal
-
-pub may_write-requires : goal.may_write-requires
-unfolding offer_verdict_of first_firing
-may_write-requires c = search rules
 
 pub returns-then-not-may_write : goal.returns-then-not-may_write
 unfolding offer_verdict_of first_firing
@@ -21,10 +16,6 @@ pub returns-then-offer-e : goal.returns-then-offer-e
 unfolding offer_verdict_of first_firing
 returns-then-offer-e c = rw (← c.may_write.ensures, c.if-not-may_write.false, le-ltb _ _ c.if-e-offer.false, lt-ltb _ _ c.if-offer-e.true)
 
-pub is_wrong_time-requires : goal.is_wrong_time-requires
-unfolding offer_verdict_of first_firing
-is_wrong_time-requires c = search rules
-
 pub returns-then-is_wrong_time : goal.returns-then-is_wrong_time
 unfolding offer_verdict_of first_firing
 returns-then-is_wrong_time c =
@@ -36,10 +27,6 @@ returns-then-is_wrong_time c =
       ← c.is_wrong_time.ensures,
       c.if-is_wrong_time.true,
     )
-
-pub value_verdict-requires : goal.value_verdict-requires
-unfolding offer_verdict_of first_firing
-value_verdict-requires c = search rules
 
 pub returns : goal.returns
 unfolding offer_verdict_of first_firing

@@ -1,6 +1,5 @@
 -- By the toggle, and whether it is the last. Assumes nothing.
-use native.Mathlib.Omega.{arith}
-use mathlib.Core.Path.{refl, sym, ◌∙◌}
+use Rattle.std.proofs.Common.{sym, refl, ◌∙◌, arith}
 use Rattle.rules_services.specs.Sdo.{reply}
 use Rattle.rules_services.specs.Segments.{acknowledged, concluded, continued}
 use Rattle.sdo.proofs.Parts.{flag_most}

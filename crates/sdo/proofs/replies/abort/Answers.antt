@@ -2,4 +2,4 @@
 use Rattle.sdo.proofs.replies.abort.Goals as goal
 
 pub returns : goal.returns
-returns c = λ d. rw c.reply_to.ensures at (c.answer.ensures d)
+returns c = λ d. rw (c.reply_to.ensures, c.code.ensures) at (c.answer.ensures d)

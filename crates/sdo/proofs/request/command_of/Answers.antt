@@ -1,5 +1,6 @@
 -- By bits 7-5, and bit 1 of a download. Assumes nothing.
-use Prim.Native.Nat.{◌/◌, ◌%◌}
+use Rattle.std.proofs.Common.{◌/◌, ◌%◌}
+use borrow.Author.Rules.{rules}
 use borrow.Author.Tests.{ne_eqb}
 use Rattle.rules_services.specs.SdoServer.{command_of}
 use Rattle.sdo.proofs.request.command_of.Goals as goal
@@ -8,13 +9,12 @@ pub returns-in_default : goal.returns-in_default
 unfolding command_of
 returns-in_default c =
     let k = c.args.command / 32 % 8 in
-    let r = c.in_default.in_default-own.rest in
     simp (
-      ne_eqb k 0 r.0.0.0.0.1,
-      ne_eqb k 1 r.0.0.0.1,
-      ne_eqb k 2 r.0.0.1,
-      ne_eqb k 3 r.0.1,
-      ne_eqb k 4 r.1,
+      ne_eqb k 0 (search rules),
+      ne_eqb k 1 (search rules),
+      ne_eqb k 2 (search rules),
+      ne_eqb k 3 (search rules),
+      ne_eqb k 4 (search rules),
     )
 
 pub returns-in-0 : goal.returns-in-0

@@ -1,5 +1,5 @@
 -- Good, or the one abort. Assumes nothing.
-use borrow.Author.Rules.{rules}
+use Rattle.std.proofs.Common.{rules}
 use Rattle.rules_dictionary.specs.Aborts.{first_firing}
 use Rattle.sdo.specs.Verdicts.{bad_if}
 use Rattle.sdo.proofs.values.bad_if.Goals as goal

@@ -1,12 +1,7 @@
 -- By what its callee promises. Assumes nothing.
-use borrow.Author.Rules.{rules}
 use Rattle.rules_dictionary.specs.Aborts.{first_firing}
 use Rattle.sdo.specs.Verdicts.{limits_verdict}
 use Rattle.sdo.proofs.values.limits_verdict.Goals as goal
-
-pub is_at_most-requires : goal.is_at_most-requires
-unfolding limits_verdict first_firing
-is_at_most-requires c = search rules
 
 pub returns-then-is_at_most : goal.returns-then-is_at_most
 unfolding limits_verdict first_firing

@@ -1,5 +1,4 @@
 -- The range first, then the role. Assumes nothing.
-use borrow.Author.Rules.{rules}
 use borrow.Author.Tests.{lt-ltb, le-ltb}
 use Rattle.rules_dictionary.specs.Aborts.{first_firing}
 use Rattle.sdo.specs.Verdicts.{value_verdict_of}
@@ -12,10 +11,6 @@ returns-then-v-e c = rw (lt-ltb _ _ c.if-v-e.true)
 pub returns-then-e-v : goal.returns-then-e-v
 unfolding value_verdict_of first_firing
 returns-then-e-v c = rw (le-ltb _ _ c.if-v-e.false, lt-ltb _ _ c.if-e-v.true)
-
-pub role_verdict-requires : goal.role_verdict-requires
-unfolding value_verdict_of first_firing
-role_verdict-requires c = search rules
 
 pub returns : goal.returns
 unfolding value_verdict_of first_firing

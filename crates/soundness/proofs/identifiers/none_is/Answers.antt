@@ -1,6 +1,12 @@
 -- `soundness::identifiers::none_is` meets its contract. Assumes nothing.
+use borrow.Author.Rules.{rules}
+use mathlib.Core.Path.{◌≡◌}
+use lib.ListN.{length}
 use mathlib.Core.Bool.{and-true}
+use Rattle.soundness.proofs.Quads.{quad}
 use Rattle.soundness.proofs.identifiers.none_is.Goals as goal
 
 pub returns : goal.returns
-returns c = simp and-true
+returns c =
+    let k : length c.args.k ≡ 4 = search rules in
+    rw (quad c.args.k k) (simp and-true)

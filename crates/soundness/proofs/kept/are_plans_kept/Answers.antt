@@ -5,8 +5,8 @@ use Rattle.rules_dictionary.specs.Table.{open_table}
 use Rattle.soundness.proofs.Every.{plans_by_way}
 use Rattle.soundness.proofs.kept.are_plans_kept.Goals as goal
 
-pub are_kept-requires-clause-named_value : goal.are_kept-requires-clause-named_value
-are_kept-requires-clause-named_value c = c.receive_slots-received.ensures
+pub are_kept-requires-clause-slots : goal.are_kept-requires-clause-slots
+are_kept-requires-clause-slots c = c.receive_slots-received.ensures
 
 pub returns-then-not-are_kept : goal.returns-then-not-are_kept
 unfolding open_table
@@ -14,8 +14,8 @@ returns-then-not-are_kept c =
     let a = c.args in
     rw (sym c.are_kept.ensures ∙ c.if-not-are_kept.true) at (plans_by_way a.state.now a.d.now)
 
-pub are_kept-requires-2-clause-named_value : goal.are_kept-requires-2-clause-named_value
-are_kept-requires-2-clause-named_value c = c.transmit_slots-transmitted.ensures
+pub are_kept-requires-2-clause-slots : goal.are_kept-requires-2-clause-slots
+are_kept-requires-2-clause-slots c = c.transmit_slots-transmitted.ensures
 
 pub returns : goal.returns
 unfolding open_table
@@ -24,18 +24,18 @@ returns c =
     c.are_kept-2.ensures
     ∙ rw (sym c.are_kept.ensures ∙ c.if-not-are_kept.false) at (plans_by_way a.state.now a.d.now)
 
-pub are_kept-requires-clause-each_way_in_bounds : goal.are_kept-requires-clause-each_way_in_bounds
+pub are_kept-requires-clause-plans_in_bounds : goal.are_kept-requires-clause-plans_in_bounds
 unfolding open_table
-are_kept-requires-clause-each_way_in_bounds c = search rules
+are_kept-requires-clause-plans_in_bounds c = search rules
 
-pub are_kept-requires-clause-each_way_in_bounds_2 : goal.are_kept-requires-clause-each_way_in_bounds_2
+pub are_kept-requires-clause-records_in_bounds : goal.are_kept-requires-clause-records_in_bounds
 unfolding open_table
-are_kept-requires-clause-each_way_in_bounds_2 c = search rules
+are_kept-requires-clause-records_in_bounds c = search rules
 
-pub are_kept-requires-2-clause-each_way_in_bounds : goal.are_kept-requires-2-clause-each_way_in_bounds
+pub are_kept-requires-2-clause-plans_in_bounds : goal.are_kept-requires-2-clause-plans_in_bounds
 unfolding open_table
-are_kept-requires-2-clause-each_way_in_bounds c = search rules
+are_kept-requires-2-clause-plans_in_bounds c = search rules
 
-pub are_kept-requires-2-clause-each_way_in_bounds_2 : goal.are_kept-requires-2-clause-each_way_in_bounds_2
+pub are_kept-requires-2-clause-records_in_bounds : goal.are_kept-requires-2-clause-records_in_bounds
 unfolding open_table
-are_kept-requires-2-clause-each_way_in_bounds_2 c = search rules
+are_kept-requires-2-clause-records_in_bounds c = search rules

@@ -40,15 +40,17 @@ slice_bounds-transmit-count c = let l = c.loop-t.invariant in omega (arith, l.fe
 pub transmit-sent-requires : goal.transmit-sent-requires
 transmit-sent-requires c =
     let t = c.loop-t-test.true in
-    let may = c.requires.state_len in record { state_len = (may.0, may.1.long); frame_size_in_bounds = (simp (length-take, length-drop) (omega (arith, c.loop-t.invariant.few, c.loop-t.invariant.long)), (t, ready_data c.args.state.now may.1 t)) }
+    let may = c.requires.state_len in
+    let l = c.loop-t.invariant in
+    record {
+      state_len = (may.0, may.1.long);
+      frame_size_in_bounds = (simp (length-take, length-drop) (omega (arith, l.few, l.long)), (t, ready_data c.args.state.now may.1 t));
+    }
 
 pub overflow_add-sent : goal.overflow_add-sent
 overflow_add-sent c =
     let one : c.transmit-sent.result ≤ 1 = rw c.transmit-sent.ensures.0 (one_at_most _ _ _ _) in
     omega (arith, c.loop-t.invariant.few, c.loop-t.invariant.far, c.requires.output_length_in_bounds.1)
-
-pub loop-t-smaller : goal.loop-t-smaller
-loop-t-smaller c = omega (arith, c.loop-t.invariant.far)
 
 pub loop-t-preserved : goal.loop-t-preserved
 loop-t-preserved c =
@@ -57,8 +59,9 @@ loop-t-preserved c =
     let t = c.loop-t-test.true in
     let is = c.pace-paced.ensures
     ∙ in_operational a.was a.occasion Operational a.changed a.paces a.d.now ready refl t
-    (search rules) (search rules) _ _ _ c.is_new-new.ensures in
-    one_more a.was a.occasion Operational a.changed a.paces a.d.now ready c.loop-t.invariant t c.requires.output_length_in_bounds.1 c.requires.output_length_in_bounds.0
+    (search rules) (search rules) _ _ _ refl in
+    let room = c.requires.output_length_in_bounds in
+    one_more a.was a.occasion Operational a.changed a.paces a.d.now ready c.loop-t.invariant t room.1 room.0
     c.pace-paced.result is _ (ready_default a.state.now t)
     c.transmit-sent.result c.transmit-sent.ensures.0 _
     (lent_back c.loop-t.output _ _ c.loop-t.sent (length c.loop-t.output - frame_size * c.loop-t.sent) (omega arith)

@@ -1,5 +1,0 @@
--- `calls::with_state` meets its contract. Assumes nothing.
-use Rattle.calls.proofs.with_state.Goals as goal
-
-pub returns : goal.returns
-returns c = rw c.state_of.ensures

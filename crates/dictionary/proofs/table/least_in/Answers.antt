@@ -1,9 +1,0 @@
--- By the code of the range. Assumes nothing.
-use borrow.Author.Tests.{ne_eqb}
-use Rattle.dictionary.proofs.table.least_in.Goals as goal
-
-pub returns-in-1 : goal.returns-in-1
-returns-in-1 c = rw c.in-1.is
-
-pub returns-in_default : goal.returns-in_default
-returns-in_default c = simp (ne_eqb c.args.range 1 c.in_default.in_default-own.rest.1)
