@@ -17,31 +17,29 @@ pub struct Place {
     pub number: u64,
 }
 
-// The whole records of an input: the bytes that they took, and the next record's number; none where the last of them is the last of all.
+// The whole records of an input: the bytes that they took, and the next record's number, or none where no record follows.
 #[derive(Clone, Copy)]
 struct Gathered {
     taken: usize,
     next: Option<u64>,
 }
 
-// Serves the whole records of an input that is filled so far, and lays their lines into a text: up to a bad one, or one whose lines are not all
-// there.
+// Serves the whole records of an input, and lays their lines into a text: up to a bad one, or one whose lines are not all there.
 fn gather(
-    input: &[u8; INPUT_LENGTH],
-    filled: usize,
+    input: &[u8],
     text: &mut Text,
     state: &mut [u8; STATE_LENGTH],
     dictionary: &mut [u8; DICTIONARY_LENGTH],
     output: &mut [u8; OUTPUT_LENGTH],
     number: u64,
 ) -> Gathered
-    requires { (filled ≤ input_length) × (text.old.end ≡ 0) }
-    ensures { (result.taken ≤ filled) × (text.new.end ≤ text_length) }
+    requires { (length input.now ≤ input_length) × (text.old.end ≡ 0) }
+    ensures { (result.taken ≤ length input.now) × (text.new.end ≤ text_length) }
 {
     let mut taken: usize = 0;
     let mut next = number;
     for number in number..u64::MAX {
-        let served = match serve(&input[taken..filled], state, dictionary, output) {
+        let served = match serve(&input[taken..], state, dictionary, output) {
             Ok(served) => served,
             Err(Unserved::Cut) => break,
             Err(Unserved::Bad) => {
@@ -64,7 +62,8 @@ fn gather(
     }
 }
 
-// One read, behind the bytes that are kept: how many there are then. No more where the input ends or cannot be read.
+// One read, behind the bytes that are kept: how many there are then. Array and count, as in `keep`: what is behind them is room, which this fills.
+// No more where the input ends or cannot be read.
 fn read_more(reader: &mut impl Read, input: &mut [u8], kept: usize) -> usize
     requires { kept ≤ length input.old }
     ensures { (kept ≤ result) × (result ≤ length input.old) }
@@ -127,7 +126,14 @@ pub fn batch(
         finish(writer, text, dictionary, place);
         return None;
     }
-    let gathered = gather(input, filled, text, state, dictionary, output, place.number);
+    let gathered = gather(
+        &input[..filled],
+        text,
+        state,
+        dictionary,
+        output,
+        place.number,
+    );
     if !write_text(writer, text) {
         return None;
     }

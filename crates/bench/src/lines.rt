@@ -21,7 +21,8 @@ const TEXT_LENGTH: usize = TEXT_PER_BYTE * INPUT_LENGTH;
 #[derive(Clone, Copy)]
 pub struct NotWhole;
 
-// Lines, one behind the other, up to where they end.
+// Lines, one behind the other, up to where they end. An array and its end, and no String: there is no heap. Each `put` asks for its own
+// room, so that no invariant holds it.
 #[derive(Drop)]
 pub struct Text {
     bytes: [u8; TEXT_LENGTH],

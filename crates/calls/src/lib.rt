@@ -251,6 +251,7 @@ pub fn power_up(s: State, d: &mut [u8], output: &mut [u8], n: u32) -> Answer
 }
 
 // One frame of the bus. Stays beside `event`, which differs in one line: a closure for it needs clauses as long as those of `frame_in`.
+// Power-up and the load differ in their tests too, and the load in its answer.
 pub fn frame(s: State, d: &mut [u8], output: &mut [u8], identifier: u32, bytes: &[u8]) -> Answer
     ensures { outcome result d.new output.new
         ≡ answer (frame_call identifier bytes.now) s d.old output.old }

@@ -47,6 +47,7 @@ pub fn cendurak_frame(
 }
 
 // One event of the amplifier. Stays beside the frame's call, which differs in the call it makes: a closure for that would be no shorter.
+// Power-up tests the state's length alone, and the load answers another number.
 pub fn cendurak_event(
     state: &mut [u8],
     dict: &mut [u8],
