@@ -77,6 +77,17 @@ module _ (d o : List ℕ) where
     unfolding lending
     well_lent h = rw (eq-eqb (length d) dictionary_length e, le-leb output_length (length o) h)
 
+  -- where it is not refused, it is not for any reason
+  pub lent_well : is_err (lending d o) ≡ false → lending d o ≡ not_refused
+  unfolding lending
+  lent_well h = go (eqb (length d) dictionary_length) (leb output_length (length o)) h
+    where
+      go : (a b : Bool) → is_err (cond a (cond b not_refused (refused_for OutputLength)) (refused_for DictionaryLength)) ≡ false →
+          cond a (cond b not_refused (refused_for OutputLength)) (refused_for DictionaryLength) ≡ not_refused
+      go true true h = refl
+      go true false h = absurd (true≢false h)
+      go false b h = absurd (true≢false h)
+
   pub lengths : is_err (lending d o) ≡ false → (length d ≡ dictionary_length) × (output_length ≤ length o)
   unfolding lending
   lengths h = go (eqb (length d) dictionary_length) (leb output_length (length o)) refl refl h
